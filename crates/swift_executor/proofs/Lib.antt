@@ -1,5 +1,7 @@
 pub mod CrossesThreads
 pub mod Visits
+pub mod OneRecord
+pub mod VisitsDone
 pub mod AccountKept
 pub mod Removed
 pub mod ReadyKept

@@ -27,12 +27,13 @@ use Rattle.swift_history.specs.TurnEnds.{JobFacts}
 use Rattle.swift_history.specs.Jobs.{job_facts}
 use Rattle.swift_history.specs.Orderly.{frames_executor}
 use Rattle.swift_course.specs.Views.{Account, BookKnown, Ticket, TurnOrder, at_rest, fresh}
-use Rattle.swift_course.specs.Course.{IsFront}
+use Rattle.swift_course.specs.Course.{IsFront, IsIn}
 use Rattle.swift_course.specs.Frames.{kept_frame}
 use Rattle.swift_course.specs.Steps.{order_applied, order_begun, with_record, with_turn_begun}
 use Rattle.swift_shared_book.specs.Calls.{IsPlayed}
 use Rattle.swift_shared_book.specs.Shared.{BeginsTicket, BookSeatView, HasPlayed, HasTicket, RunsAtSeat, after_turn, knowing, with_ticket}
 use Rattle.swift_executor.specs.Account.{ready_jobs}
+use Rattle.swift_executor.specs.Looks.{FreeAreSeen}
 use Rattle.swift_executor.specs.Ready.{Adds, AreAtMost, AreHigher, Forwards, HaveCounted, ReadyJobsView, level_at, ready_job}
 use Rattle.swift_executor.specs.Seats.{AccountsFor, AreTicketsAt, AreTicketsOf, HaveSeen, IsFirst, IsOpened, IsSeatFor, jobs_of, seen_by}
 use Rattle.swift_executor.specs.State.{BelongsTo, Chooses, ChosenView, ExecStateView, HasChosen, HasNone, IsChosen, ExecInvariant, LacksTask, Plays, PutsBack, ChosenStageView, picked, begun, played, before_turn, checkpoint_with, frame_after, journal_with, new_executor, record_by}
@@ -194,6 +195,10 @@ first_seen n seen log front le = sym (ap (take n) front.1 ∙ take-append-le n s
 pub orders_begun : (log : List Event) (there : Bool) (xs : List Account) → map (λ (a : Account). a.order) (map (with_turn_begun log there) xs) ≡ map (order_begun there) (map (λ (a : Account). a.order) xs)
 orders_begun log there [] = refl
 orders_begun log there (a ∷ xs) = ap (λ (os : List TurnOrder). order_begun there a.order ∷ os) (orders_begun log there xs)
+
+pub records_begun : (log : List Event) (there : Bool) (xs : List Account) → map (λ (a : Account). a.records) (map (with_turn_begun log there) xs) ≡ map (λ (a : Account). a.records) xs
+records_begun log there [] = refl
+records_begun log there (x ∷ xs) = ap (λ rs. x.records ∷ rs) (records_begun log there xs)
 
 pub orders_applied : (r : RecordView) (xs : List Account) → map (λ (a : Account). a.order) (map (with_record r) xs) ≡ map order_applied (map (λ (a : Account). a.order) xs)
 orders_applied r [] = refl
@@ -430,4 +435,23 @@ counted_knows s seat log n is saw all counted =
       tickets = counted_tickets s.ready n s.chosen seat.knows.tickets is.tickets;
       seen = omega (arith, long);
       levels = subst (λ (es : List Event). HaveCounted es s.ready.levels) (sym whole) counted;
+    }
+
+-- an executor that no worker holds, by what its seat knows of a book
+pub free_seen : FreeAreSeen
+free_seen s seat facts none keeps is knows =
+    let a = is.account in
+    let own : Account = record { executor = s.executor; records = a.past ++ s.journal; order = a.order; seen = a.seen } in
+    let all : All (IsIn knows.1.blocks) (own ∷ []) = subst (λ (xs : List Account). All (IsIn knows.1.blocks) xs) a.accounts knows.1.accounts in
+    record {
+      none = none;
+      keeps = keeps;
+      knows = seat.knows;
+      facts = facts;
+      script_is = subst (λ (o : Option ScriptView). IfSome o (λ known. facts.script ≡ known)) a.script_is knows.0;
+      history = knows.1;
+      past = a.past;
+      part = All-head (IsIn knows.1.blocks) own [] all;
+      folded = a.folded;
+      replayed = a.replayed;
     }

@@ -12,9 +12,13 @@ use Rattle.swift_script.specs.Scripts.{ScriptView}
 use Rattle.swift_tasks.specs.Books.{BookView}
 use Rattle.swift_turn.specs.Body.{BodyView}
 use Rattle.swift_shared_book.specs.Shared.{BookSeatView, HasPlayed, after_turn, knowing, newest}
-use Rattle.swift_executor.specs.PlayingInside.{WritesRecord}
+use Rattle.swift_tasks.specs.declared.fault.BookFault.{BookFault}
+use Rattle.swift_tasks.specs.Refusals.{IsRefusal as BookRefusal}
+use Rattle.swift_executor.specs.PlayingInside.{WritesRecord, refusal_of_left}
+use Rattle.swift_executor.specs.Refusals.{IsRefusal, fault_of}
+use Rattle.swift_executor.proofs.StateKept.{refused_so}
 use Rattle.swift_executor.specs.Seats.{IsSeatFor}
-use Rattle.swift_executor.specs.State.{ExecStateView, ExecInvariant, IsPlayed, Journals, ChosenStageView, played, record_by}
+use Rattle.swift_executor.specs.State.{ExecStateView, ExecInvariant, IsPlayed, Journals, played, record_at, record_by, refusal_of_stage}
 use Rattle.swift_executor.specs.StateInside.{chosen_view, stage_of}
 use Rattle.swift_executor.specs.declared.chosen.PlayedTurn.{PlayedTurn}
 use Rattle.swift_executor.specs.declared.chosen.ChosenStage.{ChosenStage}
@@ -30,12 +34,7 @@ newest_push (x ∷ rs) r =
     let last : suc (length l) - 1 ≡ suc (length l - 1) = omega (arith, len) in
     ap (slice_get (x ∷ l)) last ∙ newest_push rs r
 
--- the record of a turn that was played
-abbrev record_at : JobView BodyView → ChosenStageView → Option RecordView
-record_at j (played worker env frame fields effects exit) = Some (record_by j worker env frame effects exit)
-record_at j _ = None
-
-newest_is : (p : PlayedTurn) (stage : ChosenStage) (job : JobView BodyView) (old new : List RecordView) → IsPlayed (stage_of p stage) → WritesRecord p stage job old new → newest new ≡ record_at job (stage_of p stage)
+pub newest_is : (p : PlayedTurn) (stage : ChosenStage) (job : JobView BodyView) (old new : List RecordView) → IsPlayed (stage_of p stage) → WritesRecord p stage job old new → newest new ≡ record_at job (stage_of p stage)
 newest_is p Picked job old new was wrote = absurd was
 newest_is p (Begun worker env) job old new was wrote = absurd was
 newest_is p (PlayedStage worker env) job old new was wrote = ap newest wrote ∙ newest_push old (record_by job worker env (frame_view p.frame) (effect_views p.effects.items) (exit_view p.exit))
@@ -79,3 +78,15 @@ applied s new p arrival stage job j1 seat seat' r book book' jobs jobs' grows is
     let here = turned_knows s seat c h.worker h.env h.frame h.fields h.effects h.exit is at h.was known new.ready grows (forwarded s.ready job.task new.ready h.forwards) (forward_counts s.ready job.task new.ready h.forwards) in
     let there : IsSeatFor new (knowing (after_turn own seat.knows) seat) = subst (λ (v : ExecStateView). IsSeatFor v (knowing (after_turn own seat.knows) seat)) (sym h.same) here in
     subst (λ (x : BookSeatView). IsSeatFor new x) (sym same) (subst (λ (x : RecordView). IsSeatFor new (knowing (after_turn x seat.knows) seat)) (sym of_turn) there)
+
+-- why the book does not take what a turn has left that was played
+
+pub allowed_at : (book : BookView) (p : PlayedTurn) (stage : ChosenStage) (j : JobView BodyView) → refusal_of_left book j p ≡ None → refusal_of_stage book j (stage_of p stage) ≡ None
+allowed_at book p Picked j may = refl
+allowed_at book p (Begun worker env) j may = refl
+allowed_at book p (PlayedStage worker env) j may = may
+
+pub refused_at : (book : BookView) (p : PlayedTurn) (stage : ChosenStage) (j : JobView BodyView) (cause : BookFault) → IsPlayed (stage_of p stage) → BookRefusal (refusal_of_left book j p) cause → IsRefusal (refusal_of_stage book j (stage_of p stage)) (fault_of cause)
+refused_at book p Picked j cause was is = absurd was
+refused_at book p (Begun worker env) j cause was is = absurd was
+refused_at book p (PlayedStage worker env) j cause was is = refused_so (refusal_of_left book j p) cause is

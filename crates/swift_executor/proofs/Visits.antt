@@ -1,11 +1,14 @@
 -- What a visit to an executor leaves, by what its calls have answered.
-use Rattle.std.proofs.Common.{◌≡◌, ℕ, Bool, true, map, sym, subst, [], ◌∷◌, ◌++◌, Option, Some, None, Result, Ok, Err, IfOk, IfErr, IfSome, IfNone, OnOk, OnErr, List, ap, ◌∙◌}
+use Rattle.std.proofs.Common.{◌≡◌, ℕ, Bool, true, map, refl, ◌⊎◌, inl, inr, sym, subst, [], ◌∷◌, ◌++◌, Option, Some, None, Result, Ok, Err, IfOk, IfErr, IfSome, IfNone, OnOk, OnErr, List, ap, ◌∙◌}
 use Rattle.atomic_table.specs.Seated.{TableId}
 use Rattle.swift_types.specs.declared.id.TaskId.{TaskId}
 use Rattle.swift_events.specs.declared.event.Event.{Event}
 use Rattle.swift_history.specs.TurnEnds.{JobFacts}
 use Rattle.swift_ledger.specs.Levels.{AreLevels}
+use Rattle.swift_script.specs.Scripts.{ScriptView}
+use Rattle.swift_shared_book.specs.Calls.{facts_of}
 use Rattle.swift_executor.specs.declared.fault.ExecFault.{ExecFault}
+use Rattle.swift_executor.specs.declared.fault.ExecFault.TheVariants.{Memory}
 use Rattle.swift_executor.specs.Account.{HasTaken}
 use Rattle.swift_executor.specs.Inbox.{InboxView, TakerView, has_taken}
 use Rattle.swift_job.specs.Job.{JobView}
@@ -14,11 +17,17 @@ use Rattle.swift_turn.specs.Body.{BodyView}
 use Rattle.swift_course.specs.Views.{BookFacts, BookKnown, TurnOrder, at_rest, under_way}
 use Rattle.swift_course.specs.Reports.{Knows}
 use Rattle.swift_course.specs.Steps.{order_begun}
-use Rattle.swift_executor.specs.Exec.{IsAt, chosen_task, site_of}
-use Rattle.swift_executor.specs.Ready.{Adds, HaveCounted}
-use Rattle.swift_executor.specs.State.{Chooses, ExecStateView, HasChosen, HasNone, IsPicked, LacksTask}
+use Rattle.swift_tasks.specs.Books.{BookView}
+use Rattle.swift_tasks.specs.declared.fault.BookFault.{BookFault}
+use Rattle.swift_tasks.specs.declared.fault.BookFault.TheVariants as book
+use Rattle.swift_executor.specs.Refusals.{IsRefusal, fault_of}
+use Rattle.swift_executor.specs.Visits.{Starts}
+use Rattle.swift_executor.specs.declared.resting.TakenState.{TakenState}
+use Rattle.swift_executor.specs.Exec.{IsAt, IsRunFault, chosen_task, site_of}
+use Rattle.swift_executor.specs.Ready.{Adds, HaveCounted, ReadyJobsView}
+use Rattle.swift_executor.specs.State.{BeginsTurn, ChosenView, Chooses, ExecStateView, HasChosen, HasNone, IsPicked, IsPlayed, LacksTask, OnlyJobs, Plays, PutsBack, played, refusal_to_apply}
 use Rattle.swift_executor.specs.Seats.{HaveSeen, IsSeatFor}
-use Rattle.swift_shared_book.specs.Shared.{BookLockView, BookSeatView, IsSeatOf, knowing, seat_of, with_ticket}
+use Rattle.swift_shared_book.specs.Shared.{BookLockView, BookSeatView, IsInRun, IsSeatOf, knowing, seat_of, with_ticket}
 use Rattle.swift_executor.proofs.AccountKept.{accepted, chose, had_none, lacked}
 use Rattle.swift_executor.proofs.SeatKept.{accepted_knows, chose_counted, chose_knows, lacked_knows, none_knows}
 
@@ -34,6 +43,60 @@ map_ok (Err e) P Q f ok = tt
 pub map_err : {A E : Type 0} (r : Result A E) (P Q : Type 0) → (P → Q) → OnErr r P → OnErr r Q
 map_err (Ok a) P Q f err = tt
 map_err (Err e) P Q f err = f err
+
+-- where an executor has other jobs, only its jobs have changed
+pub only_by : (old new : ExecStateView) (ready : ReadyJobsView BodyView) (chosen : Option ChosenView) → new ≡ record old { ready = ready; chosen = chosen } → OnlyJobs old new
+only_by old new ready chosen is = is ∙ ap (λ (s : ExecStateView). record old { ready = s.ready; chosen = s.chosen }) (sym is)
+
+pub only_both : (old mid new : ExecStateView) → OnlyJobs old mid → OnlyJobs mid new → OnlyJobs old new
+only_both old mid new one two = two ∙ ap (λ (s : ExecStateView). record s { ready = new.ready; chosen = new.chosen }) one
+
+-- the chosen job is ready again
+pub only_back : (old new : ExecStateView) → HasChosen old (PutsBack old new) → OnlyJobs old new
+only_back old new back = only_by old new _ _ back.2.same
+
+-- a turn has begun
+pub only_begun : (book : BookView) (worker : ℕ) (old new : ExecStateView) → BeginsTurn book worker old new → OnlyJobs old new
+only_begun book worker old new begins = only_by old new _ _ begins.turn.2.same
+
+pub only_started : (worker : ℕ) (task : TaskId) (knows : BookKnown) (old new : ExecStateView) → Starts worker task knows old new → OnlyJobs old new
+only_started worker task knows old new s =
+    only_both old s.picked new (only_by old s.picked _ _ s.chooses.same)
+    (only_both s.picked s.begun new (only_begun s.book worker s.picked s.begun s.begins) (only_by s.begun new _ _ s.given))
+
+-- a turn was played
+pub only_played : (old new : ExecStateView) → HasChosen old (Plays old new) → OnlyJobs old new
+only_played old new plays = only_by old new _ _ plays.2.same
+
+-- the refusals of a book are those of a visit
+fault_is : (cause : BookFault) → IsRunFault (fault_of cause)
+fault_is book.Memory = inl refl
+fault_is book.Unknown = inr (book.Unknown, refl)
+fault_is book.Completed = inr (book.Completed, refl)
+fault_is book.Refused = inr (book.Refused, refl)
+
+pub run_fault : (o : Option BookFault) (fault : ExecFault) → IsRefusal o fault → IsRunFault fault
+run_fault None fault is = inl is
+run_fault (Some cause) fault is = subst IsRunFault (sym is) (fault_is cause)
+
+fault_of_turn : (script : ScriptView) (v : BookKnown) (chosen : Option ChosenView) (fault : ExecFault)
+    → (fault ≡ Memory) ⊎ ((b : BookView) × (b.script ≡ script) × IsInRun v (facts_of b) × IsRefusal (refusal_to_apply b chosen) fault) → IsRunFault fault
+fault_of_turn script v chosen fault (inl memory) = inl memory
+fault_of_turn script v chosen fault (inr refused) = run_fault (refusal_to_apply refused.0 chosen) fault refused.3
+
+pub turn_refused : (script : ScriptView) (v : BookKnown) (chosen : Option ChosenView) (r : Result Unit ExecFault)
+    → IfErr r (λ fault. (fault ≡ Memory) ⊎ ((b : BookView) × (b.script ≡ script) × IsInRun v (facts_of b) × IsRefusal (refusal_to_apply b chosen) fault)) → IfErr r IsRunFault
+turn_refused script v chosen (Ok done) is = tt
+turn_refused script v chosen (Err fault) is = fault_of_turn script v chosen fault is
+
+-- the book was taken, and the state and its taker are as they were
+pub took_book : (old new : TakenState) → new.taker ≡ old.taker → new.state ≡ old.state → HasTaken old.taker.taken old.state → HasTaken new.taker.taken new.state
+took_book old new taker state was = subst (λ (t : TakerView). HasTaken t.taken new.state) (sym taker) (subst (λ (s : ExecStateView). HasTaken old.taker.taken s) (sym state) was)
+
+-- the turn that was played is that of the chosen job
+pub is_played : (old new : ExecStateView) → HasChosen old (Plays old new) → HasChosen new (λ c. IsPlayed c.stage)
+is_played old new p =
+    (record { job = p.2.job; arrival = p.0.arrival; stage = played p.2.worker p.2.env p.2.frame p.2.fields p.2.effects p.2.exit }, ap (λ (s : ExecStateView). s.chosen) p.2.same, tt)
 
 -- A choice by the levels of a log, of a state in which no job was chosen.
 module _ (given : List ℕ) (old new : ExecStateView) where
@@ -80,6 +143,11 @@ module _ (given : List ℕ) (old new : ExecStateView) where
     pub lacks_by : (F : ExecFault → Type 0) (r : Result (Option TaskId) ExecFault) → FaultIs F r → IfErr r (λ fault. LacksTask log old new)
     lacks_by F (Ok picked) err = tt
     lacks_by F (Err fault) err = err.1 log levels
+
+    pub only_chosen : (F : ExecFault → Type 0) (r : Result (Option TaskId) ExecFault) → SomeIs r → NoneIs r → FaultIs F r → OnlyJobs old new
+    only_chosen F (Ok (Some task)) some none err = only_by old new _ _ (some log levels).same
+    only_chosen F (Ok None) some none err = only_by old new _ _ (none log levels).same
+    only_chosen F (Err fault) some none err = only_by old new _ _ (err.1 log levels).same
 
     pub is_picked : (r : Result (Option TaskId) ExecFault) → SomeIs r → IfOk r (λ picked. IfSome picked (λ task. HasChosen new (λ c. IsPicked c.stage) × (chosen_task new.chosen ≡ Some task)))
     is_picked (Ok (Some task)) some =

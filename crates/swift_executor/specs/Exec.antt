@@ -10,7 +10,6 @@ use Rattle.swift_executor.specs.Site.{SiteView}
 use Rattle.swift_job.specs.Job.{JobView}
 use Rattle.swift_script.specs.Scripts.{ScriptView}
 use Rattle.swift_shared_book.specs.Shared.{BookLockView, BookSeatView}
-use Rattle.swift_tasks.specs.Books.{BookView}
 use Rattle.swift_history.specs.Jobs.{job_facts}
 use Rattle.swift_types.specs.declared.id.TaskId.{TaskId}
 use Rattle.swift_tasks.specs.declared.fault.BookFault.{BookFault}
@@ -19,11 +18,13 @@ use Rattle.swift_word.specs.Seat.{WordSeatView, ended, left}
 use Rattle.swift_word.specs.declared.word.PendingLeft.TheVariants.{More}
 use Rattle.swift_executor.specs.Account.{HasTaken}
 use Rattle.swift_executor.specs.Seats.{IsSeatFor}
-use Rattle.swift_executor.specs.State.{ChosenView, ExecStateView, HasChosen, Journals}
+use Rattle.swift_executor.specs.State.{ChosenView, ExecStateView}
 use Rattle.swift_executor.specs.declared.fault.ExecFault.{ExecFault}
 use Rattle.swift_executor.specs.declared.fault.ExecFault.TheVariants.{Memory, Worker, Refused}
 use Rattle.swift_executor.specs.declared.ran.VisitOutcome.{VisitOutcome}
 use Rattle.swift_executor.specs.declared.ran.VisitOutcome.TheVariants.{Turn, Busy, Nothing}
+use Rattle.swift_executor.specs.Resting.{RestingView}
+use Rattle.swift_executor.specs.declared.state_name.StateImage.{StateImage}
 use Rattle.swift_executor.specs.declared.state_name.StateName.{StateName}
 
 -- Which executor it is: the word of its state, its inbox with its script, number and book, how many workers there are, and the state
@@ -39,7 +40,8 @@ abbrev pub IsBookOf : ExecView → BookLockView → Type 0
 IsBookOf e b = (e.inbox.site.book ≡ Some b.id) × (b.script ≡ e.inbox.site.script)
 
 -- A desk: of which executor it is, the jobs that were sent by it, the oldest first, how many turns were run by it, how many jobs may
--- still be sent, and what each of its steps on the executor's word found there, the newest first.
+-- still be sent, what each of its steps on the executor's word found there, the newest first, and each state that it took out of the word
+-- or gave back to it, the newest first.
 pub record DeskView : Type 0 where
   pub word : TableId
   pub inbox : TableId
@@ -48,6 +50,7 @@ pub record DeskView : Type 0 where
   pub finished : ℕ
   pub allowance : ℕ
   pub found : List ℕ
+  pub moved : List StateImage
 
 -- the desk is of this executor
 abbrev pub IsDeskOf : ExecView → DeskView → Type 0
@@ -55,7 +58,7 @@ IsDeskOf e d = (d.word ≡ e.word) × (d.inbox ≡ e.inbox.id) × (d.site ≡ So
 
 -- the desk that an executor is made with
 abbrev pub first_desk : ExecView → DeskView
-first_desk e = record { word = e.word; inbox = e.inbox.id; site = Some e.inbox.site; sent = []; finished = 0; allowance = 2 ^ 60; found = [] }
+first_desk e = record { word = e.word; inbox = e.inbox.id; site = Some e.inbox.site; sent = []; finished = 0; allowance = 2 ^ 60; found = []; moved = [] }
 
 -- one job more was sent by the desk, whose count found this word
 abbrev pub has_sent : ℕ → DeskView → JobView BodyView → DeskView
@@ -67,11 +70,15 @@ kept_desk d = record d { allowance = d.allowance - d.allowance / 2 }
 
 -- the new desk has the other half
 abbrev pub other_desk : DeskView → DeskView
-other_desk d = record d { sent = []; finished = 0; allowance = d.allowance / 2; found = [] }
+other_desk d = record d { sent = []; finished = 0; allowance = d.allowance / 2; found = []; moved = [] }
 
--- the desk has made further steps on the word
-abbrev pub has_found : List ℕ → DeskView → DeskView
-has_found found d = record d { found = found }
+-- what a desk notes of a state
+abbrev pub image_of : RestingView → StateImage
+image_of r = record { resting = r }
+
+-- the desk has made further steps on the word, which found this and moved these states
+abbrev pub has_found : List ℕ → List StateImage → DeskView → DeskView
+has_found found moved d = record d { found = found; moved = moved }
 
 -- one turn more was run by the desk, where one was
 abbrev pub after_run : VisitOutcome → DeskView → DeskView
@@ -120,14 +127,14 @@ abbrev pub state_name : SiteView → TableId → StateName
 state_name site inbox = record { site = site; inbox = record { inbox = inbox } }
 
 -- a seat of the executor's word
-abbrev pub IsSeatAt : ExecView → WordSeatView StateName → Type 0
+abbrev pub IsSeatAt : ExecView → WordSeatView StateName StateImage → Type 0
 IsSeatAt e s = (s.word ≡ e.word) × (s.name ≡ Some (state_name e.inbox.site e.inbox.id))
 
--- what a visit, whose last step found this word, leaves of the seat that held the state
-abbrev pub seat_after : VisitOutcome → ℕ → WordSeatView StateName → WordSeatView StateName
-seat_after (Turn task l) n s = ended n s
-seat_after Busy n s = s
-seat_after (Nothing l) n s = left n s
+-- what a visit, whose last step found this word and gave this state back, leaves of the seat that held the state
+abbrev pub seat_after : VisitOutcome → ℕ → RestingView → WordSeatView StateName StateImage → WordSeatView StateName StateImage
+seat_after (Turn task l) n r s = ended n (image_of r) s
+seat_after Busy n r s = s
+seat_after (Nothing l) n r s = left n (image_of r) s
 
 -- where a turn was run, this holds of its task
 abbrev pub IfTurn : (TaskId → Type 0) → VisitOutcome → Type 0
@@ -144,20 +151,6 @@ abbrev pub chosen_task : Option ChosenView → Option TaskId
 chosen_task None = None
 chosen_task (Some c) = Some c.job.task
 
--- What came behind other jobs is what the end of some turn of this task makes: a turn that some state of an executor of this script
--- journals, and that some book of an equal script takes. Nothing ties it to the turn that was run, since states and books are where other
--- threads may change them. So it says that no other jobs came, and not that all of that turn's came: each task meets it with no new
--- job at all, since some turn of it makes none.
-pub record IsMadeBy (script : ScriptView) (task : Option TaskId) (jobs jobs' : List JobFacts) : Type 0 where
-  pub old : ExecStateView
-  pub new : ExecStateView
-  pub book : BookView
-  pub book_after : BookView
-  pub executor_of : old.script ≡ script
-  pub book_of : book.script ≡ script
-  pub task_is : chosen_task old.chosen ≡ task
-  pub turn : HasChosen old (Journals book book_after jobs jobs' old new)
-
 -- whether a worker may run the executor: a pinned one is run by one worker alone
 abbrev pub may_run : ExecutorKind → ℕ → ℕ → Bool
 may_run (kind.Pinned (pos k)) workers worker = worker == k % workers
@@ -168,14 +161,6 @@ may_run kind.Fifo workers worker = true
 -- a refusal of a worker that may run the executor
 abbrev pub IsRunFault : ExecFault → Type 0
 IsRunFault fault = (fault ≡ Memory) ⊎ ((cause : BookFault) × (fault ≡ Refused cause))
-
--- a state while no worker holds it, with the taker of its jobs, the seat by which it takes the book, and whether its turns are known to
--- have begun in order
-pub record RestingView : Type 0 where
-  pub state : ExecStateView
-  pub taker : TakerView
-  pub seat : BookSeatView
-  pub is_orderly : Bool
 
 -- the state of this executor, with the taker of its inbox and its seat
 abbrev pub IsAt : InboxView → TakerView → BookSeatView → ExecStateView → Type 0

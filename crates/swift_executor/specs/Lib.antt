@@ -10,7 +10,10 @@ pub mod Seats
 pub mod State
 pub mod StateInside
 pub mod TasksInside
+pub mod Visits
 pub mod Inbox
+pub mod Looks
+pub mod Resting
 pub mod Rule
 pub mod Site
 pub mod Picks

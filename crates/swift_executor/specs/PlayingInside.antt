@@ -17,7 +17,6 @@ use Rattle.swift_journal.specs.Records.{RecordView}
 use Rattle.swift_executor.specs.declared.chosen.Chosen.{Chosen}
 use Rattle.swift_executor.specs.declared.chosen.PlayedTurn.{PlayedTurn}
 use Rattle.swift_events.specs.declared.event.Event.{Event}
-use Rattle.swift_events.specs.declared.event.Event.TheVariants.{Begin}
 use Rattle.swift_events.specs.Room.{IsEnv}
 use Rattle.swift_executor.specs.declared.chosen.ChosenStage.{ChosenStage}
 use Rattle.swift_executor.specs.declared.chosen.ChosenStage.TheVariants as stage
@@ -25,11 +24,12 @@ use Rattle.swift_interpreter.specs.Turn.{EffectView, ExitView}
 use Rattle.swift_history.specs.TurnEnds.{JobFacts}
 use Rattle.swift_course.specs.Views.{BookKnown}
 use Rattle.swift_script.specs.Scripts.{ScriptView, method_count, root_count}
-use Rattle.swift_shared_book.specs.Shared.{BeginsTicket}
+use Rattle.swift_shared_book.specs.Calls.{facts_of}
+use Rattle.swift_shared_book.specs.Shared.{BeginsTicket, IsInRun}
 use Rattle.swift_tasks.specs.Books.{BookView, IsEndOf}
 use Rattle.swift_history.specs.Jobs.{job_facts}
 use Rattle.swift_types.specs.declared.id.TaskId.{TaskId}
-use Rattle.swift_tasks.specs.Refusals.{refusal_of_apply}
+use Rattle.swift_tasks.specs.Refusals.{IsRefusal, refusal_of_apply}
 use Rattle.swift_tasks.specs.declared.fault.BookFault.{BookFault}
 use Rattle.swift_executor.specs.State.{record_by}
 
@@ -92,24 +92,15 @@ pub record Applied (book book' : BookView) (j : JobView BodyView) (effects : Lis
 abbrev pub HasJob : Option (JobView BodyView) → (JobView BodyView → Type 0) → Type 0
 HasJob place P = (j : JobView BodyView) × (place ≡ Some j) × P j
 
--- the book has begun its turn on a worker
-pub record BeginsJob (book book' : BookView) (worker : ℕ) (old new : Chosen) (j : JobView BodyView) : Type 0 where
-  pub env : Env
-  pub given : IsEnv (root_count book.script) j.task book.log env
-  pub book_is : book' ≡ record book { log = book.log ++ Begin j.task j.number env ∷ [] }
-  pub new_is : new ≡ record old { stage = stage.Begun worker env }
-
 abbrev pub StageIsBegun : ChosenStage → Type 0
 StageIsBegun (stage.Begun worker env) = Unit {0}
 StageIsBegun _ = ⊥
 
--- some book of this script has begun its turn on a worker, where this was the log, and the last root was `there` or was not; and its
--- ticket says so and comes first
+-- the book of this script has begun its turn on a worker, where this was the log, and the last root was `there` or was not; and its ticket
+-- says so and comes first
 pub record BeginsShared (script : ScriptView) (log : List Event) (there : Bool) (worker : ℕ) (old new : Chosen) (knows knows' : BookKnown) (j : JobView BodyView) : Type 0 where
-  pub book : BookView
-  pub book_of : book.script ≡ script
   pub env : Env
-  pub given : IsEnv (root_count book.script) j.task book.log env
+  pub given : IsEnv (root_count script) j.task log env
   pub new_is : new ≡ record old { stage = stage.Begun worker env }
   pub ticket : BeginsTicket log there (job_facts j) env knows knows'
 
@@ -128,21 +119,30 @@ pub record KeepsJob (old new : Chosen) (j : JobView BodyView) : Type 0 where
   pub unturned : JobUnturned j job
   pub new_is : new ≡ record old { job = Some job }
 
+-- why the book does not take what a turn has left
+abbrev pub refusal_of_left : BookView → JobView BodyView → PlayedTurn → Option BookFault
+refusal_of_left book j p = refusal_of_apply book.script book.log j (effect_views p.effects.items) (exit_view p.exit)
+
 -- the book has taken its turn
 pub record AppliesJob (book book' : BookView) (p : PlayedTurn) (jobs jobs' : List JobFacts) (task : TaskId) (j : JobView BodyView) : Type 0 where
   pub applied : Applied book book' j (effect_views p.effects.items) (exit_view p.exit) jobs jobs'
   pub task_is : task ≡ j.task
 
--- some book of an equal script has taken its turn
-pub record IsTaken (p : PlayedTurn) (jobs jobs' : List JobFacts) (task : TaskId) (j : JobView BodyView) : Type 0 where
+-- a book of an equal script has taken its turn, for which no refusal stood there; the run has come to it, by what a seat knew
+pub record IsTaken (knows : BookKnown) (p : PlayedTurn) (jobs jobs' : List JobFacts) (task : TaskId) (j : JobView BodyView) : Type 0 where
   pub book : BookView
   pub book_after : BookView
   pub book_of : book.script ≡ j.body.script
+  pub run : IsInRun knows (facts_of book)
+  pub allowed : refusal_of_left book j p ≡ None
   pub takes : AppliesJob book book_after p jobs jobs' task j
 
--- why the book does not take what a turn has left
-abbrev pub refusal_of_left : BookView → JobView BodyView → PlayedTurn → Option BookFault
-refusal_of_left book j p = refusal_of_apply book.script book.log j (effect_views p.effects.items) (exit_view p.exit)
+-- a book of an equal script refuses its turn; the run has come to it, by what a seat knew
+pub record IsRefused (knows : BookKnown) (p : PlayedTurn) (fault : BookFault) (j : JobView BodyView) : Type 0 where
+  pub book : BookView
+  pub book_of : book.script ≡ j.body.script
+  pub run : IsInRun knows (facts_of book)
+  pub refused : IsRefusal (refusal_of_left book j p) fault
 
 -- a journal for which there is room is folded, another stays
 abbrev pub Settles : Option (Vec (Vec ℤ Global) Global) → List RecordView → List RecordView → CheckpointRoomView → CheckpointRoomView → Type 0

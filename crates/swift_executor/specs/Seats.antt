@@ -61,6 +61,10 @@ pub record IsSeatFor (s : ExecStateView) (seat : BookSeatView) : Type 0 where
 abbrev pub orders_of : BookKnown → List TurnOrder
 orders_of v = map (λ a. a.order) v.accounts
 
+-- the records that the accounts of a seat have
+abbrev pub records_in : BookKnown → List (List RecordView)
+records_in v = map (λ a. a.records) v.accounts
+
 -- where an executor's turns are known to have begun in order, its seat's one account says this
 abbrev pub KeepsOrder : Bool → TurnOrder → BookSeatView → Type 0
 KeepsOrder is_orderly order seat = is_orderly ≡ true → orders_of seat.knows ≡ order ∷ []

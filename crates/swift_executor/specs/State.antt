@@ -21,6 +21,9 @@ use Rattle.swift_events.specs.declared.event.Event.{Event}
 use Rattle.swift_events.specs.declared.event.Event.TheVariants.{Begin}
 use Rattle.swift_events.specs.Room.{IsEnv}
 use Rattle.swift_history.specs.TurnEnds.{JobFacts}
+use Rattle.swift_course.specs.Views.{BookKnown}
+use Rattle.swift_shared_book.specs.Calls.{facts_of}
+use Rattle.swift_shared_book.specs.Shared.{IsInRun}
 use Rattle.swift_tasks.specs.Books.{BookView, IsEndOf}
 use Rattle.swift_history.specs.Jobs.{job_facts}
 use Rattle.swift_ledger.specs.Levels.{AreLevels}
@@ -204,11 +207,9 @@ pub record BeginsChosen (book book' : BookView) (worker : ℕ) (old new : ExecSt
   pub book_is : book' ≡ record book { log = book.log ++ Begin c.job.task c.job.number env ∷ [] }
   pub same : new ≡ record old { chosen = Some (record c { stage = begun worker env }) }
 
--- The turn of the chosen job has begun on this worker, in a book of an equal script.
-pub record BeginsTurn (worker : ℕ) (old new : ExecStateView) : Type 0 where
-  pub book : BookView
+-- The turn of the chosen job has begun on this worker, in this book.
+pub record BeginsTurn (book : BookView) (worker : ℕ) (old new : ExecStateView) : Type 0 where
   pub book_after : BookView
-  pub book_of : book.script ≡ old.script
   pub turn : HasChosen old (BeginsChosen book book_after worker old new)
 
 -- The turn was played: what is kept of it is the kept turn of the frame that ran, and the rest of the job is as it was.
@@ -277,19 +278,6 @@ pub record Journals (book book' : BookView) (jobs jobs' : List JobFacts) (old ne
     fields = fields;
   }
 
--- The turn of the chosen job is journalled, and a book of an equal script has taken it.
-pub record EndsTurn (jobs jobs' : List JobFacts) (old new : ExecStateView) : Type 0 where
-  pub book : BookView
-  pub book_after : BookView
-  pub book_of : book.script ≡ old.script
-  pub turn : HasChosen old (Journals book book_after jobs jobs' old new)
-
--- the fields of an actor, among those of these actors
-abbrev pub fields_at : List ℕ → List (List ℤ) → ℕ → List ℤ
-fields_at [] rows actor = []
-fields_at (a ∷ others) [] actor = []
-fields_at (a ∷ others) (row ∷ rows) actor = if a == actor then row else fields_at others rows actor
-
 -- why the book does not begin the turn of the chosen job
 abbrev pub refusal_to_begin : BookView → Option ChosenView → Option BookFault
 refusal_to_begin book None = None
@@ -304,3 +292,33 @@ refusal_of_stage book j _ = None
 abbrev pub refusal_to_apply : BookView → Option ChosenView → Option BookFault
 refusal_to_apply book None = None
 refusal_to_apply book (Some c) = refusal_of_stage book c.job c.stage
+
+-- The turn of the chosen job is journalled, and a book of an equal script has taken it, for which no refusal stands there. It is one
+-- that the run has come to in which a seat knows this.
+pub record EndsTurn (knows : BookKnown) (jobs jobs' : List JobFacts) (old new : ExecStateView) : Type 0 where
+  pub book : BookView
+  pub book_after : BookView
+  pub book_of : book.script ≡ old.script
+  pub run : IsInRun knows (facts_of book)
+  pub allowed : refusal_to_apply book old.chosen ≡ None
+  pub turn : HasChosen old (Journals book book_after jobs jobs' old new)
+
+-- the fields of an actor, among those of these actors
+abbrev pub fields_at : List ℕ → List (List ℤ) → ℕ → List ℤ
+fields_at [] rows actor = []
+fields_at (a ∷ others) [] actor = []
+fields_at (a ∷ others) (row ∷ rows) actor = if a == actor then row else fields_at others rows actor
+
+-- the record of the turn of this job, where it was played
+abbrev pub record_at : JobView BodyView → ChosenStageView → Option RecordView
+record_at j (played worker env frame fields effects exit) = Some (record_by j worker env frame effects exit)
+record_at j _ = None
+
+-- the record of the turn of the chosen job, where it was played
+abbrev pub record_of : Option ChosenView → Option RecordView
+record_of None = None
+record_of (Some c) = record_at c.job c.stage
+
+-- only the jobs have changed, those that are ready and the one that is chosen
+abbrev pub OnlyJobs : ExecStateView → ExecStateView → Type 0
+OnlyJobs old new = new ≡ record old { ready = new.ready; chosen = new.chosen }

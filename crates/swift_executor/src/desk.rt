@@ -1,7 +1,7 @@
 //! A thread's right to send jobs to an executor, and to run it.
 
 ghost use Rattle.std.specs.Prelude.{◌≡◌, ◌*◌, ◌∷◌};
-ghost use Rattle.swift_executor.specs.Exec.{FoundRunning, IsDeskOf, has_found, kept_desk, other_desk, site_of, state_name};
+ghost use Rattle.swift_executor.specs.Exec.{FoundRunning, IsDeskOf, has_found, image_of, kept_desk, other_desk, site_of, state_name};
 ghost use Rattle.swift_word.specs.Begun.{IfRun, OnBusy};
 
 use crate::exec::Exec;
@@ -15,8 +15,8 @@ use swift_word::{Begun, WordSeat};
 /// it knows.
 ///
 /// It has an allowance, how many jobs may still be sent by it: all those of an executor together began as 2^60. In a clause a
-/// desk is its executor, the jobs that were sent by it, the oldest first, how many turns were run by it, its allowance, and what
-/// its steps found on the executor's word.
+/// desk is its executor, the jobs that were sent by it, the oldest first, how many turns were run by it, its allowance, what its
+/// steps found on the executor's word, and each state that it took out of the word or gave back to it.
 /// No job comes out of the inbox through a desk: the right to take is one value, which lies in the executor's state. A desk that
 /// is dropped takes its allowance with it.
 pub struct Desk {
@@ -42,7 +42,7 @@ impl Model for Desk {
 
     ghost coded = { Prim.hlevel (codes, expression_code, statement_code (block_code (Prim.hlevel (codes, expression_code)) (Prim.hlevel (codes, expression_code)))) };
 
-    ghost view = { λ d. record { word = d.seat.word; inbox = d.pass.inbox; site = d.pass.site; sent = d.pass.pushed; finished = d.seat.finished; allowance = d.seat.allowance; found = d.seat.found } };
+    ghost view = { λ d. record { word = d.seat.word; inbox = d.pass.inbox; site = d.pass.site; sent = d.pass.pushed; finished = d.seat.finished; allowance = d.seat.allowance; found = d.seat.found; moved = d.seat.moved } };
 
     ghost invariant = { λ d. IfSome d.pass.site (λ site. d.seat.name ≡ Some (state_name site d.pass.inbox)) × (d.seat.holding ≡ None) };
 }
@@ -70,7 +70,7 @@ impl Model for ClosedDesk {
 
     ghost coded = { Prim.hlevel (codes, expression_code, statement_code (block_code (Prim.hlevel (codes, expression_code)) (Prim.hlevel (codes, expression_code)))) };
 
-    ghost view = { λ d. record { word = d.seat.word; inbox = d.pass.inbox; site = d.pass.site; sent = d.pass.pushed; finished = d.seat.finished; allowance = d.seat.allowance; found = d.seat.found } };
+    ghost view = { λ d. record { word = d.seat.word; inbox = d.pass.inbox; site = d.pass.site; sent = d.pass.pushed; finished = d.seat.finished; allowance = d.seat.allowance; found = d.seat.found; moved = d.seat.moved } };
 }
 
 impl Desk {
@@ -96,9 +96,9 @@ impl Desk {
     // Takes the state of the executor, where no desk holds it, by a last step of this one.
     pub(crate) fn begin_last(self, exec: &Exec) -> (ClosedDesk, Begun<Resting>)
         requires { IsDeskOf exec.now self }
-        ensures run { IfRun result.1 (λ pending _. result.0 ≡ has_found (2 * pending ∷ self.found) self) }
+        ensures run { IfRun result.1 (λ pending state. result.0 ≡ has_found (2 * pending ∷ self.found) (image_of state ∷ self.moved) self) }
         ensures name { IfRun result.1 (λ _ state. state_name (site_of state.seat.lock state.state) state.taker.inbox ≡ state_name exec.now.inbox.site exec.now.inbox.id) }
-        ensures desk { OnBusy result.1 (result.0 ≡ has_found result.0.found self) }
+        ensures desk { OnBusy result.1 (result.0 ≡ has_found result.0.found self.moved self) }
         ensures busy { OnBusy result.1 (FoundRunning self.found result.0.found) }
     {
         let Desk { mut seat, pass } = self;

@@ -1,20 +1,22 @@
-//! A turn that begins, and one that ends, where threads share the book.
+//! A turn that begins, and one that ends, in the book that threads share.
 
-ghost use Rattle.std.specs.Prelude.{◌≡◌, [], ◌∷◌, true, None, Some, map, IfErr, IfOk, OnErr, OnOk};
+ghost use Rattle.std.specs.Prelude.{◌≡◌, ◌⊎◌, [], ◌∷◌, true, None, Some, map, IfErr, IfOk, MatchResult, OnErr, OnOk};
 ghost use Rattle.std.specs.List.{AllByRecursion};
 ghost use Rattle.swift_interpreter.specs.Frames.{effect_views};
 ghost use Rattle.swift_interpreter.specs.TurnStates.{exit_view};
 ghost use Rattle.swift_course.specs.Steps.{order_applied, order_begun};
-ghost use Rattle.swift_shared_book.specs.Shared.{BeginsTicket, HasPlayed, HasTicket, IsAsTaken, IsSeatOf, RunsAtSeat, after_turn, knowing, newest, seat_of};
-ghost use Rattle.swift_tasks.specs.Books.{IsJobOf};
+ghost use Rattle.swift_shared_book.specs.Shared.{BeginsTicket, HasPlayed, HasTicket, IsAsTaken, IsInRun, IsSeatOf, RunsAtSeat, after_turn, knowing, newest, seat_of};
+ghost use Rattle.swift_shared_book.specs.Calls.{facts_of};
+ghost use Rattle.swift_tasks.specs.Books.{BookView, IsJobOf};
+ghost use Rattle.swift_tasks.specs.Refusals.{IsRefusal as BookRefusal, refusal_of_begin};
+ghost use Rattle.swift_executor.specs.Refusals.{IsRefusal};
 ghost use Rattle.swift_history.specs.Jobs.{job_facts};
 ghost use Rattle.swift_history.specs.Orderly.{has_last_root};
 ghost use Rattle.swift_turn.specs.Body.{IsRunning};
 ghost use Rattle.swift_journal.specs.Records.{RecordView};
-ghost use Rattle.swift_executor.specs.Exec.{IsRunFault};
-ghost use Rattle.swift_executor.specs.PlayingInside.{BeginsShared, HasJob, IsTaken};
-ghost use Rattle.swift_executor.specs.Seats.{HaveSeen, IsSeatFor, orders_of, seen_by};
-ghost use Rattle.swift_executor.specs.State.{BeginsTurn, EndsTurn, HasChosen, IsPicked, IsPlayed, PutsBack};
+ghost use Rattle.swift_executor.specs.PlayingInside.{BeginsShared, HasJob, IsRefused, IsTaken};
+ghost use Rattle.swift_executor.specs.Seats.{HaveSeen, IsSeatFor, orders_of, records_in, seen_by};
+ghost use Rattle.swift_executor.specs.State.{BeginsTurn, EndsTurn, HasChosen, IsPicked, IsPlayed, PutsBack, record_of, refusal_to_apply, refusal_to_begin};
 
 use crate::chosen::{Chosen, ChosenStage, PlayedTurn};
 use crate::fault::ExecFault;
@@ -41,9 +43,10 @@ fn begin_locked(
 ) -> Result<(), BookFault>
     requires untouched { IsAsTaken book.now taken.seat taken.book.value }
     requires job { HasJob chosen.old.job (λ j. (j.body.script ≡ book.now.script) × HasTicket (job_facts j) taken.seat.knows.tickets × RunsAtSeat book.now.script taken.seat.knows (job_facts j)) }
-    ensures ok { OnOk result (HasJob chosen.old.job (BeginsShared book.now.script taken.book.value.log (has_last_root taken.book.value.script taken.book.value.log) worker chosen.old chosen.new taken.seat.knows seat.new.knows)) }
+    ensures ok { OnOk result (HasJob chosen.old.job (BeginsShared taken.book.value.script taken.book.value.log (has_last_root taken.book.value.script taken.book.value.log) worker chosen.old chosen.new taken.seat.knows seat.new.knows)) }
     ensures seat { (seat.new.lock ≡ book.now.id) × (seat.new.here ≡ true) }
     ensures err { OnErr result ((chosen.new ≡ chosen.old) × (seat.new ≡ seat_of book.now taken.seat.knows)) }
+    ensures refused { MatchResult result (λ _. HasJob chosen.old.job (λ j. refusal_of_begin taken.book.value.script taken.book.value.log j ≡ None)) (λ fault. HasJob chosen.old.job (λ j. BookRefusal (refusal_of_begin taken.book.value.script taken.book.value.log j) fault)) }
 {
     let Some(job) = &chosen.job else {
         unreachable!()
@@ -72,13 +75,14 @@ fn apply_locked<R: Wait>(
     requires seat { IsSeatOf book.now seat.old }
     requires jobs { jobs.old.book ≡ book.now.id }
     requires plays { HasJob place.old (λ j. (r : RecordView) × (newest journal.now ≡ Some r) × (r.exit ≡ exit_view played.now.exit) × (r.effects ≡ effect_views played.now.effects.items) × HasPlayed book.now.script seat.old.knows j r) }
-    ensures ok { IfOk result (λ task. HasJob place.old (IsTaken played.now (map job_facts jobs.old.jobs) (map job_facts jobs.new.jobs) task)) }
+    ensures ok { IfOk result (λ task. HasJob place.old (IsTaken seat.old.knows played.now (map job_facts jobs.old.jobs) (map job_facts jobs.new.jobs) task)) }
     ensures seat { OnOk result ((r : RecordView) × (newest journal.now ≡ Some r) × (seat.new ≡ knowing (after_turn r seat.old.knows) seat.old)) }
     ensures gone { OnOk result (place.new ≡ None) }
     ensures bodies { AllByRecursion (IsJobOf book.now.script) jobs.old.jobs → AllByRecursion (IsJobOf book.now.script) jobs.new.jobs }
     ensures lock { jobs.new.book ≡ jobs.old.book }
     ensures same { OnErr result ((place.new ≡ place.old) × (seat.new ≡ seat.old)) }
     ensures err { OnErr result (jobs.new ≡ jobs.old) }
+    ensures refused { IfErr result (λ fault. HasJob place.old (IsRefused seat.old.knows played.now fault)) }
 {
     let Some(job) = &*place else { unreachable!() };
     let task = job.task();
@@ -115,8 +119,13 @@ impl ExecState {
         was && has_last_root(self.home.script(), book)
     }
 
-    /// `start` where threads share the book, which was taken, so that its lock is not taken anew after `choose`. It is given back.
-    pub(crate) fn start_locked(
+    /// Begins the turn of the chosen job on a worker, in a book that was taken, and keeps what the book gives it; the book is given back.
+    /// So its lock is not taken anew after `choose`. The seat is that of the executor, by which the book was taken: it has the job's ticket,
+    /// which then says that the turn has begun. The caller sees to it that the executor is not pinned to another worker. Constant time.
+    ///
+    /// The refusals are those of `Book::begin` in this book, `Memory` or `Refused` with the cause: the book is then as before, and the job
+    /// is ready again with the number of its arrival.
+    pub fn start(
         &mut self,
         worker: u32,
         book: &BookLock,
@@ -131,12 +140,13 @@ impl ExecState {
         requires front { HaveSeen taken.book.value.log taken.seat.knows }
         ensures seat { IsSeatOf book.now seat.new }
         ensures known { IsSeatFor self.new seat.new }
-        ensures ok { OnOk result (BeginsTurn worker self.old self.new) }
+        ensures ok { OnOk result (BeginsTurn taken.book.value worker self.old self.new) }
         ensures order { OnOk result (orders_of seat.new.knows ≡ map (order_begun (has_last_root taken.book.value.script taken.book.value.log)) (orders_of taken.seat.knows)) }
         ensures seen { OnOk result (seen_by seat.new.knows ≡ taken.book.value.log ∷ []) }
         ensures back { OnErr result (HasChosen self.old (PutsBack self.old self.new)) }
         ensures same { OnErr result (seat.new ≡ seat_of book.now taken.seat.knows) }
-        ensures refused { IfErr result IsRunFault }
+        ensures records { records_in seat.new.knows ≡ records_in taken.seat.knows }
+        ensures refused { MatchResult result (λ _. refusal_to_begin taken.book.value self.old.chosen ≡ None) (IsRefusal (refusal_to_begin taken.book.value self.old.chosen)) }
     {
         match begin_locked(&mut self.chosen, worker, book, seat, taken) {
             Ok(()) => Ok(()),
@@ -147,9 +157,14 @@ impl ExecState {
         }
     }
 
-    /// `turn` where threads share the book. Its lock is held only while it takes the turn: the record of the turn, and room for a
-    /// fold, are made before, and the journal is folded after.
-    pub(crate) fn turn_locked<R: Wait>(
+    /// Journals the turn that was played, and lets the book take it, by the executor's seat, which then has its record. The jobs that the
+    /// turn makes come behind those that `jobs` has, with their tickets. A journal that has 4,096 turns then is folded. It takes no memory
+    /// for a turn that only gives way, but for the growth of the journal and of the log; all memory is taken before the book changes. The
+    /// lock is held only while the book takes the turn: the record, and room for a fold, are made before, and the journal is folded after.
+    ///
+    /// A refusal is `Memory`, or one that stands in a book that the run has come to: `jobs`, the book, the fields and the journal are then
+    /// as before, and the job is ready again with the number of its arrival.
+    pub fn turn<R: Wait>(
         &mut self,
         rt: &R,
         book: &BookLock,
@@ -163,13 +178,15 @@ impl ExecState {
         requires jobs { jobs.old.book ≡ book.now.id }
         ensures seat { IsSeatOf book.now seat.new }
         ensures known { IsSeatFor self.new seat.new }
-        ensures ok { OnOk result (EndsTurn (map job_facts jobs.old.jobs) (map job_facts jobs.new.jobs) self.old self.new) }
+        ensures ok { OnOk result (EndsTurn seat.old.knows (map job_facts jobs.old.jobs) (map job_facts jobs.new.jobs) self.old self.new) }
+        // The seat's account has the record of the turn.
+        ensures told { OnOk result ((r : RecordView) × (record_of self.old.chosen ≡ Some r) × (seat.new ≡ knowing (after_turn r seat.old.knows) seat.old)) }
         ensures order { OnOk result (orders_of seat.new.knows ≡ map order_applied (orders_of seat.old.knows)) }
         ensures bodies { AllByRecursion (IsJobOf self.old.script) jobs.old.jobs → AllByRecursion (IsJobOf self.old.script) jobs.new.jobs }
         ensures lock { jobs.new.book ≡ jobs.old.book }
         ensures back { OnErr result (HasChosen self.old (PutsBack self.old self.new)) }
-        ensures err { OnErr result (jobs.new ≡ jobs.old) }
-        ensures refused { IfErr result IsRunFault }
+        ensures err { OnErr result ((jobs.new ≡ jobs.old) × (seat.new ≡ seat.old)) }
+        ensures refused { IfErr result (λ fault. (fault ≡ ExecFault.Memory) ⊎ ((b : BookView) × (b.script ≡ self.old.script) × IsInRun seat.old.knows (facts_of b) × IsRefusal (refusal_to_apply b self.old.chosen) fault)) }
     {
         let Ok(copy) = prepare(
             self.alloc,

@@ -1,9 +1,11 @@
 //! A serial executor that threads share, and what is left of it.
 
-ghost use Rattle.std.specs.Prelude.{◌≡◌, ◌<◌, ◌*◌, ◌↔◌, [], ◌∷◌, None, Some, IfOk, IfErr, IfSome, IfNone, OnOk, OnErr};
+ghost use Rattle.std.specs.Prelude.{◌≡◌, ◌⊎◌, ◌<◌, ◌*◌, ◌↔◌, [], ◌∷◌, None, Some, IfOk, IfErr, IfSome, IfNone, OnOk, OnErr};
 ghost use Rattle.std.specs.Arc.{arc_value};
 ghost use Rattle.swift_executor.specs.Site.{CanRunAt};
-ghost use Rattle.swift_executor.specs.Exec.{FoundRunning, IsDeskOf, IsLeft, first_desk, has_found, has_sent, site_of};
+ghost use Rattle.swift_executor.specs.Exec.{FoundRunning, IsDeskOf, IsLeft, first_desk, has_found, has_sent, image_of, site_of};
+ghost use Rattle.swift_executor.specs.Inbox.{TakerView};
+ghost use Rattle.swift_executor.specs.Visits.{resting};
 ghost use Rattle.swift_executor.specs.Seats.{IsOpened, KeepsOrder};
 ghost use Rattle.swift_course.specs.Views.{at_rest};
 ghost use Rattle.swift_executor.specs.State.{new_executor};
@@ -190,13 +192,13 @@ impl Exec {
     }
 
     /// Sends a job: it goes into the inbox, and then it is counted. `Idle` where no job was pending and no worker held the
-    /// executor: whoever sent it has to see that a worker comes. Else `Busy`: whoever holds the executor, or has its token, runs this job
-    /// too. It takes no memory, and constant time where no other thread is
-    /// in the way. The gate is called between the two steps, and after them.
+    /// executor: whoever sent it has to see that a worker comes. Else `Busy`: a job was pending then, or a worker held the executor. A
+    /// worker that holds it is told at its last step that jobs are left. It takes no memory, and constant time where no other thread is in
+    /// the way. The gate is called between the two steps, and after them.
     ///
     /// For a job that can run here: its body is of an equal script and has not ended, its running frame is of an actor of this
-    /// executor (SE-0392), and the executor's book gave it. A refusal is `Full`, where the inbox was found full or the desk has no
-    /// allowance left; the job comes back, and nothing has changed.
+    /// executor (SE-0392), and the executor's book gave it. A refusal is `Spent`, exactly where the desk has no allowance left, or `Full`,
+    /// where the inbox was found full; the job comes back, and nothing has changed.
     pub fn enqueue<R, G>(
         &self,
         rt: &R,
@@ -212,11 +214,12 @@ impl Exec {
         ensures ok { OnOk result (desk.new ≡ has_sent (newest desk.new.found) desk.old job.job) }
         ensures idle { IfOk result (λ was. (was ≡ BeforeCount.Idle) ↔ (newest desk.new.found ≡ 0)) }
         ensures allowed { OnOk result (0 < desk.old.allowance) }
-        ensures back { IfErr result (λ e. (e.0 ≡ job) × (e.1 ≡ ExecFault.Full)) }
+        ensures spent { IfErr result (λ e. (e.1 ≡ ExecFault.Spent) ↔ (desk.old.allowance ≡ 0)) }
+        ensures back { IfErr result (λ e. (e.0 ≡ job) × ((e.1 ≡ ExecFault.Full) ⊎ (e.1 ≡ ExecFault.Spent))) }
         ensures kept { OnErr result (desk.new ≡ desk.old) }
     {
         if desk.seat.allowance() == 0 {
-            return Err((job, ExecFault::Full));
+            return Err((job, ExecFault::Spent));
         }
         let executor = self.inbox.site().executor();
         let task = job.job().task();
@@ -246,7 +249,10 @@ impl Exec {
         // Where its turns have begun in order, none is under way, by the seat's account.
         ensures order { IfSome result.state (λ s. KeepsOrder result.is_orderly at_rest s.2) }
         // The desk makes one step: one that finds no desk at the state, and how many jobs are pending; or one that finds a desk there.
-        ensures desk { result.desk ≡ has_found result.desk.found desk }
+        ensures desk { result.desk ≡ has_found result.desk.found result.desk.moved desk }
+        // The state is the one that this step took out of the word.
+        ensures moved { IfSome result.state (λ s. (taker : TakerView) × (result.desk.moved ≡ image_of (resting s.0 taker s.2 result.is_orderly) ∷ desk.moved)) }
+        ensures still { IfNone result.state (result.desk.moved ≡ desk.moved) }
         ensures pending { IfSome result.state (λ s. result.desk.found ≡ 2 * result.pending ∷ desk.found) }
         ensures held { IfNone result.state (FoundRunning desk.found result.desk.found) }
     {

@@ -5,7 +5,7 @@ use swift_tasks::BookFault;
 use thiserror::Error;
 
 /// Why an executor refuses a call (our own). No job is lost. After a refused call of `ExecState` fields and journal are as before, by
-/// contract; after a refused `Exec::run_one` they are so by tests, and jobs of the inbox may have become ready.
+/// contract, and so they are after a refused `Exec::run_one`, but jobs of the inbox may have become ready.
 #[derive(Clone, Copy, Debug, PartialEq, Eq, Error)]
 pub enum ExecFault {
     /// A growth was refused.
@@ -14,12 +14,15 @@ pub enum ExecFault {
     /// The executor is pinned to another worker.
     #[error("X2 wrong worker")]
     Worker,
-    /// The inbox was found full, or the desk has no allowance left.
+    /// The inbox was found full.
     #[error("X3 full")]
     Full,
     /// The book refused, for another reason than memory.
     #[error("X4 refused by the book: {0}")]
     Refused(BookFault),
+    /// The desk has no allowance left.
+    #[error("X5 spent")]
+    Spent,
 }
 
 impl From<AllocError> for ExecFault {

@@ -13,7 +13,9 @@ ghost use Rattle.swift_types.specs.declared.id.TaskId.{TaskId};
 ghost use Rattle.swift_tasks.specs.Books.{BookView};
 ghost use Rattle.swift_history.specs.Jobs.{job_facts};
 ghost use Rattle.swift_executor.specs.Account.{AreTaken, HasTaken};
+ghost use Rattle.swift_executor.specs.Looks.{FreeAreSeen};
 ghost use Rattle.swift_executor.specs.Ready.{Adds};
+ghost use Rattle.swift_executor.specs.Visits.{TurnsWriteOne};
 ghost use Rattle.swift_executor.specs.Seats.{IsOpened, IsSeatFor};
 ghost use Rattle.swift_shared_book.specs.Shared.{BookSeatView, knowing, with_ticket};
 ghost use Rattle.std.specs.Thread.{IsSend, IsSync};
@@ -108,6 +110,18 @@ pub fn play_keeps_tickets()
 /// After a refusal the seat is still that of the executor (our own).
 pub fn refusal_keeps_tickets()
     ensures { (old new : ExecStateView) (seat : BookSeatView) → IsSeatFor old seat → HasChosen old (PutsBack old new) → IsSeatFor new seat }
+{}
+
+/// An executor that no worker holds, and whose seat has taken a book, stands in a history that led there: its turns are its part of it (our
+/// own).
+pub fn free_executors_stand_in_a_history()
+    ensures { FreeAreSeen }
+{}
+
+/// A turn that a visit has run wrote one record, of its task and of a job that was ready, which is the newest of the journal, or was folded
+/// with it, and of the account of the executor's seat (SE-0306 for jobs that run once).
+pub fn a_turn_writes_one_record()
+    ensures { TurnsWriteOne }
 {}
 
 /// Threads may share an executor (our own).

@@ -21,9 +21,9 @@ mod state;
 mod pick;
 // How a job is played, put back and written.
 mod playing;
-// A turn of the chosen job.
+// How the turn of the chosen job is played.
 mod turns;
-// The end of a turn, where threads share the book.
+// A turn that begins, and one that ends.
 mod ending;
 // The account of an executor.
 pub mod laws;
@@ -47,11 +47,14 @@ mod desk;
 mod exec;
 // A visit of a worker.
 mod run;
+// A look while a run goes on.
+mod look;
 
 pub use desk::{ClosedDesk, Desk};
 pub use exec::{Closed, Exec};
 pub use fault::ExecFault;
 pub use gate::{Gate, Moment, Open};
+pub use look::{LookOutcome, Onlooker};
 pub use ran::VisitOutcome;
 pub use run::may_run;
 pub use state::ExecState;

@@ -32,20 +32,10 @@ impl ExecState {
     /// the levels of a book give it (`Book::levels`), or at a greater one that it was given before. None where no job is
     /// ready. No job is chosen yet.
     ///
-    /// It takes no memory, and constant time where no level has changed since the last call, besides the comparison of a byte
-    /// for each task. The refusal is `Refused(Unknown)`, where the task of that job was not made; the job is then ready as before.
-    pub fn choose(&mut self, given: &[u8]) -> Result<Option<TaskId>, ExecFault>
-        requires free { self.old.chosen ≡ None }
-        requires levels { (log : List Event) × AreLevels log given.now }
-        ensures some { IfOk result (λ picked. IfSome picked (λ task. (log : List Event) → AreLevels log given.now → Chooses log self.old self.new task)) }
-        ensures none { IfOk result (λ picked. IfNone picked ((log : List Event) → AreLevels log given.now → HasNone log self.old self.new)) }
-        ensures err { IfErr result (λ fault. (fault ≡ ExecFault.Refused BookFault.Unknown) × ((log : List Event) → AreLevels log given.now → LacksTask log self.old self.new)) }
-    {
-        self.choose_since(given, None)
-    }
-
-    /// `choose`, in constant time where no level has changed since the levels of all tasks were given last (`ReadyJobs::count_since`).
-    pub(crate) fn choose_since(
+    /// `changed` says after how many events a level may have changed last (`Book::levels_changed`). It takes no memory, and constant time
+    /// where none has changed since the levels of all tasks were given last; else it compares a byte for each task. The refusal is
+    /// `Refused(Unknown)`, where the task of that job was not made; the job is then ready as before.
+    pub fn choose(
         &mut self,
         given: &[u8],
         changed: Option<usize>,

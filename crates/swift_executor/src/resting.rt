@@ -3,11 +3,12 @@
 ghost use Rattle.std.specs.Prelude.{◌≡◌, None};
 ghost use Rattle.swift_executor.specs.Exec.{IsOf};
 ghost use Rattle.swift_executor.specs.Seats.{KeepsOrder};
+ghost use Rattle.swift_executor.specs.State.{ExecInvariant};
 ghost use Rattle.swift_course.specs.Views.{at_rest};
 
 use crate::inbox::Taker;
 use crate::state::ExecState;
-use crate::state_name::StateName;
+use crate::state_name::{StateImage, StateName};
 use std::marker::Model;
 use swift_job::spend_all;
 use swift_shared_book::BookSeat;
@@ -32,7 +33,9 @@ impl Model for Resting {
     ghost use Rattle.std.specs.Prelude.{◌≡◌, None};
     ghost use Rattle.std.specs.Coded.{codes};
     ghost use Rattle.swift_script.specs.Codes.{expression_code, statement_code, block_code};
-    ghost use Rattle.swift_executor.specs.Exec.{IsOf, RestingView};
+    ghost use Rattle.swift_executor.specs.Exec.{IsOf};
+    ghost use Rattle.swift_executor.specs.Resting.{RestingView};
+    ghost use Rattle.swift_executor.specs.State.{ExecInvariant};
     ghost use Rattle.swift_executor.specs.Seats.{KeepsOrder};
     ghost use Rattle.swift_course.specs.Views.{at_rest};
 
@@ -42,15 +45,19 @@ impl Model for Resting {
 
     ghost view = { λ r. record { state = r.held.value.state; taker = r.held.value.taker; seat = r.held.value.seat; is_orderly = r.held.value.is_orderly } };
 
-    ghost invariant = { λ r. (r.held.value.state.chosen ≡ None) × IsOf r.held.value.taker r.held.value.seat r.held.value.state × KeepsOrder r.held.value.is_orderly at_rest r.held.value.seat };
+    ghost invariant = { λ r. (r.held.value.state.chosen ≡ None) × IsOf r.held.value.taker r.held.value.seat r.held.value.state × KeepsOrder r.held.value.is_orderly at_rest r.held.value.seat × ExecInvariant r.held.value.state };
 }
 
 impl Named for Resting {
     type Name = StateName;
 
-    ghost use Rattle.swift_executor.specs.Exec.{state_name, site_of};
+    type Image = StateImage;
+
+    ghost use Rattle.swift_executor.specs.Exec.{image_of, state_name, site_of};
 
     ghost name = { λ r. state_name (site_of r.seat.lock r.state) r.taker.inbox };
+
+    ghost image = { λ r. image_of r };
 }
 
 impl Resting {
@@ -59,17 +66,20 @@ impl Resting {
         requires free { held.value.state.chosen ≡ None }
         requires is_of { IsOf held.value.taker held.value.seat held.value.state }
         requires order { KeepsOrder held.value.is_orderly at_rest held.value.seat }
-        ensures { result ≡ record { state = held.value.state; taker = held.value.taker; seat = held.value.seat; is_orderly = held.value.is_orderly } }
+        ensures same { result ≡ record { state = held.value.state; taker = held.value.taker; seat = held.value.seat; is_orderly = held.value.is_orderly } }
+        ensures keeps { ExecInvariant held.value.state }
     {
+        held.state.facts();
         Resting { held }
     }
 
     /// The state, for the worker that holds it.
     pub fn into_held(self) -> Box<TakenState>
-        ensures same { (result.value.state ≡ self.state) × (result.value.taker ≡ self.taker) × (result.value.seat ≡ self.seat) }
+        ensures same { (result.value.state ≡ self.state) × (result.value.taker ≡ self.taker) × (result.value.seat ≡ self.seat) × (result.value.is_orderly ≡ self.is_orderly) }
         ensures free { result.value.state.chosen ≡ None }
         ensures is_of { IsOf result.value.taker result.value.seat result.value.state }
         ensures order { KeepsOrder result.value.is_orderly at_rest result.value.seat }
+        ensures keeps { ExecInvariant result.value.state }
     {
         let Resting { held } = self;
         held
@@ -77,7 +87,7 @@ impl Resting {
 
     /// The state, the right to take its jobs, the seat by which it took the book, and whether its turns are known to have begun in order.
     pub fn into_parts(self) -> (ExecState, Taker, BookSeat, bool)
-        ensures same { (result.0 ≡ self.state) × (result.1 ≡ self.taker) × (result.2 ≡ self.seat) }
+        ensures same { (result.0 ≡ self.state) × (result.1 ≡ self.taker) × (result.2 ≡ self.seat) × (result.3 ≡ self.is_orderly) }
         ensures free { result.0.chosen ≡ None }
         ensures is_of { IsOf result.1 result.2 result.0 }
         ensures order { KeepsOrder result.3 at_rest result.2 }

@@ -10,13 +10,16 @@ ghost use Rattle.atomic_table.specs.Seated.{TableId};
 ghost use Rattle.swift_history.specs.Jobs.{job_facts};
 ghost use Rattle.swift_history.specs.TurnEnds.{JobFacts};
 ghost use Rattle.swift_executor.specs.Account.{HasTaken};
-ghost use Rattle.swift_executor.specs.Exec.{HasFound, HasLeft, HasTried, IfNoTurn, IfTurn, IsMadeBy, chosen_task, IsAt, IsBookOf, IsDeskOf, IsRunFault, IsSeatAt, after_run, has_found, may_run, seat_after, site_of};
+ghost use Rattle.swift_executor.specs.Exec.{HasFound, HasLeft, HasTried, IfNoTurn, IfTurn, IsAt, IsBookOf, IsDeskOf, IsRunFault, IsSeatAt, after_run, has_found, chosen_task, image_of, may_run, seat_after, site_of, state_name};
 ghost use Rattle.swift_executor.specs.Ready.{HaveCounted};
-ghost use Rattle.swift_executor.specs.Seats.{HaveSeen, IsSeatFor, KeepsOrder, orders_of, seen_by};
+ghost use Rattle.swift_executor.specs.Seats.{HaveSeen, IsSeatFor, KeepsOrder, orders_of, records_in, seen_by};
 ghost use Rattle.swift_course.specs.Views.{at_rest, under_way};
-ghost use Rattle.swift_shared_book.specs.Shared.{BookSeatView, IsAsTaken, IsSeatOf, seat_of};
+ghost use Rattle.swift_shared_book.specs.Shared.{BookSeatView, IsAsTaken, IsInRun, IsSeatOf, after_turn, knowing, seat_of};
 ghost use Rattle.swift_word.specs.Seat.{ended, last_found, left};
-ghost use Rattle.swift_executor.specs.State.{Chooses, HasChosen, HasNone, IsBegun, IsPicked, IsPlayed, LacksTask};
+ghost use Rattle.swift_executor.specs.State.{BeginsTurn, Chooses, EndsTurn, ExecStateView, HasChosen, HasNone, IsBegun, IsPicked, IsPlayed, LacksTask, OnlyJobs, Plays, PutsBack, record_of};
+ghost use Rattle.swift_executor.specs.Visits.{Fails, Finishes, HasRun, HasStayed, IsFree, Leaves, RunsTurn, Starts, Visits, resting};
+ghost use Rattle.swift_journal.specs.Records.{RecordView};
+ghost use Rattle.swift_shared_book.specs.Calls.{facts_of};
 
 use crate::desk::Desk;
 use crate::exec::Exec;
@@ -61,6 +64,8 @@ fn accept_one<R: Wait>(rt: &R, inbox: &Inbox, held: &mut TakenState, book: &Book
     ensures free { held.new.state.chosen ≡ None }
     ensures lock { held.new.seat.lock ≡ held.old.seat.lock }
     ensures order { (held.new.is_orderly ≡ held.old.is_orderly) × (orders_of held.new.seat.knows ≡ orders_of held.old.seat.knows) }
+    ensures jobs { OnlyJobs held.old.state held.new.state }
+    ensures records { records_in held.new.seat.knows ≡ records_in held.old.seat.knows }
 {
     if inbox.is_empty_now(&mut held.taker) || !held.state.has_room() {
         return false;
@@ -86,6 +91,8 @@ fn accept_all<R: Wait>(rt: &R, inbox: &Inbox, held: &mut TakenState, book: &Book
     ensures free { held.new.state.chosen ≡ None }
     ensures lock { held.new.seat.lock ≡ held.old.seat.lock }
     ensures order { (held.new.is_orderly ≡ held.old.is_orderly) × (orders_of held.new.seat.knows ≡ orders_of held.old.seat.knows) }
+    ensures jobs { OnlyJobs held.old.state held.new.state }
+    ensures records { records_in held.new.seat.knows ≡ records_in held.old.seat.knows }
 {
     for _ in 0..inbox.room() {
         if !accept_one(rt, inbox, held, book) {
@@ -95,7 +102,7 @@ fn accept_all<R: Wait>(rt: &R, inbox: &Inbox, held: &mut TakenState, book: &Book
 }
 
 // Takes the book by the executor's seat.
-fn take_book<R: Wait>(rt: &R, held: &mut TakenState, book: &BookLock) -> OpenBook
+pub(crate) fn take_book<R: Wait>(rt: &R, held: &mut TakenState, book: &BookLock) -> OpenBook
     requires seat { IsSeatOf book.now held.old.seat }
     requires known { IsSeatFor held.old.state held.old.seat }
     ensures untouched { IsAsTaken book.now result.seat result.book.value }
@@ -104,6 +111,7 @@ fn take_book<R: Wait>(rt: &R, held: &mut TakenState, book: &BookLock) -> OpenBoo
     ensures same { (held.new.taker ≡ held.old.taker) × (held.new.state ≡ held.old.state) }
     ensures order { (held.new.is_orderly ≡ held.old.is_orderly) × (result.seat.knows ≡ held.old.seat.knows) }
     ensures front { HaveSeen result.book.value.log result.seat.knows }
+    ensures run { IsInRun result.seat.knows (facts_of result.book.value) }
 {
     book.lock(rt, &mut held.seat)
 }
@@ -121,18 +129,20 @@ fn choose_one(state: &mut ExecState, book: &mut Book) -> Result<Option<TaskId>, 
     ensures picks { IfOk result (λ picked. IfSome picked (λ task. Chooses book.old.log state.old state.new task)) }
     ensures empty { IfOk result (λ picked. IfNone picked (HasNone book.old.log state.old state.new)) }
     ensures lacks { IfErr result (λ fault. LacksTask book.old.log state.old state.new) }
+    ensures jobs { OnlyJobs state.old state.new }
     ensures counted { HaveCounted book.old.log state.new.ready.levels }
     ensures none { IfOk result (λ picked. IfNone picked (state.new.chosen ≡ None)) }
     ensures free { OnErr result (state.new.chosen ≡ None) }
     ensures err { IfErr result IsRunFault }
 {
     let changed = book.levels_changed();
-    state.choose_since(book.levels(), Some(changed))
+    state.choose(book.levels(), Some(changed))
 }
 
 // The levels of all tasks were given when there were this many events, which are the log that the seat's account has seen.
 fn note_counted(state: &mut ExecState, events: usize)
     ensures same { (lock : TableId) → site_of lock state.new ≡ site_of lock state.old }
+    ensures given { state.new ≡ record state.old { ready = record state.old.ready { counted = state.new.ready.counted } } }
     ensures chosen { state.new.chosen ≡ state.old.chosen }
     ensures taken { (taken : List JobFacts) → HasTaken taken state.old → HasTaken taken state.new }
     ensures known { (seat : BookSeatView) (log : List Event) → IsSeatFor state.old seat → seen_by seat.knows ≡ log ∷ [] → events ≡ length log → HaveCounted log state.old.ready.levels → IsSeatFor state.new seat }
@@ -160,7 +170,10 @@ fn start_one(
     ensures seat { IsSeatOf book.now held.new.seat }
     ensures known { IsSeatFor held.new.state held.new.seat }
     ensures taken { HasTaken held.old.taker.taken held.old.state → HasTaken held.new.taker.taken held.new.state }
-    ensures ok { OnOk result (HasChosen held.new.state (λ c. IsBegun c.stage) × (chosen_task held.new.state.chosen ≡ chosen_task held.old.state.chosen)) }
+    ensures ok { OnOk result (HasChosen held.new.state (λ c. IsBegun c.stage)) }
+    ensures starts { OnOk result ((begun : ExecStateView) × BeginsTurn taken.book.value worker held.old.state begun × (held.new.state ≡ record begun { ready = record begun.ready { counted = held.new.state.ready.counted } })) }
+    ensures puts_back { OnErr result (HasChosen held.old.state (PutsBack held.old.state held.new.state)) }
+    ensures records { records_in held.new.seat.knows ≡ records_in taken.seat.knows }
     ensures free { OnErr result (held.new.state.chosen ≡ None) }
     ensures begun { OnOk result (KeepsOrder held.new.is_orderly under_way held.new.seat) }
     ensures back { OnErr result (KeepsOrder held.new.is_orderly at_rest held.new.seat) }
@@ -170,7 +183,7 @@ fn start_one(
     refusal_loses_none();
     held.is_orderly = held.state.stays_orderly(held.is_orderly, &taken.book);
     let events = taken.book.log().len();
-    match held.state.start_locked(worker, book, &mut held.seat, taken) {
+    match held.state.start(worker, book, &mut held.seat, taken) {
         Ok(()) => {
             note_counted(&mut held.state, events);
             Ok(())
@@ -203,7 +216,11 @@ where
     ensures begun { IfOk result (λ picked. IfSome picked (λ task. KeepsOrder held.new.is_orderly under_way held.new.seat)) }
     ensures idle { IfOk result (λ picked. IfNone picked (KeepsOrder held.new.is_orderly at_rest held.new.seat)) }
     ensures back { OnErr result (KeepsOrder held.new.is_orderly at_rest held.new.seat) }
-    ensures some { IfOk result (λ picked. IfSome picked (λ task. HasChosen held.new.state (λ c. IsBegun c.stage) × (chosen_task held.new.state.chosen ≡ Some task))) }
+    ensures some { IfOk result (λ picked. IfSome picked (λ task. HasChosen held.new.state (λ c. IsBegun c.stage))) }
+    ensures starts { IfOk result (λ picked. IfSome picked (λ task. Starts worker task held.old.seat.knows held.old.state held.new.state)) }
+    ensures stays { IfOk result (λ picked. IfNone picked (OnlyJobs held.old.state held.new.state)) }
+    ensures stays_back { OnErr result (OnlyJobs held.old.state held.new.state) }
+    ensures records { records_in held.new.seat.knows ≡ records_in held.old.seat.knows }
     ensures none { IfOk result (λ picked. IfNone picked (held.new.state.chosen ≡ None)) }
     ensures free { OnErr result (held.new.state.chosen ≡ None) }
     ensures err { IfErr result IsRunFault }
@@ -240,7 +257,9 @@ fn play_one(held: &mut TakenState, cx: &mut Context<'_>) -> Result<(), ExecFault
     ensures order { held.new.is_orderly ≡ held.old.is_orderly }
     ensures known { IsSeatFor held.new.state held.new.seat }
     ensures taken { HasTaken held.old.taker.taken held.old.state → HasTaken held.new.taker.taken held.new.state }
-    ensures ok { OnOk result (HasChosen held.new.state (λ c. IsPlayed c.stage) × (chosen_task held.new.state.chosen ≡ chosen_task held.old.state.chosen)) }
+    ensures ok { OnOk result (HasChosen held.new.state (λ c. IsPlayed c.stage)) }
+    ensures plays { OnOk result (HasChosen held.old.state (Plays held.old.state held.new.state)) }
+    ensures puts_back { OnErr result (HasChosen held.old.state (PutsBack held.old.state held.new.state)) }
     ensures free { OnErr result (held.new.state.chosen ≡ None) }
     ensures err { IfErr result IsRunFault }
     ensures kept { Keeps cx.old cx.new }
@@ -270,12 +289,15 @@ fn end_one<R: Wait>(
     ensures lock { jobs.new.book ≡ jobs.old.book }
     ensures taken { HasTaken held.old.taker.taken held.old.state → HasTaken held.new.taker.taken held.new.state }
     ensures free { held.new.state.chosen ≡ None }
-    ensures made { OnOk result (IsMadeBy held.old.state.script (chosen_task held.old.state.chosen) (map job_facts jobs.old.jobs) (map job_facts jobs.new.jobs)) }
+    ensures ends { OnOk result (EndsTurn held.old.seat.knows (map job_facts jobs.old.jobs) (map job_facts jobs.new.jobs) held.old.state held.new.state) }
+    ensures told { OnOk result ((r : RecordView) × (record_of held.old.state.chosen ≡ Some r) × (held.new.seat ≡ knowing (after_turn r held.old.seat.knows) held.old.seat)) }
+    ensures puts_back { OnErr result (HasChosen held.old.state (PutsBack held.old.state held.new.state)) }
+    ensures stays { OnErr result (held.new.seat ≡ held.old.seat) }
     ensures jobs { OnErr result (jobs.new ≡ jobs.old) }
     ensures bodies { OnOk result (AllByRecursion (IsJobOf held.old.state.script) jobs.old.jobs → AllByRecursion (IsJobOf held.old.state.script) jobs.new.jobs) }
     ensures err { IfErr result IsRunFault }
 {
-    held.state.turn_locked(rt, book, &mut held.seat, jobs)
+    held.state.turn(rt, book, &mut held.seat, jobs)
 }
 
 // Plays the turn that has begun, and journals it.
@@ -299,7 +321,8 @@ fn finish_one<R: Wait>(
     ensures lock { jobs.new.book ≡ jobs.old.book }
     ensures taken { HasTaken held.old.taker.taken held.old.state → HasTaken held.new.taker.taken held.new.state }
     ensures free { held.new.state.chosen ≡ None }
-    ensures made { OnOk result (IsMadeBy held.old.state.script (chosen_task held.old.state.chosen) (map job_facts jobs.old.jobs) (map job_facts jobs.new.jobs)) }
+    ensures finishes { OnOk result (Finishes (map job_facts jobs.old.jobs) (map job_facts jobs.new.jobs) held.old.seat held.new.seat held.old.state held.new.state) }
+    ensures stays { OnErr result (OnlyJobs held.old.state held.new.state × (held.new.seat ≡ held.old.seat)) }
     ensures jobs { OnErr result (jobs.new ≡ jobs.old) }
     ensures bodies { AllByRecursion (IsJobOf held.old.state.script) jobs.old.jobs → AllByRecursion (IsJobOf held.old.state.script) jobs.new.jobs }
     ensures err { IfErr result IsRunFault }
@@ -336,7 +359,9 @@ where
     ensures lock { jobs.new.book ≡ jobs.old.book }
     ensures taken { HasTaken held.old.taker.taken held.old.state → HasTaken held.new.taker.taken held.new.state }
     ensures free { held.new.state.chosen ≡ None }
-    ensures made { IfOk result (λ ran. IfSome ran (λ task. IsMadeBy held.old.state.script (Some task) (map job_facts jobs.old.jobs) (map job_facts jobs.new.jobs))) }
+    ensures runs { IfOk result (λ ran. IfSome ran (λ task. RunsTurn worker task (map job_facts jobs.old.jobs) (map job_facts jobs.new.jobs) (resting held.old.state held.old.taker held.old.seat held.old.is_orderly) (resting held.new.state held.new.taker held.new.seat held.new.is_orderly))) }
+    ensures idle { IfOk result (λ ran. IfNone ran (HasStayed (resting held.old.state held.old.taker held.old.seat held.old.is_orderly) (resting held.new.state held.new.taker held.new.seat held.new.is_orderly))) }
+    ensures stays { OnErr result (HasStayed (resting held.old.state held.old.taker held.old.seat held.old.is_orderly) (resting held.new.state held.new.taker held.new.seat held.new.is_orderly)) }
     ensures none { IfOk result (λ ran. IfNone ran (jobs.new ≡ jobs.old)) }
     ensures jobs { OnErr result (jobs.new ≡ jobs.old) }
     ensures bodies { AllByRecursion (IsJobOf held.old.state.script) jobs.old.jobs → AllByRecursion (IsJobOf held.old.state.script) jobs.new.jobs }
@@ -367,20 +392,32 @@ impl Exec {
         requires at { IsAt self.now.inbox held.value.taker held.value.seat held.value.state }
         requires order { KeepsOrder held.value.is_orderly at_rest held.value.seat }
         requires free { held.value.state.chosen ≡ None }
-        ensures seat { seat.new ≡ ended (last_found seat.new) seat.old }
+        ensures seat { seat.new ≡ ended (last_found seat.new) (image_of (resting held.value.state held.value.taker held.value.seat held.value.is_orderly)) seat.old }
+        ensures given { IsFree self.now.inbox (resting held.value.state held.value.taker held.value.seat held.value.is_orderly) }
         ensures left { (result ≡ PendingLeft.More) ↔ (1 < last_found seat.new / 2) }
     {
         self.word.end(seat, Resting::new(held))
     }
 
+    // The state that a desk has taken out of the executor's word.
+    pub(crate) fn taken(&self, state: Resting) -> Box<TakenState>
+        requires name { state_name (site_of state.seat.lock state.state) state.taker.inbox ≡ state_name self.now.inbox.site self.now.inbox.id }
+        ensures same { resting result.value.state result.value.taker result.value.seat result.value.is_orderly ≡ state }
+        ensures free { IsFree self.now.inbox (resting result.value.state result.value.taker result.value.seat result.value.is_orderly) }
+    {
+        let _ = &self.inbox;
+        state.into_held()
+    }
+
     // Gives the state back where no turn was run.
-    fn leave(&self, seat: &mut WordSeat<Resting>, held: Box<TakenState>) -> PendingLeft
+    pub(crate) fn leave(&self, seat: &mut WordSeat<Resting>, held: Box<TakenState>) -> PendingLeft
         requires seat { IsSeatAt self.now seat.old }
         requires found { IsSome seat.old.holding }
         requires at { IsAt self.now.inbox held.value.taker held.value.seat held.value.state }
         requires order { KeepsOrder held.value.is_orderly at_rest held.value.seat }
         requires free { held.value.state.chosen ≡ None }
-        ensures seat { seat.new ≡ left (last_found seat.new) seat.old }
+        ensures seat { seat.new ≡ left (last_found seat.new) (image_of (resting held.value.state held.value.taker held.value.seat held.value.is_orderly)) seat.old }
+        ensures given { IsFree self.now.inbox (resting held.value.state held.value.taker held.value.seat held.value.is_orderly) }
         ensures left { (result ≡ PendingLeft.More) ↔ (0 < last_found seat.new / 2) }
     {
         self.word.leave(seat, Resting::new(held))
@@ -409,13 +446,12 @@ impl Exec {
         requires free { held.value.state.chosen ≡ None }
         requires lock { IsBookOf self.now book.now }
         requires jobs { jobs.old.book ≡ book.now.id }
-        ensures seat { IfOk result (λ ran. seat.new ≡ seat_after ran (last_found seat.new) seat.old) }
+        ensures ran { IfOk result (λ ran. Leaves self.now.inbox (HasRun worker (map job_facts jobs.old.jobs) (map job_facts jobs.new.jobs) ran (resting held.value.state held.value.taker held.value.seat held.value.is_orderly)) (seat_after ran) seat.old seat.new) }
         ensures left { IfOk result (λ ran. HasLeft ran (last_found seat.new)) }
         ensures pending { IfOk result (IfTurn (λ task. 0 < found)) }
-        ensures kept { OnErr result (seat.new ≡ left (last_found seat.new) seat.old) }
+        ensures kept { OnErr result (Leaves self.now.inbox (HasStayed (resting held.value.state held.value.taker held.value.seat held.value.is_orderly)) (λ n r. left n (image_of r)) seat.old seat.new) }
         ensures tried { OnErr result (0 < found) }
         ensures free { (seat.new.name ≡ seat.old.name) × (seat.new.holding ≡ None) }
-        ensures made { IfOk result (IfTurn (λ task. IsMadeBy self.now.inbox.site.script (Some task) (map job_facts jobs.old.jobs) (map job_facts jobs.new.jobs))) }
         ensures jobs { IfOk result (IfNoTurn (jobs.new ≡ jobs.old)) }
         ensures none { OnErr result (jobs.new ≡ jobs.old) }
         ensures bodies { AllByRecursion (IsJobOf self.now.inbox.site.script) jobs.old.jobs → AllByRecursion (IsJobOf self.now.inbox.site.script) jobs.new.jobs }
@@ -470,11 +506,13 @@ impl Exec {
         requires desk { IsDeskOf self.now desk.old }
         requires book { IsBookOf self.now book.now }
         requires jobs { jobs.old.book ≡ book.now.id }
-        ensures desk { IfOk result (λ ran. desk.new ≡ has_found desk.new.found (after_run ran desk.old)) }
+        ensures desk { IfOk result (λ ran. desk.new ≡ has_found desk.new.found desk.new.moved (after_run ran desk.old)) }
         ensures found { IfOk result (λ ran. HasFound ran desk.old.found desk.new.found) }
-        ensures kept { OnErr result (desk.new ≡ has_found desk.new.found desk.old) }
+        ensures kept { OnErr result (desk.new ≡ has_found desk.new.found desk.new.moved desk.old) }
         ensures tried { IfErr result (λ fault. HasTried fault desk.old.found desk.new.found) }
-        ensures made { IfOk result (IfTurn (λ task. IsMadeBy self.now.inbox.site.script (Some task) (map job_facts jobs.old.jobs) (map job_facts jobs.new.jobs))) }
+        // What was done to the state that lay in the executor's word, by what was taken out and given back.
+        ensures ran { IfOk result (λ ran. Visits self.now.inbox worker (map job_facts jobs.old.jobs) (map job_facts jobs.new.jobs) ran desk.old.moved desk.new.moved) }
+        ensures fails { IfErr result (λ fault. Fails self.now.inbox fault desk.old.moved desk.new.moved) }
         ensures jobs { IfOk result (IfNoTurn (jobs.new ≡ jobs.old)) }
         ensures none { OnErr result (jobs.new ≡ jobs.old) }
         ensures bodies { AllByRecursion (IsJobOf self.now.inbox.site.script) jobs.old.jobs → AllByRecursion (IsJobOf self.now.inbox.site.script) jobs.new.jobs }
@@ -493,7 +531,7 @@ impl Exec {
             Begun::Busy => Ok(VisitOutcome::Busy),
             Begun::Run(found, resting) => {
                 gate.at(Moment::Began(executor, worker));
-                let mut held = resting.into_held();
+                let mut held = self.taken(resting);
                 accept_all(rt, &self.inbox, &mut held, book);
                 gate.at(Moment::Accepted(executor, worker));
                 let seat = &mut desk.seat;

@@ -1,6 +1,9 @@
-//! The name of an executor's state, by which its word knows it.
+//! The name of an executor's state, by which its word knows it, and what its desks note of it.
 
 ghost use Rattle.atomic_table.specs.Seated.{TableId, table_id_coded};
+ghost use Rattle.std.specs.Coded.{codes};
+ghost use Rattle.swift_script.specs.Codes.{expression_code, statement_code, block_code};
+ghost use Rattle.swift_executor.specs.Resting.{RestingView};
 
 use crate::inbox::ExecutorSite;
 use std::marker::Model;
@@ -20,4 +23,16 @@ impl Model for InboxName {
 pub struct StateName {
     pub site: ExecutorSite,
     pub inbox: InboxName,
+}
+
+/// A state as clauses see it while no worker holds it, which a desk notes where it takes it or gives it back. No value of it is made. It is
+/// a type of its own, in which no jobs lie.
+pub struct StateImage {
+    pub ghost resting: { RestingView } by { Prim.hlevel (codes, expression_code, statement_code (block_code (Prim.hlevel (codes, expression_code)) (Prim.hlevel (codes, expression_code)))) },
+}
+
+impl Model for StateImage {
+    ghost use base.Fml.{ftrue};
+
+    ghost also_owns = { λ _. ftrue };
 }

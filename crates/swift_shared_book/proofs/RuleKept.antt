@@ -1,6 +1,8 @@
 -- The rule of a shared book, at each call.
-use Rattle.std.proofs.Common.{◌≡◌, ℕ, ◌+◌, ◌≤◌, List, [], ◌∷◌, ◌++◌, length, drop, map, refl, sym, ap, ◌∙◌, subst, arith}
-use Rattle.std.specs.Prelude.{Option, Some, None, IfSome, IsSomeAnd}
+use mathlib.Core.Option.{some, some-injective, some-ne-none}
+use lib.ListN.{get_elem?}
+use Rattle.std.proofs.Common.{◌≡◌, ℕ, zero, suc, ◌+◌, ◌≤◌, List, [], ◌∷◌, ◌++◌, length, drop, map, refl, sym, ap, ◌∙◌, subst, arith}
+use Rattle.std.specs.Prelude.{Option, Some, None, IfSome, IsSomeAnd, MatchResult, OnOk, IfErr, Result, Ok, Err}
 use Rattle.std.proofs.lemmas.List.{drop-map, length-append, length-map, map-append}
 use Rattle.std.proofs.lemmas.List.Sorted.{IsPermutation-to_front}
 use Rattle.std.proofs.Math.Seq.{drop-append_seam}
@@ -17,20 +19,22 @@ use Rattle.swift_history.specs.TurnEnds.{JobFacts, root_events, root_job}
 use Rattle.swift_shared_book.specs.LockSeat.{MayUnlock}
 use Rattle.swift_tasks.specs.Books.{BookView, IsEndOf, empty_book, end_of_turn}
 use Rattle.swift_history.specs.Jobs.{job_facts}
+use Rattle.swift_tasks.specs.declared.fault.BookFault.{BookFault}
 use Rattle.swift_tasks.specs.Refusals.{refusal_of_apply, refusal_of_begin, refusal_of_root}
 use Rattle.swift_course.specs.Views.{Account, BookFacts, Maker, BookKnown, Ticket, fresh}
 use Rattle.swift_course.specs.declared.known.BookImage.{BookImage}
 use Rattle.swift_course.specs.declared.known.Known.{Known}
 use Rattle.swift_course.specs.Course.{IsCourse}
-use Rattle.swift_course.specs.Rule.{HoldsOf}
+use Rattle.swift_course.specs.Rule.{HoldsOf, views_of}
 use Rattle.swift_course.specs.Seats.{first_view, gathered, some_parted}
 use Rattle.swift_course.specs.Steps.{MayGive, end_of, knowing_begin, knowing_turn, with_record}
 use Rattle.swift_course.proofs.Ordered.{known_ordered, tickets_ordered}
 use Rattle.swift_course.proofs.Parts.{book_stays, run_begins}
-use Rattle.swift_course.proofs.Rule.{gives}
+use Rattle.swift_course.proofs.Rule.{gives, learns}
+use Rattle.swift_course.specs.Reports.{Knows}
 use Rattle.swift_shared_book.specs.Calls.{facts_of}
 use Rattle.swift_shared_book.proofs.CallsKeep.{apply_keeps, begin_keeps, root_keeps}
-use Rattle.swift_shared_book.specs.Shared.{BeginsTicket, HasPlayed, HasTicket, RunsAtSeat, facts_in, tickets_view}
+use Rattle.swift_shared_book.specs.Shared.{BeginsTicket, HasPlayed, HasTicket, IsInRun, RunsAtSeat, facts_in, tickets_view}
 use Rattle.swift_shared_book.specs.StepsInside.{KnowsRoot, MayGiveBack, knowing_record}
 
 -- a lock is made
@@ -143,19 +147,40 @@ applies None held v script b b' newest effects exit before after is of_script pl
 applies (Some j) held v script b b' newest effects exit before after is of_script played may ends same =
     job_applies held v b b' newest effects exit before after j is (subst (λ (s : ScriptView). IsPlayedIn s v newest effects exit j) (sym of_script) played) may ends same
 
--- the end of the turn, by the jobs as they were and as they are
-pub ends_shown : (place : Option (JobView BodyView)) (script : ScriptView) (b b' : BookView) (effects : List EffectView) (exit : ExitView) (before after old new : List (JobView BodyView)) → b.script ≡ script → b'.script ≡ b.script → before ≡ old → after ≡ new
+-- the end of the turn, by the book that was taken
+pub ends_taken : (place : Option (JobView BodyView)) (taken b b' : BookView) (effects : List EffectView) (exit : ExitView) (before after : List (JobView BodyView)) → taken ≡ b → b'.script ≡ b.script
     → IsSomeAnd place (λ j. IsEndOf b (map job_facts before) j effects exit b'.log b'.held (map job_facts after))
-    → IsSomeAnd place (λ j. (x : BookView) × (x' : BookView) × (x.script ≡ script) × (x'.script ≡ x.script) × IsEndOf x (map job_facts old) j effects exit x'.log x'.held (map job_facts new))
-ends_shown None script b b' effects exit before after old new of_script same was now ends = absurd ends
-ends_shown (Some j) script b b' effects exit before after old new of_script same was now ends = (
+    → IsSomeAnd place (λ j. (x' : BookView) × (x'.script ≡ taken.script) × IsEndOf taken (map job_facts before) j effects exit x'.log x'.held (map job_facts after))
+ends_taken None taken b b' effects exit before after is same ends = absurd ends
+ends_taken (Some j) taken b b' effects exit before after is same ends =
+    subst (λ (x : BookView). (x' : BookView) × (x'.script ≡ x.script) × IsEndOf x (map job_facts before) j effects exit x'.log x'.held (map job_facts after)) (sym is) (b', same, ends)
+
+-- the end of the turn, in some book that the run has come to, by the jobs as they were and as they are
+pub ends_run : (place : Option (JobView BodyView)) (script : ScriptView) (v : BookKnown) (b : BookView) (effects : List EffectView) (exit : ExitView) (before after old new : List (JobView BodyView)) → b.script ≡ script → IsInRun v (facts_of b) → before ≡ old → after ≡ new
+    → IsSomeAnd place (λ j. refusal_of_apply b.script b.log j effects exit ≡ None)
+    → IsSomeAnd place (λ j. (x' : BookView) × (x'.script ≡ b.script) × IsEndOf b (map job_facts before) j effects exit x'.log x'.held (map job_facts after))
+    → IsSomeAnd place (λ j. (x : BookView) × (x' : BookView) × (x.script ≡ script) × (x'.script ≡ x.script) × IsInRun v (facts_of x) × (refusal_of_apply x.script x.log j effects exit ≡ None) × IsEndOf x (map job_facts old) j effects exit x'.log x'.held (map job_facts new))
+ends_run None script v b effects exit before after old new of_script run was now may ends = absurd ends
+ends_run (Some j) script v b effects exit before after old new of_script run was now may ends = (
   b,
-  b',
+  ends.0,
   of_script,
-  same,
-  subst (λ (l : List (JobView BodyView)). IsEndOf b (map job_facts old) j effects exit b'.log b'.held (map job_facts l)) now
-      (subst (λ (l : List (JobView BodyView)). IsEndOf b (map job_facts l) j effects exit b'.log b'.held (map job_facts after)) was ends),
+  ends.1,
+  run,
+  may,
+  subst (λ (l : List (JobView BodyView)). IsEndOf b (map job_facts old) j effects exit ends.0.log ends.0.held (map job_facts l)) now
+      (subst (λ (l : List (JobView BodyView)). IsEndOf b (map job_facts l) j effects exit ends.0.log ends.0.held (map job_facts after)) was ends.2),
 )
+
+pub ends_answered : (r : Result Unit BookFault) (X Y Z : Type 0) (Q : BookFault → Type 0) → (X → Y → Z) → MatchResult r (λ _. X) Q → OnOk r Y → OnOk r Z
+ends_answered (Ok done) X Y Z Q f may ends = f may ends
+ends_answered (Err fault) X Y Z Q f may ends = tt
+
+-- why some book that the run has come to refuses
+pub refused_run : (r : Result Unit BookFault) (script : ScriptView) (v : BookKnown) (b : BookView) (P : Type 0) (Q : BookView → BookFault → Type 0) → b.script ≡ script → IsInRun v (facts_of b) → MatchResult r (λ _. P) (Q b)
+    → IfErr r (λ fault. (x : BookView) × (x.script ≡ script) × IsInRun v (facts_of x) × Q x fault)
+refused_run (Ok done) script v b P Q of_script run is = tt
+refused_run (Err fault) script v b P Q of_script run is = (b, of_script, run, is)
 
 -- the jobs of a list, after a turn that made some more
 
@@ -187,3 +212,13 @@ tickets_after script other before after made is =
     ∙ sym (two_maps after)
     in
     ap (λ (l : List Ticket). record { script = script; accounts = []; tickets = l; maker = None }) same
+
+-- a seat learns that what it takes is a book that the run has come to
+
+at_view : (all : List Known) (seat : ℕ) (v : Known) → get_elem? all seat ≡ some v → get_elem? (views_of all) seat ≡ some v.view
+at_view [] seat v at = absurd (some-ne-none v (sym at))
+at_view (k ∷ all) zero v at = ap (λ (x : Known). some x.view) (some-injective k v at)
+at_view (k ∷ all) (suc seat) v at = at_view all seat v at
+
+pub finds : (v : Known) (image : BookImage) (all : List Known) (seat : ℕ) → HoldsOf image all → get_elem? all seat ≡ some v → Knows v.view image.facts × IsInRun v.view image.facts
+finds v image all seat holds at = (learns v image all seat holds at, (views_of all, seat, holds, at_view all seat v at))

@@ -1,5 +1,7 @@
 -- The book as threads share it, its seats, and the jobs that it gave, as callers see them (our own).
-use Rattle.std.specs.Prelude.{◌≡◌, ◌-◌, Bool, true, false, Option, Some, None, List, [], ◌∷◌, drop, length, map, slice_get, IsPermutation}
+use Rattle.std.specs.Prelude.{◌≡◌, ℕ, ◌-◌, Bool, true, false, Option, Some, None, List, [], ◌∷◌, drop, length, map, slice_get, IsPermutation}
+use mathlib.Core.Option.{some}
+use lib.ListN.{get_elem?}
 use Rattle.atomic_table.specs.Seated.{TableId}
 use Rattle.swift_types.specs.declared.env.Env.{Env}
 use Rattle.swift_script.specs.Scripts.{ScriptView}
@@ -9,6 +11,7 @@ use Rattle.swift_events.specs.declared.event.Event.{Event}
 use Rattle.swift_history.specs.Orderly.{job_executor}
 use Rattle.swift_history.specs.TurnEnds.{JobFacts}
 use Rattle.swift_journal.specs.Records.{RecordView}
+use Rattle.swift_course.specs.Course.{IsCourse}
 use Rattle.swift_course.specs.Views.{Account, BookFacts, BookKnown, Ticket, fresh, no_view}
 use Rattle.swift_course.specs.declared.known.BookImage.{BookImage}
 use Rattle.swift_course.specs.declared.known.Known.{Known}
@@ -62,6 +65,10 @@ IsSeatOf l s = (s.lock ≡ l.id) × (s.here ≡ true) × (s.knows.script ≡ Som
 -- the book was taken from this lock, and is as it was then
 abbrev pub IsAsTaken : BookLockView → OpenSeatView → BookView → Type 0
 IsAsTaken l s b = (s.lock ≡ l.id) × (b.script ≡ l.script) × (s.taken ≡ Some (facts_of b))
+
+-- The book is one that a run comes to in which some seat knows this: the rule of the run holds of it and of what all seats know.
+abbrev pub IsInRun : BookKnown → BookFacts → Type 0
+IsInRun v facts = (views : List BookKnown) × (seat : ℕ) × IsCourse facts views × (get_elem? views seat ≡ some v)
 
 -- there is a ticket for this job, and these are the others, in some order
 abbrev pub HasTicket : JobFacts → List Ticket → Type 0

@@ -1,6 +1,6 @@
 //! The calls of the book under its lock.
 
-ghost use Rattle.std.specs.Prelude.{◌≡◌, ◌⊎◌, ◌+◌, ◌≤◌, [], ◌∷◌, ◌++◌, true, Some, None, IfOk, IfSome, IsSomeAnd, OnOk, OnErr, MatchResult, map, drop, vec_len};
+ghost use Rattle.std.specs.Prelude.{◌≡◌, ◌⊎◌, ◌+◌, ◌≤◌, [], ◌∷◌, ◌++◌, true, Some, None, IfOk, IfSome, IsSomeAnd, OnOk, OnErr, IfErr, MatchResult, map, drop, vec_len};
 ghost use Rattle.std.specs.List.{AllByRecursion};
 ghost use Rattle.swift_script.specs.Scripts.{root_count};
 ghost use Rattle.swift_interpreter.specs.Frames.{effect_views};
@@ -15,7 +15,9 @@ ghost use Rattle.swift_course.specs.Views.{Maker};
 ghost use Rattle.swift_tasks.specs.Books.{BookView, IsEndOf, IsJobOf};
 ghost use Rattle.swift_history.specs.Jobs.{job_facts};
 ghost use Rattle.swift_tasks.specs.Refusals.{IsRefusal, refusal_of_apply, refusal_of_begin, refusal_of_root};
-ghost use Rattle.swift_shared_book.specs.Shared.{BeginsTicket, HasPlayed, HasTicket, IsSeatOf, IsAsTaken, RunsAtSeat, after_turn, knowing, newest, seat_of};
+ghost use Rattle.swift_shared_book.specs.Calls.{facts_of};
+ghost use Rattle.swift_shared_book.specs.SharedInside.{HasTicketsOf};
+ghost use Rattle.swift_shared_book.specs.Shared.{BeginsTicket, HasPlayed, HasTicket, IsInRun, IsSeatOf, IsAsTaken, RunsAtSeat, after_turn, knowing, newest, seat_of};
 
 use crate::jobs::{TicketedJobs, turn};
 use crate::opened::OpenBook;
@@ -71,11 +73,52 @@ impl BookLock {
         }
     }
 
+    // Applies the turn of the job in a place in a book that was taken, and gives the book back. The jobs that the turn makes come last in
+    // the list, and their tickets in its seat.
+    fn apply_taken(
+        &self,
+        seat: &mut BookSeat,
+        mut taken: OpenBook,
+        place: &mut Option<Job<Body>>,
+        journal: &Journal,
+        exit: &Exit,
+        effects: &[Effect],
+        jobs: &mut Vec<Job<Body>>,
+        tickets: &mut BookSeat,
+    ) -> Result<(), BookFault>
+        requires untouched { IsAsTaken self.now taken.seat taken.book.value }
+        requires tickets { (tickets.old.lock ≡ self.now.id) × HasTicketsOf jobs.old.items tickets.old }
+        requires job { IsSomeAnd place.old (λ j. IsRunning j.body × (j.body.script ≡ self.now.script)) }
+        requires played { IsSomeAnd place.old (λ j. (r : RecordView) × (newest journal.now ≡ Some r) × (r.exit ≡ exit_view exit.now) × (r.effects ≡ effect_views effects.now) × HasPlayed self.now.script taken.seat.knows j r) }
+        ensures ok { OnOk result (IsSomeAnd place.old (λ j. (b' : BookView) × (b'.script ≡ taken.book.value.script)
+            × IsEndOf taken.book.value (map job_facts jobs.old.items) j (effect_views effects.now) (exit_view exit.now) b'.log b'.held (map job_facts jobs.new.items))) }
+        ensures seat { OnOk result (IfSome (newest journal.now) (λ r. seat.new ≡ seat_of self.now (after_turn r taken.seat.knows))) }
+        ensures gone { OnOk result (place.new ≡ None) }
+        ensures bodies { AllByRecursion (IsJobOf self.now.script) jobs.old.items → AllByRecursion (IsJobOf self.now.script) jobs.new.items }
+        ensures tickets { (tickets.new.lock ≡ self.now.id) × HasTicketsOf jobs.new.items tickets.new }
+        ensures err { OnErr result ((seat.new ≡ seat_of self.now taken.seat.knows) × (place.new ≡ place.old) × (jobs.new.items ≡ jobs.old.items) × (tickets.new ≡ tickets.old)) }
+        ensures refused { MatchResult result (λ _. IsSomeAnd place.old (λ j. refusal_of_apply taken.book.value.script taken.book.value.log j (effect_views effects.now) (exit_view exit.now) ≡ None))
+            (λ fault. IsSomeAnd place.old (λ j. IsRefusal (refusal_of_apply taken.book.value.script taken.book.value.log j (effect_views effects.now) (exit_view exit.now)) fault)) }
+    {
+        let before = jobs.len();
+        match taken.book.apply_in(place, exit, effects, jobs) {
+            Ok(()) => {
+                let made = jobs_from(jobs, before);
+                self.give_turn(seat, taken, journal, made, tickets);
+                Ok(())
+            }
+            Err(fault) => {
+                self.leave(seat, taken);
+                Err(fault)
+            }
+        }
+    }
+
     /// Applies the turn of the job in a place, by the seat's first ticket; the newest record of the journal is that of the turn, and
     /// comes into the seat's account (SE-0304, SE-0306). The ticket is spent. The jobs that the turn makes come behind those of the
-    /// list, with their tickets, and the place is empty. The refusals are those of `Book::apply_in`, and leave all as it was. It takes
-    /// the book once, and time and memory as `Book::apply_in` does; where jobs were taken out of the list since the last call, time
-    /// linear in those that are left.
+    /// list, with their tickets, and the place is empty. The refusals are those of `Book::apply_in`, and leave all as it was. The book is
+    /// one that the run has come to. It takes the book once, and time and memory as `Book::apply_in` does; where jobs were taken out of
+    /// the list since the last call, time linear in those that are left.
     pub fn apply<R: Wait>(
         &self,
         rt: &R,
@@ -90,30 +133,28 @@ impl BookLock {
         requires jobs { jobs.old.book ≡ self.now.id }
         requires job { IsSomeAnd place.old (λ j. IsRunning j.body × (j.body.script ≡ self.now.script)) }
         requires played { IsSomeAnd place.old (λ j. (r : RecordView) × (newest journal.now ≡ Some r) × (r.exit ≡ exit_view exit.now) × (r.effects ≡ effect_views effects.now) × HasPlayed self.now.script seat.old.knows j r) }
-        ensures ok { OnOk result (IsSomeAnd place.old (λ j. (b : BookView) × (b' : BookView) × (b.script ≡ self.now.script) × (b'.script ≡ b.script)
+        ensures ok { OnOk result (IsSomeAnd place.old (λ j. (b : BookView) × (b' : BookView) × (b.script ≡ self.now.script) × (b'.script ≡ b.script) × IsInRun seat.old.knows (facts_of b)
+            × (refusal_of_apply b.script b.log j (effect_views effects.now) (exit_view exit.now) ≡ None)
             × IsEndOf b (map job_facts jobs.old.jobs) j (effect_views effects.now) (exit_view exit.now) b'.log b'.held (map job_facts jobs.new.jobs))) }
         ensures seat { OnOk result (IfSome (newest journal.now) (λ r. seat.new ≡ knowing (after_turn r seat.old.knows) seat.old)) }
         ensures gone { OnOk result (place.new ≡ None) }
         ensures bodies { AllByRecursion (IsJobOf self.now.script) jobs.old.jobs → AllByRecursion (IsJobOf self.now.script) jobs.new.jobs }
         ensures lock { jobs.new.book ≡ jobs.old.book }
         ensures err { OnErr result ((seat.new ≡ seat.old) × (place.new ≡ place.old) × (jobs.new ≡ jobs.old)) }
-        ensures refused { MatchResult result (λ _. (b : BookView) × (b.script ≡ self.now.script) × IsSomeAnd place.old (λ j. refusal_of_apply b.script b.log j (effect_views effects.now) (exit_view exit.now) ≡ None))
-            (λ fault. (b : BookView) × (b.script ≡ self.now.script) × IsSomeAnd place.old (λ j. IsRefusal (refusal_of_apply b.script b.log j (effect_views effects.now) (exit_view exit.now)) fault)) }
+        ensures refused { IfErr result (λ fault. (b : BookView) × (b.script ≡ self.now.script) × IsInRun seat.old.knows (facts_of b) × IsSomeAnd place.old (λ j. IsRefusal (refusal_of_apply b.script b.log j (effect_views effects.now) (exit_view exit.now)) fault)) }
     {
         turn(&mut jobs.jobs, &mut jobs.is_reversed, false);
-        let before = jobs.jobs.len();
-        let mut taken = self.lock(rt, seat);
-        match taken.book.apply_in(place, exit, effects, &mut jobs.jobs) {
-            Ok(()) => {
-                let made = jobs_from(&jobs.jobs, before);
-                self.give_turn(seat, taken, journal, made, &mut jobs.seat);
-                Ok(())
-            }
-            Err(fault) => {
-                self.leave(seat, taken);
-                Err(fault)
-            }
-        }
+        let taken = self.lock(rt, seat);
+        self.apply_taken(
+            seat,
+            taken,
+            place,
+            journal,
+            exit,
+            effects,
+            &mut jobs.jobs,
+            &mut jobs.seat,
+        )
     }
 
     /// Adds the next root, by the seat that adds roots: the job of its first turn comes behind those of the list, with its ticket

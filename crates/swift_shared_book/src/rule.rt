@@ -8,7 +8,7 @@ ghost use Rattle.swift_course.specs.Views.{BookKnown, no_view};
 ghost use Rattle.swift_course.specs.Reports.{Knows};
 ghost use Rattle.swift_course.specs.Rule.{HoldsOf};
 ghost use Rattle.swift_course.specs.Seats.{account_parted, first_view, gathered, maker_left, some_left, some_parted};
-ghost use Rattle.swift_shared_book.specs.Shared.{BeginsTicket};
+ghost use Rattle.swift_shared_book.specs.Shared.{BeginsTicket, IsInRun};
 ghost use Rattle.swift_shared_book.specs.StepsInside.{KnowsRoot};
 
 use crate::lock::{Join, Lesson, LockRule, Split, UnlockOutcome};
@@ -24,11 +24,11 @@ impl LockRule<BookImage, Known> for BookRule {
     ghost first = { λ image. record { view = first_view image.facts.script } };
 }
 
-/// What a seat knows is true of the book that it takes.
+/// What a seat knows is true of the book that it takes, which is one that the run has come to.
 pub struct Finds;
 
 impl Lesson<BookImage, Known> for Finds {
-    ghost fact = { λ known image. Knows known.view image.facts };
+    ghost fact = { λ known image. Knows known.view image.facts × IsInRun known.view image.facts };
 }
 
 /// A book is given back as it was.

@@ -8,7 +8,7 @@ ghost use Rattle.swift_course.specs.Views.{Maker};
 ghost use Rattle.swift_course.specs.Reports.{Knows};
 ghost use Rattle.swift_course.specs.Seats.{account_parted, first_view, gathered, maker_left, some_left, some_parted};
 ghost use Rattle.swift_shared_book.specs.Calls.{facts_of};
-ghost use Rattle.swift_shared_book.specs.Shared.{IsSeatOf, knowing, seat_of, with_ticket};
+ghost use Rattle.swift_shared_book.specs.Shared.{IsInRun, IsSeatOf, knowing, seat_of, with_ticket};
 
 use crate::TicketedJob;
 use crate::jobs::TicketedJobs;
@@ -79,6 +79,7 @@ impl BookLock {
         ensures script { result.book.value.script ≡ self.now.script }
         ensures seat { result.seat ≡ record { lock = self.now.id; knows = seat.old.knows; taken = Some (facts_of result.book.value) } }
         ensures knows { Knows seat.old.knows (facts_of result.book.value) }
+        ensures run { IsInRun seat.old.knows (facts_of result.book.value) }
     {
         let mut taking = seat.take();
         let shelf = self.lock.lock::<Finds, R>(rt, &mut taking);

@@ -3,6 +3,7 @@ use Rattle.swift_tasks.specs.Books.{BookView}
 use Rattle.swift_shared_book.specs.Shared.{seat_of}
 use Rattle.swift_executor.specs.Ready.{HaveCounted}
 use Rattle.swift_executor.specs.Seats.{HaveSeen, IsSeatFor}
+use Rattle.swift_executor.proofs.Visits.{took_book}
 use Rattle.swift_executor.proofs.run.begin_one.Goals as goal
 
 pub start_one-begun-requires-clause-known : goal.start_one-begun-requires-clause-known
@@ -22,3 +23,12 @@ returns-in-Ok-None-clause-known g c = subst (λ s. IsSeatFor c.choose_one.new.st
 
 pub returns-in-Err-clause-known : goal.returns-in-Err-clause-known
 returns-in-Err-clause-known g c = subst (λ s. IsSeatFor c.choose_one.new.state s) (sym c.leave-in-Err.ensures) (c.choose_one.ensures.known _ c.take_book-taken.ensures.known)
+
+pub returns-in_ok-begun-in-Ok-Some-clause-taken : goal.returns-in_ok-begun-in-Ok-Some-clause-taken
+returns-in_ok-begun-in-Ok-Some-clause-taken g c = λ was. c.start_one-begun.ensures.taken (c.choose_one.ensures.taken _ (took_book c.args.held.now c.take_book-taken.new.held c.take_book-taken.ensures.same.0 c.take_book-taken.ensures.same.1 was))
+
+pub returns-in_err-begun-in-Ok-Some-clause-taken : goal.returns-in_err-begun-in-Ok-Some-clause-taken
+returns-in_err-begun-in-Ok-Some-clause-taken g c = λ was. c.start_one-begun.ensures.taken (c.choose_one.ensures.taken _ (took_book c.args.held.now c.take_book-taken.new.held c.take_book-taken.ensures.same.0 c.take_book-taken.ensures.same.1 was))
+
+pub returns-in-Err-clause-taken : goal.returns-in-Err-clause-taken
+returns-in-Err-clause-taken g c = λ was. c.choose_one.ensures.taken _ (took_book c.args.held.now c.take_book-taken.new.held c.take_book-taken.ensures.same.0 c.take_book-taken.ensures.same.1 was)

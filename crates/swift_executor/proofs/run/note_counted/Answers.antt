@@ -1,4 +1,4 @@
-use Rattle.std.proofs.Common.{ap, sym, subst}
+use Rattle.std.proofs.Common.{ap, sym, subst, ◌∙◌}
 use Rattle.swift_executor.specs.Account.{HasTaken}
 use Rattle.swift_executor.specs.Exec.{site_of}
 use Rattle.swift_executor.specs.Seats.{IsSeatFor}
@@ -18,3 +18,8 @@ returns-clause-taken c taken was = subst (HasTaken taken) (sym c.counts_from.ens
 pub returns-clause-known : goal.returns-clause-known
 returns-clause-known c seat log is saw all counted =
     subst (λ (s : ExecStateView). IsSeatFor s seat) (sym c.counts_from.ensures) (counted_knows c.args.state.now seat log c.args.events is saw all counted)
+
+pub returns-clause-given : goal.returns-clause-given
+returns-clause-given c =
+    let e = c.counts_from.ensures in
+    e ∙ ap (λ (s : ExecStateView). record c.args.state.now { ready = record c.args.state.now.ready { counted = s.ready.counted } }) (sym e)

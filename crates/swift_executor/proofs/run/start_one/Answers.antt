@@ -5,7 +5,7 @@ use Rattle.swift_executor.specs.Exec.{site_of}
 use Rattle.swift_executor.specs.Ready.{HaveCounted}
 use Rattle.swift_executor.specs.Seats.{orders_of}
 use Rattle.swift_executor.specs.State.{ExecStateView}
-use Rattle.swift_executor.proofs.Visits.{begun_in_order}
+use Rattle.swift_executor.proofs.Visits.{begun_in_order, run_fault}
 use Rattle.swift_executor.proofs.run.start_one.Goals as goal
 
 pub returns-in-Ok-clause-begun : goal.returns-in-Ok-clause-begun
@@ -24,4 +24,10 @@ returns-in-Ok-clause-known c =
     let log = c.args.taken.book.value.log in
     let all : c.len-events.result ≡ length log = search rules in
     let counted = subst (HaveCounted log) (sym (ap (λ (s : ExecStateView). s.ready.levels) c.in-Ok.ensures.ok.turn.2.same)) c.requires.counted in
-    c.note_counted.ensures.known c.start_locked.new.seat log c.start_locked.ensures.known c.in-Ok.ensures.seen all counted
+    c.note_counted.ensures.known c.start.new.seat log c.start.ensures.known c.in-Ok.ensures.seen all counted
+
+pub returns-in-Ok-clause-starts : goal.returns-in-Ok-clause-starts
+returns-in-Ok-clause-starts c = (c.start.new.self, c.in-Ok.ensures.ok, c.note_counted.ensures.given)
+
+pub returns-in-Err-clause-err : goal.returns-in-Err-clause-err
+returns-in-Err-clause-err c = run_fault _ _ c.in-Err.ensures.refused

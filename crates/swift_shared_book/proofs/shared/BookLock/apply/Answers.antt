@@ -1,70 +1,41 @@
-use Rattle.std.proofs.Common.{◌≡◌, ℕ, Bool, Some, List, length, drop, map, refl, sym, ap, ◌∙◌, subst, arith, rules}
-use Rattle.std.specs.Prelude.{IsSomeAnd, vec_len}
+use Rattle.std.proofs.Common.{◌≡◌, Bool, List, sym, ap, ◌∙◌, subst, rules}
 use Rattle.swift_interpreter.specs.Frames.{effect_views}
 use Rattle.swift_interpreter.specs.TurnStates.{exit_view}
+use Rattle.std.specs.Prelude.{IsSomeAnd, None}
 use Rattle.swift_turn.specs.Body.{BodyView}
 use Rattle.swift_job.specs.Job.{JobView}
 use Rattle.swift_course.specs.Views.{BookKnown}
-use Rattle.swift_course.specs.Seats.{gathered}
-use Rattle.swift_tasks.specs.Books.{BookView}
-use Rattle.swift_history.specs.Jobs.{job_facts}
-use Rattle.swift_shared_book.specs.Calls.{facts_of}
-use Rattle.swift_shared_book.specs.Shared.{OpenSeatView, TicketedJobsView, newest, tickets_view}
-use Rattle.swift_shared_book.specs.SharedInside.{oldest_first}
-use Rattle.swift_shared_book.specs.StepsInside.{MayGiveBack, knowing_record}
-use Rattle.swift_shared_book.proofs.RuleKept.{IsPlayedIn, applies, ends_shown, jobs_made, no_fewer, tickets_after}
-use Rattle.swift_shared_book.proofs.Shapes.{has_tickets}
+use Rattle.swift_tasks.specs.Refusals.{IsRefusal, refusal_of_apply}
+use Rattle.swift_shared_book.specs.Shared.{OpenSeatView, TicketedJobsView, newest}
+use Rattle.swift_shared_book.specs.SharedInside.{HasTicketsOf, oldest_first}
+use Rattle.swift_shared_book.proofs.RuleKept.{IsPlayedIn, ends_answered, ends_run, refused_run}
 use Rattle.swift_shared_book.proofs.shared.BookLock.apply.Goals as goal
 
-pub jobs_from-made-requires : goal.jobs_from-made-requires
-jobs_from-made-requires g c =
-    let before = c.turn.new.jobs.items in
-    let after = c.apply_in.new.jobs.items in
-    let m = jobs_made c.args.place.now c.deref_mut.result.now c.apply_in.new.self (effect_views c.args.effects.now) (exit_view c.args.exit.now) before after c.in-Ok.ensures.ok in
-    let few = no_fewer before after m.0 m.1 in
-    let old : c.len-before.result ≡ length before = search rules in
-    let new : length after ≡ vec_len c.apply_in.new.jobs = search rules in
-    omega (arith, few, old, new)
+pub apply_taken-requires-clause-played : goal.apply_taken-requires-clause-played
+apply_taken-requires-clause-played g c =
+    subst (λ (x : BookKnown). IsSomeAnd c.args.place.now (IsPlayedIn c.args.self.now.script x (newest c.args.journal.now) (effect_views c.args.effects.now) (exit_view c.args.exit.now))) (sym (ap (λ (x : OpenSeatView). x.knows) c.lock-taken.ensures.seat)) c.requires.played
 
-pub give_turn-requires-clause-gives : goal.give_turn-requires-clause-gives
-give_turn-requires-clause-gives g c =
-    let s = c.lock-taken.result.seat in
-    let b = c.deref_mut.result.now in
-    let b' = c.apply_in.new.self in
-    let is = c.lock-taken.ensures.seat in
-    let script = c.args.self.now.script in
-    let newest_one = newest c.args.journal.now in
-    let effects = effect_views c.args.effects.now in
-    let exit = exit_view c.args.exit.now in
-    let before = c.turn.new.jobs.items in
-    let after = c.apply_in.new.jobs.items in
-    let same : c.lock-taken.result.book.value ≡ b = sym c.deref_mut.ensures.value in
-    let count : c.len-before.result ≡ length before = search rules in
-    let made : drop (length before) after ≡ c.jobs_from-made.result.now = sym (c.jobs_from-made.ensures ∙ ap (λ (n : ℕ). drop n after) count) in
-    subst (λ (l : List (JobView BodyView)). MayGiveBack s.knows s.taken (facts_of b') (λ _ w. w ≡ knowing_record newest_one (map job_facts l) s.knows)) made
-    (applies c.args.place.now s.taken s.knows script b b' newest_one effects exit before after (ap (λ (x : OpenSeatView). x.taken) is ∙ ap (λ (x : BookView). Some (facts_of x)) same)
-    (ap (λ (x : BookView). x.script) (sym same) ∙ c.lock-taken.ensures.script)
-    (subst (λ (x : BookKnown). IsSomeAnd c.args.place.now (IsPlayedIn script x newest_one effects exit)) (sym (ap (λ (x : OpenSeatView). x.knows) is)) c.requires.played) c.in-Ok.ensures.refused c.in-Ok.ensures.ok
-    c.in-Ok.ensures.script)
+pub apply_taken-requires-clause-tickets : goal.apply_taken-requires-clause-tickets
+apply_taken-requires-clause-tickets g c =
+    (ap (λ (t : TicketedJobsView). t.book) c.jobs.view_is ∙ c.requires.jobs, subst (λ (l : List (JobView BodyView)). HasTicketsOf l c.jobs.inside.seat) (sym c.turn.ensures.jobs) c.jobs.invariant)
 
 pub invariant_of-jobs : goal.invariant_of-jobs
-invariant_of-jobs g c =
-    let s = c.lock-taken.result.seat in
-    let before = c.turn.new.jobs.items in
-    let after = c.apply_in.new.jobs.items in
-    let m = jobs_made c.args.place.now c.deref_mut.result.now c.apply_in.new.self (effect_views c.args.effects.now) (exit_view c.args.exit.now) before after c.in-Ok.ensures.ok in
-    let count : c.len-before.result ≡ length before = search rules in
-    let made : c.jobs_from-made.result.now ≡ drop (length before) after = c.jobs_from-made.ensures ∙ ap (λ (n : ℕ). drop n after) count in
-    let script = s.knows.script in
-    let old = c.jobs.invariant.1 in
-    has_tickets c.give_turn.new.tickets c.args.self.now (tickets_view script c.jobs_from-made.result.now) c.jobs.inside.seat.knows script old c.jobs_from-made.result.now before after c.turn.new.is_reversed c.give_turn.ensures.tickets refl
-    (c.jobs.invariant.2 ∙ ap (tickets_view old) (sym c.turn.ensures.jobs))
-    (ap (λ (l : List (JobView BodyView)). gathered (tickets_view script l) (tickets_view old before)) made ∙ tickets_after script old before after m.0 m.1) c.turn.ensures.way
+invariant_of-jobs g c = subst (λ (b : Bool). HasTicketsOf (oldest_first b c.apply_taken.new.jobs.items) c.apply_taken.new.tickets) (sym c.turn.ensures.way) c.apply_taken.ensures.tickets.1
 
-pub returns-in-Ok-clause-ok : goal.returns-in-Ok-clause-ok
-returns-in-Ok-clause-ok g c =
-    let b = c.deref_mut.result.now in
-    let same : c.lock-taken.result.book.value ≡ b = sym c.deref_mut.ensures.value in
-    ends_shown c.args.place.now c.args.self.now.script b c.apply_in.new.self (effect_views c.args.effects.now) (exit_view c.args.exit.now) c.turn.new.jobs.items c.apply_in.new.jobs.items c.args.jobs.now.jobs
-    (oldest_first c.turn.new.is_reversed c.apply_in.new.jobs.items) (ap (λ (x : BookView). x.script) (sym same) ∙ c.lock-taken.ensures.script) c.in-Ok.ensures.script (c.turn.ensures.jobs ∙ ap (λ (t : TicketedJobsView). t.jobs) c.jobs.view_is)
-    (sym (ap (λ (w : Bool). oldest_first w c.apply_in.new.jobs.items) c.turn.ensures.way)) c.in-Ok.ensures.ok
+pub returns-clause-ok : goal.returns-clause-ok
+returns-clause-ok g c =
+    let v = c.args.seat.now.knows in
+    let b = c.lock-taken.result.book.value in
+    let effects = effect_views c.args.effects.now in
+    let exit = exit_view c.args.exit.now in
+    ends_answered c.apply_taken.result _ _ _ _
+    (ends_run c.args.place.now c.args.self.now.script v b effects exit c.turn.new.jobs.items c.apply_taken.new.jobs.items c.args.jobs.now.jobs
+    (oldest_first c.turn.new.is_reversed c.apply_taken.new.jobs.items) c.lock-taken.ensures.script c.lock-taken.ensures.run
+    (c.turn.ensures.jobs ∙ ap (λ (t : TicketedJobsView). t.jobs) c.jobs.view_is)
+    (sym (ap (λ (w : Bool). oldest_first w c.apply_taken.new.jobs.items) c.turn.ensures.way)))
+    c.apply_taken.ensures.refused c.apply_taken.ensures.ok
+
+pub returns-clause-refused : goal.returns-clause-refused
+returns-clause-refused g c =
+    refused_run c.apply_taken.result c.args.self.now.script c.args.seat.now.knows c.lock-taken.result.book.value _
+    (λ b fault. IsSomeAnd c.args.place.now (λ j. IsRefusal (refusal_of_apply b.script b.log j (effect_views c.args.effects.now) (exit_view c.args.exit.now)) fault)) c.lock-taken.ensures.script c.lock-taken.ensures.run c.apply_taken.ensures.refused
