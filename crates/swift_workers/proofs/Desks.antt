@@ -7,6 +7,7 @@ use Rattle.swift_job.specs.Job.{JobView}
 use Rattle.swift_turn.specs.Body.{BodyView}
 use Rattle.swift_shared_book.specs.Tickets.{TicketedJobView}
 use Rattle.swift_executor.specs.Site.{CanRunAt, SiteView}
+use Rattle.swift_executor.specs.declared.state_name.StateImage.{StateImage}
 use Rattle.swift_executor.specs.Exec.{ExecView, DeskView, IsBookOf, IsDeskOf, after_run, has_found, has_sent}
 use Rattle.swift_executor.specs.declared.ran.VisitOutcome.{VisitOutcome}
 use Rattle.swift_executor.specs.declared.ran.VisitOutcome.TheVariants.{Turn, Busy, Nothing}
@@ -48,14 +49,14 @@ pub desk_sent : (e : ExecView) (old new : DeskView) (n : ℕ) (j : JobView BodyV
 desk_sent e old new n j is same = subst (λ (d : DeskView). IsDeskOf e d) (sym same) is
 
 -- a desk after a visit is of the same executor
-pub desk_ran : (e : ExecView) (old new : DeskView) (found : List ℕ) (ran : VisitOutcome) → IsDeskOf e old → new ≡ has_found found (after_run ran old) → IsDeskOf e new
-desk_ran e old new found (Turn task left) is same = subst (λ (d : DeskView). IsDeskOf e d) (sym same) is
-desk_ran e old new found Busy is same = subst (λ (d : DeskView). IsDeskOf e d) (sym same) is
-desk_ran e old new found (Nothing left) is same = subst (λ (d : DeskView). IsDeskOf e d) (sym same) is
+pub desk_ran : (e : ExecView) (old new : DeskView) (found : List ℕ) (moved : List StateImage) (ran : VisitOutcome) → IsDeskOf e old → new ≡ has_found found moved (after_run ran old) → IsDeskOf e new
+desk_ran e old new found moved (Turn task left) is same = subst (λ (d : DeskView). IsDeskOf e d) (sym same) is
+desk_ran e old new found moved Busy is same = subst (λ (d : DeskView). IsDeskOf e d) (sym same) is
+desk_ran e old new found moved (Nothing left) is same = subst (λ (d : DeskView). IsDeskOf e d) (sym same) is
 
 -- a desk after a refused visit is of the same executor
-pub desk_tried : (e : ExecView) (old new : DeskView) (found : List ℕ) → IsDeskOf e old → new ≡ has_found found old → IsDeskOf e new
-desk_tried e old new found is same = subst (λ (d : DeskView). IsDeskOf e d) (sym same) is
+pub desk_tried : (e : ExecView) (old new : DeskView) (found : List ℕ) (moved : List StateImage) → IsDeskOf e old → new ≡ has_found found moved old → IsDeskOf e new
+desk_tried e old new found moved is same = subst (λ (d : DeskView). IsDeskOf e d) (sym same) is
 
 each_push : (execs : List ExecView) (desks : List DeskView) (e : ExecView) (d : DeskView) → length desks ≡ length execs → Each execs desks → IsDeskOf e d → Each (execs ++ e ∷ []) (desks ++ d ∷ [])
 each_push [] [] e d many each is zero f g exec desk = subst (λ (z : ExecView). IsDeskOf z g) (same_Some e f exec) (subst (λ (z : DeskView). IsDeskOf e z) (same_Some d g desk) is)

@@ -49,7 +49,8 @@ impl From<ExecFault> for Halt {
     fn from(fault: ExecFault) -> Halt {
         match fault {
             ExecFault::Memory => Halt::Memory,
-            ExecFault::Worker | ExecFault::Full | ExecFault::Refused(_) => Halt::Executor,
+            ExecFault::Worker | ExecFault::Full | ExecFault::Refused(_) | ExecFault::Spent =>
+                Halt::Executor,
         }
     }
 }

@@ -23,7 +23,7 @@ returns-clause-desks g c =
     let desks = c.args.hand.now.desks.items in
     let lt : k < length execs = omega (arith, c.if-place-crew.false) in
     let old : IsDeskOf e c.index_mut-desk.result.now = desk_at execs desks k e c.index_mut-desk.result.now c.requires.hand.desks lt c.index-crew-place.is c.index_mut-desk.ensures.value in
-    desk_set execs desks k e c.run_one.new.desk c.requires.hand.desks lt c.index-crew-place.is (desk_ran e c.index_mut-desk.result.now c.run_one.new.desk _ c.in_ok-ran.ran old c.in_ok-ran.ensures.desk)
+    desk_set execs desks k e c.run_one.new.desk c.requires.hand.desks lt c.index-crew-place.is (desk_ran e c.index_mut-desk.result.now c.run_one.new.desk _ _ c.in_ok-ran.ran old c.in_ok-ran.ensures.desk)
 
 pub returns-in_err-ran-clause-desks : goal.returns-in_err-ran-clause-desks
 returns-in_err-ran-clause-desks g c =
@@ -33,7 +33,7 @@ returns-in_err-ran-clause-desks g c =
     let desks = c.args.hand.now.desks.items in
     let lt : k < length execs = omega (arith, c.if-place-crew.false) in
     let old : IsDeskOf e c.index_mut-desk.result.now = desk_at execs desks k e c.index_mut-desk.result.now c.requires.hand.desks lt c.index-crew-place.is c.index_mut-desk.ensures.value in
-    desk_set execs desks k e c.run_one.new.desk c.requires.hand.desks lt c.index-crew-place.is (desk_tried e c.index_mut-desk.result.now c.run_one.new.desk _ old c.in_err-ran.ensures.kept)
+    desk_set execs desks k e c.run_one.new.desk c.requires.hand.desks lt c.index-crew-place.is (desk_tried e c.index_mut-desk.result.now c.run_one.new.desk _ _ old c.in_err-ran.ensures.kept)
 
 pub returns-clause-jobs : goal.returns-clause-jobs
 returns-clause-jobs g c =
