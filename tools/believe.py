@@ -237,15 +237,15 @@ def exported_by(crate):
 
 
 def public_clauses(crate):
-    """The clauses of a library's public functions, each with its file. Public is what a `pub use` names, and what is in a public module."""
+    """The clauses of public functions, each with its file. In a library public is what a `pub use` names, and what is in a public module; in a
+    program each `pub fn`: its `main` calls them."""
     texts = dict(sources_of(crate))
     root = os.path.join(CRATES, crate, "src", "lib.rt")
-    if root not in texts:
-        return
+    is_program = root not in texts
     exported = exported_by(crate)
     modules = {name for text in texts.values() for name in re.findall(r"(?m)^\s*pub mod (\w+);", text)}
     for path, text in texts.items():
-        is_open = path == root or os.path.basename(path)[: -len(".rt")] in modules
+        is_open = is_program or path == root or os.path.basename(path)[: -len(".rt")] in modules
         impls = re.finditer(r"(?m)^(?:unsafe )?impl(?:<[^{]*?>)? (?:[\w:<>', ]+ for )?&?(?:'\w+ )?(\w+)[^{]*\{", text)
         impls = [(it.start(), closed(text, it.end() - 1), it[1], " for " in it[0]) for it in impls]
         for found in re.finditer(r"(?m)^ *(pub )?(?:const )?(?:unsafe )?fn (\w+)", text):

@@ -1,13 +1,13 @@
 //! Outcomes of orders of turns.
 
-ghost use Rattle.std.specs.Prelude.{◌≡◌, All, IfOk, IfSome, IsTrue, None};
+ghost use Rattle.std.specs.Prelude.{◌≡◌, ◌⊎◌, ◌<◌, ◌+◌, IfOk, IfSome, None};
 ghost use Rattle.std.specs.Arc.{arc_value};
-ghost use Rattle.swift_explorer.specs.Outcomes.{HasEachOutcome, IsBrokenAfter, IsOutcomeOf, NeverBreaks};
+ghost use Rattle.nuchapay.specs.Searches.{IsFound, IsRerun, IsScheduleText, IsSearchOf};
 
 use std::alloc::{AllocError, Global};
 use std::sync::Arc;
 use swift_certificate::legal;
-use swift_explorer::{Exploration, FoundOutcomes, Move, RunOutcome, found_text, schedule_report};
+use swift_explorer::{Exploration, FoundOutcomes, Move, found_text, schedule_report};
 use swift_report::report_text;
 use swift_script::{Script, read};
 use swift_tool::ToolFault;
@@ -33,10 +33,7 @@ fn search_all(
     script: &Arc<Script>,
     limit: usize,
 ) -> Result<FoundOutcomes, AllocError>
-    ensures outcomes { IfOk result (λ found. All (IsOutcomeOf (arc_value script.now)) found.outcomes.items) }
-    ensures broken { IfOk result (λ found. IfSome found.broken (λ schedule. IsBrokenAfter (arc_value script.now) schedule.items)) }
-    ensures all { IfOk result (λ found. IsTrue found.is_complete → HasEachOutcome (arc_value script.now) found.outcomes.items) }
-    ensures unbroken { IfOk result (λ found. IsTrue found.is_complete → found.broken ≡ None → NeverBreaks (arc_value script.now)) }
+    ensures { IfOk result (IsFound (arc_value script.now) limit) }
 {
     let mut search = Exploration::new(rt.alloc(), script, limit)?.advance(PART)?;
     'parts: while search.to_go() > 0 {
@@ -48,7 +45,9 @@ fn search_all(
 
 /// What a search of the histories of a script has found, of which at most `limit` are kept. How far it is, it says on standard error now
 /// and then.
-pub fn outcomes_text(rt: &HostRuntime, text: &[u8], limit: u32) -> Result<Vec<u8>, ToolFault> {
+pub fn outcomes_text(rt: &HostRuntime, text: &[u8], limit: u32) -> Result<Vec<u8>, ToolFault>
+    ensures { IfOk result (λ said. IsSearchOf text.now limit said.items) }
+{
     let alloc = rt.alloc();
     let script = Arc::new(alloc, read(alloc, text)?)?;
     let found = search_all(rt, &script, limit as usize)?;
@@ -66,11 +65,9 @@ pub enum Rerun {
 }
 
 // The report of a schedule, as a text. Only a legal report has one.
-fn legal_text(
-    alloc: Global,
-    script: &Arc<Script>,
-    schedule: &[Move],
-) -> Result<Vec<u8>, ToolFault> {
+fn legal_text(alloc: Global, script: &Arc<Script>, schedule: &[Move]) -> Result<Vec<u8>, ToolFault>
+    ensures { IfOk result (λ said. IsScheduleText (arc_value script.now) schedule.now said.items) }
+{
     let Some(report) = schedule_report(alloc, script, schedule)? else {
         return Err(ToolFault::Run(RunFault::Unfinished));
     };
@@ -81,9 +78,15 @@ fn legal_text(
     Ok(said)
 }
 
-// The outcome of this number, from 1.
-fn outcome_at(outcomes: &[RunOutcome], number: u32) -> Option<&RunOutcome> {
-    outcomes.get((number as usize).checked_sub(1)?)
+// The place of the outcome with this number, from 1, where there are so many.
+fn place_of(many: usize, number: u32) -> Option<usize>
+    ensures some { IfSome result (λ place. (place < many) × (place + 1 ≡ number)) }
+    ensures none { result ≡ None → (number ≡ 0) ⊎ (many < number) }
+{
+    if number == 0 || number as usize > many {
+        return None;
+    }
+    Some(number as usize - 1)
 }
 
 /// Searches as `outcomes_text` does, and runs the schedule of one of the outcomes again, by its number from 1. Its report is followed by
@@ -93,12 +96,15 @@ pub fn rerun_text(
     text: &[u8],
     limit: u32,
     outcome: u32,
-) -> Result<Rerun, ToolFault> {
+) -> Result<Rerun, ToolFault>
+    ensures { IfOk result (IsRerun text.now limit outcome) }
+{
     let alloc = rt.alloc();
     let script = Arc::new(alloc, read(alloc, text)?)?;
     let found = search_all(rt, &script, limit as usize)?;
-    match outcome_at(&found.outcomes, outcome) {
-        Some(outcome) => Ok(Rerun::Report(legal_text(alloc, &script, &outcome.schedule)?)),
-        None => Ok(Rerun::Nowhere(found.outcomes.len())),
-    }
+    let Some(place) = place_of(found.outcomes.len(), outcome) else {
+        return Ok(Rerun::Nowhere(found.outcomes.len()));
+    };
+    let said = legal_text(alloc, &script, &found.outcomes[place].schedule)?;
+    Ok(Rerun::Report(said))
 }
