@@ -12,6 +12,7 @@ run_of bytes script report quiet well is ended = record {
   report = report;
   accepted = is.accepted;
   legal = is.legal;
+  whole = is.whole;
   replayed = is.replayed;
   journals = is.journals;
   checkpoints = is.checkpoints;

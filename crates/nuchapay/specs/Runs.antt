@@ -3,6 +3,7 @@ use Rattle.std.specs.Prelude.{◌≡◌, ℕ, Bool, false, List, length}
 use Rattle.swift_script.specs.Accepted.{IsAccepted}
 use Rattle.swift_script.specs.Scripts.{ScriptView, executor_count, root_count}
 use Rattle.swift_history.specs.Orderly.{IsOrderlyLegal}
+use Rattle.swift_course.specs.Whole.{HasWhole}
 use Rattle.swift_certificate.specs.Reports.{report_view}
 use Rattle.swift_report.specs.declared.report.Report.{Report}
 use Rattle.swift_workers.specs.Leaves.{AreEndings, AreReplayed}
@@ -13,6 +14,7 @@ use Rattle.nuchapay_runs.specs.Notes.{IsAnnotated}
 pub record IsReportOf (bytes : List ℕ) (script : ScriptView) (report : Report) : Type 0 where
   pub accepted : IsAccepted bytes script
   pub legal : IsOrderlyLegal script (report_view report)
+  pub whole : HasWhole script (report_view report)
   pub replayed : AreReplayed script 0 report.checkpoints.items report.journals.items report.fields.items
   pub journals : length report.journals.items ≡ executor_count script
   pub checkpoints : length report.checkpoints.items ≡ executor_count script

@@ -3,6 +3,7 @@ use Rattle.std.specs.Arc.{arc_value}
 use Rattle.swift_script.specs.Accepted.{IsAccepted}
 use Rattle.swift_script.specs.Scripts.{ScriptView, executor_count, root_count}
 use Rattle.swift_history.specs.Orderly.{IsOrderlyLegal}
+use Rattle.swift_course.specs.Whole.{HasWhole}
 use Rattle.swift_certificate.specs.Reports.{report_view}
 use Rattle.swift_workers.specs.Leaves.{AreEndings, AreReplayed, KeepInvariants}
 use Rattle.swift_tool.specs.Run.{HoldInvariants}
@@ -17,6 +18,7 @@ returns g c =
     record {
       accepted = subst (IsAccepted c.args.text.now) (sym made) c.in_ok-found.ensures.found;
       legal = subst (λ (p : ScriptView). IsOrderlyLegal p (report_view report)) same c.in_ok-report.ensures.orderly;
+      whole = subst (λ (p : ScriptView). HasWhole p (report_view report)) same c.in_ok-report.ensures.whole;
       replayed = subst (λ (p : ScriptView). AreReplayed p 0 report.checkpoints.items report.journals.items report.fields.items) same c.in_ok-report.ensures.lawful;
       journals = c.in_ok-report.ensures.journals ∙ ap executor_count same;
       checkpoints = c.in_ok-report.ensures.checkpoints ∙ ap executor_count same;
