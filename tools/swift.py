@@ -1,18 +1,20 @@
 #!/usr/bin/env python3
-"""Compiles what `nuchapay swift` prints for each script of examples/, runs it, and looks whether what it prints may come of the script.
+"""Compiles what `nuchapay swift` prints for each script of examples/ and those of examples/nuchapay whose names begin with swift, runs it,
+and looks whether what it prints may come of the script, and whether the compiler warns of nothing.
 
     tools/swift.py NUCHAPAY [NAME..] [--runs N] [--limit STATES] [--table]
 
 The compiler is the `swiftc` on the PATH, or that of another system whose root folder SWIFT_ROOT names; where there is none, it says so and
 ends with status 0. Each program runs N times (100), with Swift's own runtime on all cores. What it prints is compared with all outcomes
 of the script where an executor may take any of its jobs next: Swift's executors keep their jobs in other orders than ours (8 and 9 in the
-list at the head of each program). tools/outcomes.py lists them by brute force, independently of the runtime; beside their number stands
-that of those that runs of this repository can have. Where there are more than STATES states (100,000), what is printed is compared with
-the second list, or with what `nuchapay run --quiet` printed in 40 runs on 1, 2, 4 and 8 workers, and the row says so.
+list at the head of each program), and of one script the results of a group may come later, too (10). tools/outcomes.py lists them by brute
+force, independently of the runtime; beside their number stands that of those that runs of this repository can have. Where there are more
+than STATES states (100,000), what is printed is compared with the second list, or with what `nuchapay run --quiet` printed in 40 runs on
+1, 2, 4 and 8 workers, and the row says so.
 
 Swift undoes nothing. So a run in which an invariant did not hold after a turn, or an overflow ended one, is counted apart: it is beside
-the rules from there on. With --table it prints a table, of which that in docs/SWIFT.md is made. Status 1 where a program was not compiled, a run
-did not end, or an outcome is none of those that are allowed.
+the rules from there on. With --table it prints a table, of which that in docs/SWIFT.md is made. Status 1 where a program was not compiled,
+or with a warning, a run did not end, or an outcome is none of those that are allowed.
 """
 from __future__ import annotations
 
@@ -33,9 +35,9 @@ ROOT = os.environ.get("SWIFT_ROOT", "")
 # Where the programs are built, inside SWIFT_ROOT or here.
 INSIDE = "/tmp/nuchapay_swift"
 ENTER = ["chroot", ROOT, "env", "LD_LIBRARY_PATH=/usr/libexec/swift/lib/swift/linux"] if ROOT else []
-# Scripts that are compiled and not run, with the reason.
-NOT_RUN = {"depth": "not run: Swift has no limit on frames, so the method calls itself until the memory ends"}
 SECONDS = 20
+# The script whose outcomes a script may have, too: there its children end after they have left the actor that they work on (10 in the list).
+LATE = {"swift_results": "swift_results_late"}
 
 
 def compile_swift(name: str, text: str) -> tuple[list[str], str]:
@@ -130,8 +132,6 @@ class Row:
             notes.append(f"{self.beside} runs with an invariant that did not hold, or an overflow")
         if outside:
             notes.append(f"{outside} runs with another outcome")
-        if self.name in NOT_RUN:
-            notes.append(NOT_RUN[self.name])
         if not self.is_whole:
             notes.append("not all outcomes are listed")
         own = "too many" if self.own is None else str(len(self.own))
@@ -146,17 +146,19 @@ def look(program: str, script: str, runs: int, limit: int) -> Row:
         row.problem = f"`nuchapay swift` ends with {printed.returncode}: {printed.stderr}"
         return row
     words, said = compile_swift(row.name, printed.stdout)
-    if not words:
-        row.problem = f"not compiled: {said}"
+    if not words or "warning:" in said:
+        row.problem = f"{'compiled with a warning' if words else 'not compiled'}: {said}"
         return row
     with open(script, encoding="ascii") as file:
         source = file.read()
     row.own = listed(source, limit)
     every = of_any_job(source, limit)
+    if every is not None and row.name in LATE:
+        with open(script.replace(row.name, LATE[row.name]), encoding="ascii") as file:
+            late = of_any_job(file.read(), limit)
+        every = None if late is None else every | late
     row.is_whole = every is not None
     row.allowed = every if every is not None else row.own if row.own is not None else of_runs(program, script)
-    if row.name in NOT_RUN:
-        return row
     for _ in range(runs):
         try:
             done = subprocess.run(words, capture_output=True, text=True, timeout=SECONDS, check=False)
@@ -171,6 +173,11 @@ def look(program: str, script: str, runs: int, limit: int) -> Row:
         else:
             row.seen[done.stdout] += 1
     return row
+
+
+def scripts() -> list[str]:
+    """The scripts whose programs are tried."""
+    return [script for at in ("*.actors", "nuchapay/swift_*.actors") for script in sorted(glob.glob(os.path.join(TOP, "examples", at)))]
 
 
 def main() -> None:
@@ -188,7 +195,7 @@ def main() -> None:
     is_well = True
     if given.table:
         print("| Script | Outcomes allowed | Of these ours | Of these seen | Notes |\n|---|---|---|---|---|")
-    for script in sorted(glob.glob(os.path.join(TOP, "examples", "*.actors"))):
+    for script in scripts():
         if given.names and os.path.basename(script).removesuffix(".actors") not in given.names:
             continue
         row = look(program, script, given.runs, given.limit)

@@ -31,6 +31,10 @@ is_plain_value w = not (begins_upper w) && (not (begins_with 118 w) && (not (beg
 abbrev pub is_plain_type : List ℕ → Bool
 is_plain_type w = begins_upper w && (not (begins_with 84 w) && not (is_type_word w))
 
+-- Whether an executor or a task local keeps its name: it does not begin with `v_`, and is no word and no type of the program.
+abbrev pub is_plain_member : List ℕ → Bool
+is_plain_member w = not (begins_with 118 w) && (not (is_value_word w) && not (is_type_word w))
+
 -- a name, or the same after a prefix
 abbrev pub spelled : Bool → List ℕ → List ℕ → List ℕ
 spelled true prefix w = w
@@ -40,9 +44,13 @@ spelled false prefix w = prefix ++ w
 abbrev pub type_name : List ℕ → List ℕ
 type_name w = spelled (is_plain_type w) (codes "T_") w
 
--- a field, a parameter or a variable in Swift: its name, or the same after `v_` where it is not plain
+-- a field, a parameter, a variable or a root in Swift: its name, or the same after `v_` where it is not plain
 abbrev pub value_name : List ℕ → List ℕ
 value_name w = spelled (is_plain_value w) (codes "v_") w
+
+-- an executor or a task local in Swift: its name, or the same after `v_` where it is not plain
+abbrev pub member_name : List ℕ → List ℕ
+member_name w = spelled (is_plain_member w) (codes "v_") w
 
 -- whether an actor has a field of this name
 abbrev pub has_field : ActorTree → List ℕ → Bool

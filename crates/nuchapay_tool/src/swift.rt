@@ -4,8 +4,12 @@
 mod actor;
 // Calls, what is waited for, and tasks that are made.
 mod call;
+// Whether calls can go as deep as a task has frames.
+mod depth;
 // Expressions.
 mod expression;
+// What statements do with a name, and where they end.
+mod flow;
 // What holds of the definitions.
 mod laws;
 // Lines of a Swift program.

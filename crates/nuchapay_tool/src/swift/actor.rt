@@ -6,9 +6,11 @@ ghost use Rattle.nuchapay_tool.specs.Names as names;
 ghost use Rattle.nuchapay_tool.specs.Outline.{actor_for, actor_in, method_for, method_in};
 
 use crate::swift::expression::say_test;
+use crate::swift::flow::{Use, ends};
 use crate::swift::page::SwiftPage;
+use crate::swift::prelude::Difference;
 use crate::swift::program::{SwiftActor, SwiftMethod};
-use crate::swift::scope::{MethodScope, assigns, ends_with_exit, has_invariant, is_together};
+use crate::swift::scope::{Handle, MethodScope, has_invariant, is_together};
 use crate::swift::statement::say_stmts;
 use crate::swift::words::{
     is_same, method_name, say_member, say_type, say_value, type_name, value_name,
@@ -40,7 +42,7 @@ fn say_field(page: &mut SwiftPage, field: &Field) {
 
 fn say_invariant(page: &mut SwiftPage, scope: &MethodScope<'_>, test: &Expr) {
     page.end("");
-    page.line("// see 5");
+    page.see(Difference::NotUndone);
     page.begin();
     page.open("func invariantHolds() throws -> Bool {");
     page.begin();
@@ -103,14 +105,19 @@ fn members(alloc: Global, decls: &[Decl], actor: &Actor) -> Result<Vec<u8>, Allo
     page.into_text()
 }
 
-// A parameter that the method sets is a variable.
-fn say_variable(page: &mut SwiftPage, param: &Name) {
-    page.begin();
-    page.say("var ");
-    say_value(page, param);
-    page.say(" = ");
-    say_value(page, param);
-    page.end("")
+// A parameter that the method sets is a variable, unless it is never read.
+fn say_param<'a>(page: &mut SwiftPage, scope: &mut MethodScope<'a>, param: &'a Name) {
+    if !scope.is_used(Use::Read, param) {
+        return page.need(scope.know(param, Handle::Unread));
+    }
+    if scope.is_used(Use::Set, param) {
+        page.begin();
+        page.say("var ");
+        say_value(page, param);
+        page.say(" = ");
+        say_value(page, param);
+        page.end("")
+    }
 }
 
 // The lines of a method's body.
@@ -119,20 +126,23 @@ fn body(
     decls: &[Decl],
     actor: &Actor,
     method: &Method,
+    is_counted: bool,
 ) -> Result<Vec<u8>, AllocError> {
     let is_checked = has_invariant(decls, actor);
     let mut page = SwiftPage::new(alloc, 2);
+    let mut scope = MethodScope::new(alloc, decls, actor, &method.body, is_checked);
     for param in &method.params {
-        if assigns(&method.body, param) {
-            say_variable(&mut page, param);
-        }
+        say_param(&mut page, &mut scope, param);
+    }
+    if is_counted {
+        page.line("try Run.beginMethod()");
+        page.line("defer { Run.endMethod() }");
     }
     if is_checked {
         page.line("defer { turnEnds() }");
     }
-    let mut scope = MethodScope::new(alloc, decls, actor, &method.body, is_checked);
     say_stmts(&mut page, &mut scope, &method.body);
-    if !ends_with_exit(&method.body) {
+    if !ends(scope.place(), &method.body) {
         page.line("return 0");
     }
     page.into_text()
@@ -153,36 +163,43 @@ fn swift_method(
     decls: &[Decl],
     actor: &Actor,
     method: &Method,
+    is_counted: bool,
 ) -> Result<SwiftMethod, AllocError>
     ensures { IfOk result (λ said. method_in said ≡ method_for (view_actor actor.now) (view_method method.now)) }
 {
     let name = method_name(alloc, actor, &method.name)?;
     let params = params(alloc, &method.params)?;
-    let body = body(alloc, decls, actor, method)?;
+    let body = body(alloc, decls, actor, method, is_counted)?;
     Ok(SwiftMethod { name, params, body })
 }
 
-fn methods(alloc: Global, decls: &[Decl], actor: &Actor) -> Result<Vec<SwiftMethod>, AllocError>
+fn methods(
+    alloc: Global,
+    decls: &[Decl],
+    actor: &Actor,
+    is_counted: bool,
+) -> Result<Vec<SwiftMethod>, AllocError>
     ensures { IfOk result (λ said. map method_in said.items ≡ map (method_for (view_actor actor.now)) (map view_method actor.now.methods.items)) }
 {
     let mut methods = Vec::new(alloc);
     for method in &actor.methods {
-        methods.push(swift_method(alloc, decls, actor, method)?)?;
+        methods.push(swift_method(alloc, decls, actor, method, is_counted)?)?;
     }
     Ok(methods)
 }
 
-/// The Swift actor of one of the script.
+/// The Swift actor of one of the script, whose methods are counted while they are under way, or not.
 pub(crate) fn swift_actor(
     alloc: Global,
     decls: &[Decl],
     actor: &Actor,
+    is_counted: bool,
 ) -> Result<SwiftActor, AllocError>
     ensures { IfOk result (λ said. actor_in said ≡ actor_for (view_actor actor.now)) }
 {
     let name = type_name(alloc, &actor.name)?;
     let members = members(alloc, decls, actor)?;
-    let methods = methods(alloc, decls, actor)?;
+    let methods = methods(alloc, decls, actor, is_counted)?;
     Ok(SwiftActor {
         name,
         members,

@@ -1,9 +1,10 @@
 //! Calls, what is waited for, and tasks that are made.
 
-use crate::swift::expression::{may_throw, say_number, say_tried, say_try};
+use crate::swift::expression::{is_literal, may_throw, say_number, say_tried};
 use crate::swift::page::SwiftPage;
-use crate::swift::scope::{Handle, MethodScope, find_actor};
-use crate::swift::words::{say_member, say_method, say_type, say_value};
+use crate::swift::prelude::Difference;
+use crate::swift::scope::{Handle, MethodScope, find_actor, is_together};
+use crate::swift::words::{say_method, say_type, say_value};
 use script_grammar::{Add, Awaited, Call, Decl, Expr, Make, Name, Wait};
 use swift_types::Priority;
 
@@ -62,8 +63,24 @@ fn say_kept_call(page: &mut SwiftPage, scope: &MethodScope<'_>, call: &Call) {
     page.say(")")
 }
 
+// A wait that does not suspend where this is so already.
+fn see_wait(page: &mut SwiftPage, scope: &MethodScope<'_>, awaited: &Awaited) {
+    match awaited {
+        Awaited::Call(call) => match find_actor(scope.decls, &call.actor) {
+            Some(actor) if is_together(actor, scope.actor) => page.see(Difference::NoSuspension),
+            _ => {}
+        },
+        Awaited::Task(_) => page.see(Difference::NoSuspension),
+        Awaited::Next(_) => {
+            page.see(Difference::NoSuspension);
+            page.see(Difference::LateEnds);
+        }
+    }
+}
+
 /// What is waited for, after `try await`.
 pub(crate) fn say_awaited(page: &mut SwiftPage, scope: &MethodScope<'_>, awaited: &Awaited) {
+    see_wait(page, scope, awaited);
     match awaited {
         Awaited::Call(call) => say_call(page, scope, call),
         Awaited::Task(name) => {
@@ -81,7 +98,10 @@ pub(crate) fn say_awaited(page: &mut SwiftPage, scope: &MethodScope<'_>, awaited
 /// What is waited for, after `try await`, where arguments that can overflow were computed before.
 pub(crate) fn say_awaited_later(page: &mut SwiftPage, scope: &MethodScope<'_>, awaited: &Awaited) {
     match awaited {
-        Awaited::Call(call) if can_overflow(&call.args) => say_kept_call(page, scope, call),
+        Awaited::Call(call) if can_overflow(&call.args) => {
+            see_wait(page, scope, awaited);
+            say_kept_call(page, scope, call)
+        }
         _ => say_awaited(page, scope, awaited),
     }
 }
@@ -117,7 +137,7 @@ pub(crate) fn say_task(page: &mut SwiftPage, scope: &MethodScope<'_>, name: &Nam
         Some(Handle::Task) => say_value(page, name),
         _ => {
             page.say("Root.");
-            say_member(page, name)
+            say_value(page, name)
         }
     }
 }
@@ -143,47 +163,31 @@ fn say_argument(page: &mut SwiftPage, scope: &MethodScope<'_>, arg: &Expr) {
     }
 }
 
-fn is_literal(expr: &Expr) -> bool {
-    match expr {
-        Expr::Number(_) => true,
-        Expr::Negate(operand) => match &**operand {
-            Expr::Number(_) => true,
-            _ => false,
-        },
-        _ => false,
-    }
-}
-
-// What a closure takes along: the arguments, and the number of the task where it is given here.
-fn say_list(page: &mut SwiftPage, scope: &MethodScope<'_>, args: &[Expr], made: &'static str) {
-    if args.is_empty() && made.is_empty() {
-        return;
-    }
+// What a closure takes along: the arguments, and then the number of its task.
+fn say_list(page: &mut SwiftPage, scope: &MethodScope<'_>, args: &[Expr], origin: &'static str) {
     page.say(" [");
     for (index, arg) in args.iter().enumerate() {
-        say_comma(page, index);
         say_kept(page, index);
         page.say(" = ");
         say_argument(page, scope, arg);
+        page.say(", ");
     }
-    if !made.is_empty() {
-        say_comma(page, args.len());
-        page.say(made);
-    }
-    page.say("]")
+    page.say("m_task = Run.made(");
+    page.say(origin);
+    page.say(")]")
 }
 
 // The closure of a task, from its actor on.
-fn say_closure(page: &mut SwiftPage, scope: &MethodScope<'_>, call: &Call, made: &'static str) {
+fn say_closure(page: &mut SwiftPage, scope: &MethodScope<'_>, call: &Call, origin: &'static str) {
+    page.see(Difference::AtOnce);
     page.say(" { @Sendable @");
     say_type(page, &call.actor);
-    say_list(page, scope, &call.args, made);
+    say_list(page, scope, &call.args, origin);
     page.open(" in");
     page.begin();
     page.say("try await Run.noted(m_task) { try await ");
     say_kept_call(page, scope, call);
-    page.end(" }");
-    page.close("}")
+    page.end(" }")
 }
 
 // The priority that was given, if one was.
@@ -202,42 +206,36 @@ fn say_given(page: &mut SwiftPage, given: Option<Priority>) {
 pub(crate) fn say_make(page: &mut SwiftPage, scope: &MethodScope<'_>, make: &Make) {
     match make {
         Make::Spawn(call, given) => {
+            if given.is_none() {
+                page.see(Difference::FirstPriority);
+            }
             page.say("Task");
             say_given(page, *given);
-            say_closure(page, scope, call, "m_task = Run.made(.spawned)")
+            say_closure(page, scope, call, ".spawned")
         }
         Make::Detach(call, given) => {
             page.say("Task.detached");
             say_given(page, Some(*given));
-            say_closure(page, scope, call, "m_task = Run.made(.detached)")
+            say_closure(page, scope, call, ".detached")
         }
     }
+    page.close("}")
 }
 
-/// A child of a group.
+/// A child of a group. One that is left out where the group is cancelled gives its number back.
 pub(crate) fn say_add(page: &mut SwiftPage, scope: &MethodScope<'_>, add: &Add) {
     if add.priority.is_some() {
-        page.line("// see 4");
+        page.see(Difference::ChildPriority);
     }
     page.begin();
-    if add.unless {
-        say_unless(page, scope, add)
-    } else {
-        say_value(page, &add.group);
-        page.say(".addTask");
-        say_given(page, add.priority);
-        say_closure(page, scope, &add.call, "m_task = Run.made(.child)")
-    }
-}
-
-// A child that is left out where the group is cancelled. Its number is given before, and then taken back.
-fn say_unless(page: &mut SwiftPage, scope: &MethodScope<'_>, add: &Add) {
-    say_try(page, can_overflow(&add.call.args));
-    page.open("Run.addUnless { m_task in");
-    page.begin();
+    page.say(if add.unless { "Run.added(" } else { "" });
     say_value(page, &add.group);
-    page.say(".addTaskUnlessCancelled");
+    page.say(if add.unless {
+        ".addTaskUnlessCancelled"
+    } else {
+        ".addTask"
+    });
     say_given(page, add.priority);
-    say_closure(page, scope, &add.call, "");
-    page.close("}")
+    say_closure(page, scope, &add.call, ".child");
+    page.close(if add.unless { "})" } else { "}" })
 }

@@ -1,6 +1,7 @@
 //! Expressions.
 
 use crate::swift::page::SwiftPage;
+use crate::swift::prelude::Difference;
 use crate::swift::scope::MethodScope;
 use crate::swift::words::{say_member, say_value};
 use script_grammar::{Expr, Name};
@@ -95,11 +96,35 @@ fn is_test(expr: &Expr) -> bool {
     }
 }
 
+/// Whether an expression is a number that the script spells.
+pub(crate) fn is_literal(expr: &Expr) -> bool {
+    match expr {
+        Expr::Number(_) => true,
+        Expr::Negate(operand) => match &**operand {
+            Expr::Number(_) => true,
+            _ => false,
+        },
+        _ => false,
+    }
+}
+
+// Whether a test is one of numbers that the script spells. Swift warns where it sees that a branch never runs, so the test is a call.
+fn is_known(expr: &Expr) -> bool {
+    match expr {
+        Expr::Not(operand) => is_literal(operand),
+        Expr::Binary(Operator::And | Operator::Or, _, _) => false,
+        Expr::Binary(_, left, right) => is_literal(left) && is_literal(right),
+        _ => false,
+    }
+}
+
 // What stands around an expression where a part that holds so tightly is wanted.
 fn frame(expr: &Expr, want: Want, level: u8) -> (&'static str, &'static str) {
     let (is, holds) = kind(expr);
     match (want, is) {
         (Want::Number, Want::Test) => ("Run.number(", ")"),
+        (Want::Test, Want::Number) if is_literal(expr) => ("Run.holds(", " != 0)"),
+        (Want::Test, Want::Test) if is_known(expr) => ("Run.holds(", ")"),
         (Want::Test, Want::Number) if level > COMPARED => ("(", " != 0)"),
         (Want::Test, Want::Number) => ("", " != 0"),
         _ if level > holds => ("(", ")"),
@@ -114,6 +139,12 @@ fn say_name(page: &mut SwiftPage, scope: &MethodScope<'_>, name: &Name) {
     say_value(page, name)
 }
 
+// What a task asks of itself.
+fn say_own(page: &mut SwiftPage, word: &str) {
+    page.see(Difference::AtThatMoment);
+    page.say(word)
+}
+
 fn say_expr(page: &mut SwiftPage, scope: &MethodScope<'_>, expr: &Expr, want: Want, level: u8) {
     let (before, after) = frame(expr, want, level);
     page.say(before);
@@ -124,8 +155,8 @@ fn say_expr(page: &mut SwiftPage, scope: &MethodScope<'_>, expr: &Expr, want: Wa
             page.say("Local.");
             say_member(page, name);
         }
-        Expr::Priority => page.say("Run.priority"),
-        Expr::Cancelled => page.say("Run.cancelled"),
+        Expr::Priority => say_own(page, "Run.priority"),
+        Expr::Cancelled => say_own(page, "Run.cancelled"),
         Expr::Negate(operand) => {
             page.say(minus(operand));
             say_expr(page, scope, operand, Want::Number, ATOM);

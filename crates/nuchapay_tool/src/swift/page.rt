@@ -1,11 +1,16 @@
 //! Lines of a Swift program, with their indentation.
 
+ghost use Rattle.nuchapay_tool.specs.Lines.{GoesOn};
+
+use crate::swift::prelude::{DIFFERENCES, Difference};
 use std::alloc::{AllocError, Global};
 
 /// Lines that are being written. Where memory runs out they end there, and `into_text` says so: who writes them asks at the end alone.
 pub(crate) struct SwiftPage {
     text: Vec<u8>,
     depth: usize,
+    // What Swift does otherwise on the line that is being written.
+    notes: Vec<Difference>,
     is_cut: bool,
 }
 
@@ -14,9 +19,11 @@ impl Drop for SwiftPage {
         let SwiftPage {
             text,
             depth: _,
+            notes,
             is_cut: _,
         } = self;
         drop(text);
+        drop(notes);
     }
 }
 
@@ -26,6 +33,7 @@ impl SwiftPage {
         SwiftPage {
             text: Vec::new(alloc),
             depth,
+            notes: Vec::new(alloc),
             is_cut: false,
         }
     }
@@ -35,8 +43,10 @@ impl SwiftPage {
         let SwiftPage {
             text,
             depth: _,
+            notes,
             is_cut,
         } = self;
+        drop(notes);
         if is_cut { Err(AllocError) } else { Ok(text) }
     }
 
@@ -60,10 +70,11 @@ impl SwiftPage {
     }
 
     /// Goes on with a line, by the bytes of a name.
-    pub(crate) fn say_bytes(&mut self, bytes: &[u8]) {
-        if !self.is_cut {
-            let done = self.text.extend_from_slice(bytes);
-            self.need(done);
+    pub(crate) fn say_bytes(&mut self, bytes: &[u8])
+        ensures { GoesOn self.old self.new bytes.now }
+    {
+        if !self.is_cut && self.text.extend_from_slice(bytes).is_err() {
+            self.is_cut = true;
         }
     }
 
@@ -87,9 +98,42 @@ impl SwiftPage {
         }
     }
 
+    /// Notes that Swift does otherwise on this line. Its end says so.
+    pub(crate) fn see(&mut self, difference: Difference) {
+        if !self.is_cut && self.notes.push(difference).is_err() {
+            self.is_cut = true;
+        }
+    }
+
+    // Whether this was noted on this line.
+    fn is_noted(&self, number: usize) -> bool {
+        for note in &self.notes {
+            if note.number() == number {
+                return true;
+            }
+        }
+        false
+    }
+
+    // The numbers of what was noted on this line, in order.
+    fn say_notes(&mut self) {
+        let mut before = " // see ";
+        for number in 1..=DIFFERENCES {
+            if self.is_noted(number) {
+                self.say(before);
+                self.say_count(number);
+                before = ", ";
+            }
+        }
+        self.notes.clear();
+    }
+
     /// Ends a line.
     pub(crate) fn end(&mut self, words: &str) {
         self.say(words);
+        if !self.notes.is_empty() {
+            self.say_notes();
+        }
         self.say("\n")
     }
 

@@ -1,10 +1,54 @@
 //! What is the same in each program.
 
+/// Where Swift does otherwise, in the order of the list at the head of a program.
+#[derive(Clone, Copy)]
+pub(crate) enum Difference {
+    /// What a turn does to tasks and groups is done at once.
+    AtOnce,
+    /// What is asked of the own task is so at that moment.
+    AtThatMoment,
+    /// A spawned task has its maker's first priority.
+    FirstPriority,
+    /// A child is not more urgent than its owner.
+    ChildPriority,
+    /// Nothing is undone.
+    NotUndone,
+    /// Another executor's actor has no fields here.
+    Isolation,
+    /// What does not suspend.
+    NoSuspension,
+    /// A task that gives way goes through Swift's pool.
+    ThroughThePool,
+    /// A task ends after it has left its actor.
+    LateEnds,
+}
+
+/// How many entries the list has.
+pub(crate) const DIFFERENCES: usize = 10;
+
+impl Difference {
+    /// Its number in the list. The seventh, that there are no limits, stands at no line.
+    pub(crate) fn number(self) -> usize {
+        match self {
+            Difference::AtOnce => 1,
+            Difference::AtThatMoment => 2,
+            Difference::FirstPriority => 3,
+            Difference::ChildPriority => 4,
+            Difference::NotUndone => 5,
+            Difference::Isolation => 6,
+            Difference::NoSuspension => 8,
+            Difference::ThroughThePool => 9,
+            Difference::LateEnds => 10,
+        }
+    }
+}
+
 /// What stands before the rest: where Swift does otherwise.
-pub(crate) const NOTES: [&str; 17] = [
+pub(crate) const NOTES: [&str; 22] = [
     "// The same protocol as a Swift program, for Swift's own runtime: swiftc -swift-version 6 -parse-as-library FILE",
     "//",
-    "// What Swift does otherwise than `nuchapay run`, by the numbers that stand below where it matters:",
+    "// What Swift does otherwise than `nuchapay run`. The numbers stand below at the lines where it may matter; but 7 stands at none, and 5",
+    "// only at invariants, though each +!, -! and *! may overflow.",
     "// 1. What a turn does to tasks and groups is done at once, and not at the turn's end: a task may begin before its maker's turn has",
     "//    ended, and stays made where that turn ends with a fault. Tasks are numbered as they are made.",
     "// 2. `cancelled`, `check` and `priority` tell what is so at that moment, and not what was so when the turn began.",
@@ -13,20 +57,24 @@ pub(crate) const NOTES: [&str; 17] = [
     "// 5. Nothing is undone. Where an invariant does not hold after a turn, a line on standard error says so, and the task goes on.",
     "//    A turn that ends with `overflow` keeps what it did before.",
     "// 6. Actors of other executors have no fields here: Swift would end the process, and this is the fault `isolation`.",
-    "// 7. There is no limit on steps, turns, frames and tasks.",
-    "// 8. A call of an actor of the same executor, a wait for a task that has ended, and `next` where a result is there do not suspend.",
+    "// 7. There is no limit on steps, turns and tasks.",
+    "// 8. A call of an actor of the same executor, a wait for a task that has ended, `next` where a result is there, and the end of a group",
+    "//    whose children have ended do not suspend.",
     "// 9. A task that gives way goes through Swift's pool, so tasks of one executor may come back in another order.",
+    "// 10. A task ends after it has left its actor, so a group may give results in another order than that of its children's last turns.",
+    "//",
+    "// A variable that is never read, and what stands after a `return` or a `throw`, are left out.",
     "",
     "import Foundation",
     "",
 ];
 
 /// What stands after the rest: how tasks are noted, whole numbers, executors, and the report.
-pub(crate) const PRELUDE: [&str; 212] = [
+pub(crate) const PRELUDE: [&str; 224] = [
     "// What is the same for each script: how tasks are noted, whole numbers with their faults, executors, and the report.",
     "",
     "enum Fault: Error {",
-    "    case thrown(Int64), overflow, empty, isolation",
+    "    case thrown(Int64), overflow, empty, isolation, depth",
     "}",
     "",
     "infix operator +!: AdditionPrecedence",
@@ -49,6 +97,7 @@ pub(crate) const PRELUDE: [&str; 212] = [
     "        let maker: Int",
     "        var ending: String?",
     "        var isLeftOut = false",
+    "        var frames = 0",
     "    }",
     "",
     "    // The number of the task that asks.",
@@ -68,6 +117,9 @@ pub(crate) const PRELUDE: [&str; 212] = [
     "    static var cancelled: Int64 { number(Task.isCancelled) }",
     "",
     "    static func number(_ test: Bool) -> Int64 { test ? 1 : 0 }",
+    "",
+    "    // A test of numbers that the script spells.",
+    "    static func holds(_ test: Bool) -> Bool { test }",
     "",
     "    static func exact(_ answer: (partialValue: Int64, overflow: Bool)) throws -> Int64 {",
     "        if answer.overflow { throw Fault.overflow }",
@@ -99,14 +151,22 @@ pub(crate) const PRELUDE: [&str; 212] = [
     "        }",
     "    }",
     "",
-    "    // Adds a child, which has a number only where it is added.",
-    "    static func addUnless(_ add: (Int) throws -> Bool) rethrows {",
-    "        let number = made(.child)",
-    "        var isAdded = false",
-    "        defer {",
-    "            if !isAdded { note(number) { $0.isLeftOut = true } }",
+    "    // Whether a child was added. One that was not gives its number back, the last one that its maker took.",
+    "    static func added(_ isAdded: Bool) {",
+    "        if isAdded { return }",
+    "        note(lock.withLock { tasks.lastIndex { $0.maker == task }! }) { $0.isLeftOut = true }",
+    "    }",
+    "",
+    "    // Counts a method that a task begins, of which it has at most 64 under way.",
+    "    static func beginMethod() throws {",
+    "        try lock.withLock {",
+    "            if tasks[task].frames == 64 { throw Fault.depth }",
+    "            tasks[task].frames += 1",
     "        }",
-    "        isAdded = try add(number)",
+    "    }",
+    "",
+    "    static func endMethod() {",
+    "        lock.withLock { tasks[task].frames -= 1 }",
     "    }",
     "",
     "    static func note(_ number: Int, _ change: (inout Made) -> Void) {",

@@ -1,26 +1,29 @@
 //! What names mean at a place of a method.
 
+use crate::swift::flow::{Place, Use, uses};
 use crate::swift::words::{has_field, is_same};
-use script_grammar::{Action, Actor, Decl, Field, Head, Name, Stmt};
+use script_grammar::{Actor, Decl, Field, Name, Stmt};
 use std::alloc::{AllocError, Global};
 
-/// What a name of a task or a group stands for.
+/// What a name stands for that is no number which is read.
 #[derive(Clone, Copy)]
 pub(crate) enum Handle {
     /// A task that the method made.
     Task,
     /// A group.
     Group,
+    /// A number that is never read. It is not printed.
+    Unread,
 }
 
-// A name that a method gave to a task or a group.
+// A name that a method gave to a task, a group or a number that is never read.
 #[derive(Clone, Copy)]
 struct KnownHandle<'a> {
     name: &'a Name,
     handle: Handle,
 }
 
-/// What a place has that a block hides or adds to: how many tasks and groups have names, and the actor of an `assume`.
+/// What a place has that a block hides or adds to: how many names there are, and the actor of an `assume`.
 #[derive(Clone, Copy)]
 pub(crate) struct OutsideBlock<'a> {
     count: usize,
@@ -33,8 +36,8 @@ pub(crate) struct MethodScope<'a> {
     pub decls: &'a [Decl],
     /// The actor whose method it is.
     pub actor: &'a Actor,
-    /// The statements of the method.
-    pub body: &'a [Stmt],
+    /// What is printed, and those after it in its block.
+    pub rest: &'a [Stmt],
     /// The actor whose fields stand, where that is the one of an `assume`.
     pub assumed: Option<&'a Actor>,
     /// Whether an invariant is tested at the end of each turn.
@@ -47,7 +50,7 @@ impl Drop for MethodScope<'_> {
         let MethodScope {
             decls: _,
             actor: _,
-            body: _,
+            rest: _,
             assumed: _,
             is_checked: _,
             handles,
@@ -62,13 +65,13 @@ impl<'a> MethodScope<'a> {
         alloc: Global,
         decls: &'a [Decl],
         actor: &'a Actor,
-        body: &'a [Stmt],
+        rest: &'a [Stmt],
         is_checked: bool,
     ) -> MethodScope<'a> {
         MethodScope {
             decls,
             actor,
-            body,
+            rest,
             assumed: None,
             is_checked,
             handles: Vec::new(alloc),
@@ -89,13 +92,13 @@ impl<'a> MethodScope<'a> {
         self.assumed = outside.assumed;
     }
 
-    /// Names a task or a group.
+    /// Gives a name to a task, a group or a number that is never read.
     pub(crate) fn know(&mut self, name: &'a Name, handle: Handle) -> Result<(), AllocError> {
         self.handles.push(KnownHandle { name, handle })?;
         Ok(())
     }
 
-    /// What a name stands for; a root, or a number, where it is none of these.
+    /// What a name stands for; a root, or a number that is read, where it is none of these.
     pub(crate) fn handle(&self, name: &Name) -> Option<Handle> {
         for known in &self.handles {
             if is_same(known.name, name) {
@@ -103,6 +106,27 @@ impl<'a> MethodScope<'a> {
             }
         }
         None
+    }
+
+    /// What has to be known to say where statements end.
+    pub(crate) fn place(&self) -> Place<'a> {
+        Place {
+            decls: self.decls,
+            actor: self.actor,
+        }
+    }
+
+    /// Whether the statements after this one, in its block, do this with a name.
+    pub(crate) fn is_used(&self, what: Use, name: &Name) -> bool {
+        uses(self.place(), self.rest, what, name)
+    }
+
+    /// Whether a name is a number that is never read.
+    pub(crate) fn is_unread(&self, name: &Name) -> bool {
+        match self.handle(name) {
+            Some(Handle::Unread) => true,
+            _ => false,
+        }
     }
 
     /// Whether a name is a field of the actor of an `assume`.
@@ -145,82 +169,4 @@ pub(crate) fn has_invariant(decls: &[Decl], actor: &Actor) -> bool {
         }
     }
     false
-}
-
-/// Whether statements assign to this name.
-#[cycle(assigns)]
-pub(crate) fn assigns(stmts: &[Stmt], name: &Name) -> bool {
-    for stmt in stmts {
-        if assigns_one(stmt, name) {
-            return true;
-        }
-    }
-    false
-}
-
-#[cycle(assigns)]
-fn assigns_one(stmt: &Stmt, name: &Name) -> bool {
-    match stmt {
-        Stmt::Do(Action::Assign(target, _)) => is_same(target, name),
-        Stmt::Do(_) => false,
-        Stmt::Block(_, block) => assigns(block, name),
-        Stmt::IfElse(_, held, failed) => assigns(held, name) || assigns(failed, name),
-    }
-}
-
-/// Whether statements return from the method.
-#[cycle(returns)]
-pub(crate) fn returns(stmts: &[Stmt]) -> bool {
-    for stmt in stmts {
-        if returns_one(stmt) {
-            return true;
-        }
-    }
-    false
-}
-
-#[cycle(returns)]
-fn returns_one(stmt: &Stmt) -> bool {
-    match stmt {
-        Stmt::Do(Action::Return(_)) => true,
-        Stmt::Do(_) => false,
-        Stmt::Block(_, block) => returns(block),
-        Stmt::IfElse(_, held, failed) => returns(held) || returns(failed),
-    }
-}
-
-/// Whether a `bind` or a group stands in these statements, each of which is a closure.
-#[cycle(closures)]
-pub(crate) fn has_closure(stmts: &[Stmt]) -> bool {
-    for stmt in stmts {
-        if has_closure_in(stmt) {
-            return true;
-        }
-    }
-    false
-}
-
-#[cycle(closures)]
-fn has_closure_in(stmt: &Stmt) -> bool {
-    match stmt {
-        Stmt::Do(_) => false,
-        Stmt::Block(Head::Bind(_, _) | Head::Group(_), _) => true,
-        Stmt::Block(_, block) => has_closure(block),
-        Stmt::IfElse(_, held, failed) => has_closure(held) || has_closure(failed),
-    }
-}
-
-/// Whether the last of these statements leaves the method.
-pub(crate) fn ends_with_exit(stmts: &[Stmt]) -> bool {
-    match stmts.last() {
-        Some(Stmt::Do(action)) => is_exit(action),
-        _ => false,
-    }
-}
-
-fn is_exit(action: &Action) -> bool {
-    match action {
-        Action::Return(_) | Action::Throw(_) => true,
-        _ => false,
-    }
 }

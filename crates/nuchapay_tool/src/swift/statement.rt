@@ -4,10 +4,10 @@ use crate::swift::call::{
     is_kept, keep_arguments, say_add, say_awaited, say_awaited_later, say_make, say_task,
 };
 use crate::swift::expression::{may_throw, say_number, say_test, say_tried};
+use crate::swift::flow::{Use, ends, ends_at, returns, uses, uses_in_closure};
 use crate::swift::page::SwiftPage;
-use crate::swift::scope::{
-    Handle, MethodScope, assigns, ends_with_exit, find_actor, has_closure, is_together, returns,
-};
+use crate::swift::prelude::Difference;
+use crate::swift::scope::{Handle, MethodScope, find_actor, is_together};
 use crate::swift::words::{is_same, say_member, say_type, say_value};
 use script_grammar::{Action, Expr, Head, Make, Name, Stmt, Value, Wait};
 
@@ -35,9 +35,9 @@ fn say_target(page: &mut SwiftPage, scope: &MethodScope<'_>, name: &Name) {
     say_value(page, name)
 }
 
-// A variable that is made: `var` where the method sets it again.
+// A variable that is made: `var` where it is set again.
 fn say_new(page: &mut SwiftPage, scope: &MethodScope<'_>, name: &Name) {
-    page.say(if assigns(scope.body, name) {
+    page.say(if scope.is_used(Use::Set, name) {
         "var "
     } else {
         "let "
@@ -45,12 +45,39 @@ fn say_new(page: &mut SwiftPage, scope: &MethodScope<'_>, name: &Name) {
     say_value(page, name)
 }
 
-fn say_let(page: &mut SwiftPage, scope: &MethodScope<'_>, name: &Name, value: &Expr) {
+// A value that is let go. It may be a fault.
+fn say_unread(page: &mut SwiftPage, scope: &MethodScope<'_>, value: &Expr) {
+    page.begin();
+    page.say("_ = ");
+    say_number(page, scope, value);
+    page.end("")
+}
+
+fn say_new_number(page: &mut SwiftPage, scope: &MethodScope<'_>, name: &Name, value: &Expr) {
     page.begin();
     say_new(page, scope, name);
     page.say(": Int64 = ");
     say_number(page, scope, value);
     page.end("")
+}
+
+// A `let`. A variable that is never read is not made.
+fn say_let<'a>(
+    page: &mut SwiftPage,
+    scope: &mut MethodScope<'a>,
+    name: &'a Name,
+    value: &'a Value,
+) {
+    let is_read = scope.is_used(Use::Read, name);
+    match value {
+        Value::Expr(value) if is_read => say_new_number(page, scope, name, value),
+        Value::Expr(value) => say_unread(page, scope, value),
+        Value::Await(wait) if is_read => say_wait(page, scope, AssignTarget::New(name), wait),
+        Value::Await(wait) => say_wait(page, scope, AssignTarget::None, wait),
+    }
+    if !is_read {
+        page.need(scope.know(name, Handle::Unread))
+    }
 }
 
 // Swift refuses that something is set to itself.
@@ -62,15 +89,23 @@ fn is_itself(name: &Name, value: &Expr) -> bool {
 }
 
 fn say_assign(page: &mut SwiftPage, scope: &MethodScope<'_>, name: &Name, value: &Expr) {
-    page.begin();
-    if is_itself(name, value) {
-        page.say("_");
-    } else {
-        say_target(page, scope, name);
+    if is_itself(name, value) || scope.is_unread(name) {
+        return say_unread(page, scope, value);
     }
+    page.begin();
+    say_target(page, scope, name);
     page.say(" = ");
     say_number(page, scope, value);
     page.end("")
+}
+
+// What is set to what a wait gives.
+fn known<'a>(scope: &MethodScope<'_>, name: &'a Name) -> AssignTarget<'a> {
+    if scope.is_unread(name) {
+        AssignTarget::None
+    } else {
+        AssignTarget::Known(name)
+    }
 }
 
 // What a wait gives is set.
@@ -142,45 +177,53 @@ fn say_do(
     page.end("");
     page.close_open("} catch {");
     match target {
-        AssignTarget::None => {
-            page.begin();
-            page.say("_ = ");
-            say_number(page, scope, other);
-            page.end("");
-        }
+        AssignTarget::None => say_unread(page, scope, other),
         AssignTarget::New(name) | AssignTarget::Known(name) => say_assign(page, scope, name, other),
     }
     page.close("}")
 }
 
-fn say_task_let(page: &mut SwiftPage, scope: &MethodScope<'_>, name: &Name, make: &Make) {
-    say_make_note(page, make);
+// A task, by a name where it is awaited or cancelled.
+fn say_task_let<'a>(
+    page: &mut SwiftPage,
+    scope: &mut MethodScope<'a>,
+    name: &'a Name,
+    make: &'a Make,
+) {
     page.begin();
-    page.say("let ");
-    say_value(page, name);
-    page.say(" = ");
-    say_make(page, scope, make)
-}
-
-fn say_make_note(page: &mut SwiftPage, make: &Make) {
-    match make {
-        Make::Spawn(_, None) => page.line("// see 3"),
-        _ => {}
+    if scope.is_used(Use::Task, name) {
+        page.say("let ");
+        say_value(page, name);
+        page.say(" = ");
     }
+    say_make(page, scope, make);
+    page.need(scope.know(name, Handle::Task))
 }
 
 fn say_cancel(page: &mut SwiftPage, scope: &MethodScope<'_>, name: &Name) {
+    page.see(Difference::AtOnce);
     page.begin();
     match scope.handle(name) {
         Some(Handle::Group) => {
             say_value(page, name);
-            page.end(".cancelAll() // see 1")
+            page.end(".cancelAll()")
         }
         _ => {
             say_task(page, scope, name);
-            page.end(".cancel() // see 1")
+            page.end(".cancel()")
         }
     }
+}
+
+fn say_check(page: &mut SwiftPage) {
+    page.see(Difference::AtThatMoment);
+    page.line("try Task.checkCancellation()")
+}
+
+fn say_yield(page: &mut SwiftPage, scope: &MethodScope<'_>) {
+    say_turn_end(page, scope);
+    page.see(Difference::ThroughThePool);
+    page.line("await Task.yield()")
 }
 
 // A word, a number after it, and the end of the line.
@@ -199,24 +242,14 @@ fn say_after(
 
 fn say_action<'a>(page: &mut SwiftPage, scope: &mut MethodScope<'a>, action: &'a Action) {
     match action {
-        Action::Let(name, Value::Expr(value)) => say_let(page, scope, name, value),
-        Action::Let(name, Value::Await(wait)) => say_wait(
-            page,
-            scope,
-            AssignTarget::New(name),
-            wait,
-        ),
-        Action::LetTask(name, make) => {
-            say_task_let(page, scope, name, make);
-            page.need(scope.know(name, Handle::Task))
-        }
+        Action::Let(name, value) => say_let(page, scope, name, value),
+        Action::LetTask(name, make) => say_task_let(page, scope, name, make),
         Action::Assign(name, Value::Expr(value)) => say_assign(page, scope, name, value),
         Action::Assign(name, Value::Await(wait)) => {
-            say_wait(page, scope, AssignTarget::Known(name), wait)
+            say_wait(page, scope, known(scope, name), wait)
         }
         Action::Await(wait) => say_wait(page, scope, AssignTarget::None, wait),
         Action::Make(make) => {
-            say_make_note(page, make);
             page.begin();
             say_make(page, scope, make)
         }
@@ -224,11 +257,8 @@ fn say_action<'a>(page: &mut SwiftPage, scope: &mut MethodScope<'a>, action: &'a
         Action::Cancel(name) => say_cancel(page, scope, name),
         Action::Return(value) => say_after(page, scope, "return ", value, ""),
         Action::Throw(value) => say_after(page, scope, "throw Fault.thrown(", value, ")"),
-        Action::Check => page.line("try Task.checkCancellation() // see 2"),
-        Action::Yield => {
-            say_turn_end(page, scope);
-            page.line("await Task.yield()")
-        }
+        Action::Check => say_check(page),
+        Action::Yield => say_yield(page, scope),
     }
 }
 
@@ -238,6 +268,11 @@ fn say_headed(page: &mut SwiftPage, scope: &MethodScope<'_>, word: &str, test: &
     page.say(word);
     say_test(page, scope, test);
     page.open(" {")
+}
+
+// Swift takes a closure for one of this actor only where it names it.
+fn say_own_actor(page: &mut SwiftPage) {
+    page.line("_ = self // so that the block is run by this actor")
 }
 
 // The line of a `bind`.
@@ -261,32 +296,37 @@ fn say_bind(
     } else {
         page.open(") { () async throws -> Void in");
     }
-    page.line("_ = self")
+    say_own_actor(page)
 }
 
-// The line of a group. Swift takes it for a race where a closure in its block awaits the group, so it gets a copy, which is the same group.
-fn say_group_head(page: &mut SwiftPage, name: &Name, is_copied: bool) {
+// The line of a group. Swift takes it for a race where a closure in its block uses the group, so it gets a copy, which is the same group.
+fn say_group_head(page: &mut SwiftPage, scope: &MethodScope<'_>, name: &Name, block: &[Stmt]) {
     page.begin();
     page.say("try await withThrowingTaskGroup(of: Int64.self) { ");
-    if is_copied {
-        page.open("m_group in");
+    if uses_in_closure(scope.place(), block, name) {
+        page.open("m_group async throws -> Void in");
         page.begin();
-        page.say("nonisolated(unsafe) var ");
+        page.say("nonisolated(unsafe) ");
+        page.say(if uses(scope.place(), block, Use::Change, name) {
+            "var "
+        } else {
+            "let "
+        });
         say_value(page, name);
         page.end(" = m_group");
     } else {
         say_value(page, name);
-        page.open(" in");
+        page.open(" async throws -> Void in");
     }
-    page.line("_ = self")
+    say_own_actor(page)
 }
 
 // The end of a `bind`, which hands on what its block returns.
-fn say_bound(page: &mut SwiftPage, is_left: bool, block: &[Stmt]) {
-    if !is_left {
+fn say_bound(page: &mut SwiftPage, scope: &MethodScope<'_>, block: &[Stmt]) {
+    if !returns(scope.place(), block) {
         return page.close("}");
     }
-    if !ends_with_exit(block) {
+    if !ends(scope.place(), block) {
         page.line("return nil");
     }
     page.close_open("}) {");
@@ -306,7 +346,8 @@ fn say_assume<'a>(page: &mut SwiftPage, scope: &mut MethodScope<'a>, name: &Name
             true
         }
         _ => {
-            page.line("throw Fault.isolation // see 6");
+            page.see(Difference::Isolation);
+            page.line("throw Fault.isolation");
             false
         }
     }
@@ -322,9 +363,12 @@ fn begin_block<'a>(
     match head {
         Head::If(test) => say_headed(page, scope, "if ", test),
         Head::While(test) => say_headed(page, scope, "while ", test),
-        Head::Bind(local, value) => say_bind(page, scope, local, value, returns(block)),
+        Head::Bind(local, value) => {
+            let is_left = returns(scope.place(), block);
+            say_bind(page, scope, local, value, is_left)
+        }
         Head::Group(name) => {
-            say_group_head(page, name, has_closure(block));
+            say_group_head(page, scope, name, block);
             page.need(scope.know(name, Handle::Group));
         }
         Head::Assume(name) => return say_assume(page, scope, name),
@@ -335,11 +379,12 @@ fn begin_block<'a>(
 // What stands after a block.
 fn end_block(page: &mut SwiftPage, scope: &MethodScope<'_>, head: &Head, block: &[Stmt]) {
     match head {
-        Head::Bind(_, _) => say_bound(page, returns(block), block),
+        Head::Bind(_, _) => say_bound(page, scope, block),
         Head::Group(_) => {
-            if !ends_with_exit(block) {
+            if !ends(scope.place(), block) {
                 say_turn_end(page, scope);
             }
+            page.see(Difference::NoSuspension);
             page.close("}")
         }
         Head::If(_) | Head::While(_) | Head::Assume(_) => page.close("}"),
@@ -384,10 +429,14 @@ fn say_inner<'a>(page: &mut SwiftPage, scope: &mut MethodScope<'a>, block: &'a [
     scope.leave(outside)
 }
 
-/// Statements, one after the other.
+/// Statements, one after the other, up to one that ends them.
 #[cycle(statement)]
 pub(crate) fn say_stmts<'a>(page: &mut SwiftPage, scope: &mut MethodScope<'a>, stmts: &'a [Stmt]) {
-    for stmt in stmts {
+    for (index, stmt) in stmts.iter().enumerate() {
+        scope.rest = &stmts[index..];
         say_stmt(page, scope, stmt);
+        if ends_at(scope.place(), stmt) {
+            return;
+        }
     }
 }

@@ -6,6 +6,7 @@ ghost use Rattle.nuchapay_tool.specs.Outline.{actor_in, actors_for, outline, wan
 
 use crate::swift::actor::swift_actor;
 use crate::swift::call::{priority, say_called};
+use crate::swift::depth::may_pass_frames;
 use crate::swift::page::SwiftPage;
 use crate::swift::prelude::{NOTES, PRELUDE};
 use crate::swift::program::{SwiftActor, SwiftProgram};
@@ -82,7 +83,7 @@ fn head(alloc: Global, decls: &[Decl]) -> Result<Vec<u8>, AllocError> {
 fn say_root(page: &mut SwiftPage, decls: &[Decl], root: &Root) {
     page.begin();
     page.say("static let ");
-    say_member(page, &root.name);
+    say_value(page, &root.name);
     page.say(" = Task.detached(priority: ");
     page.say(priority(root.priority));
     page.say(") { @Sendable @");
@@ -150,7 +151,7 @@ fn say_start(page: &mut SwiftPage, decls: &[Decl]) {
         if let Decl::Root(root) = decl {
             page.begin();
             page.say("_ = Root.");
-            say_member(page, &root.name);
+            say_value(page, &root.name);
             page.end("");
         }
     }
@@ -197,12 +198,13 @@ fn add_actor(
     alloc: Global,
     decls: &[Decl],
     decl: &Decl,
+    is_counted: bool,
     actors: &mut Vec<SwiftActor>,
 ) -> Result<(), AllocError>
     ensures { OnOk result (map actor_in actors.new.items ≡ map actor_in actors.old.items ++ actors_for (view_decl decl.now)) }
 {
     match decl {
-        Decl::Actor(actor) => actors.push(swift_actor(alloc, decls, actor)?)?,
+        Decl::Actor(actor) => actors.push(swift_actor(alloc, decls, actor, is_counted)?)?,
         Decl::Executor(_) | Decl::Local(_) | Decl::Root(_) => {}
     }
     Ok(())
@@ -211,9 +213,10 @@ fn add_actor(
 fn actors(alloc: Global, decls: &[Decl]) -> Result<Vec<SwiftActor>, AllocError>
     ensures { IfOk result (λ actors. map actor_in actors.items ≡ wanted (map view_decl decls.now)) }
 {
+    let is_counted = may_pass_frames(decls);
     let mut actors = Vec::new(alloc);
     for decl in decls {
-        add_actor(alloc, decls, decl, &mut actors)?;
+        add_actor(alloc, decls, decl, is_counted, &mut actors)?;
     }
     Ok(actors)
 }

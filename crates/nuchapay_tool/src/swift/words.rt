@@ -3,6 +3,7 @@
 ghost use Rattle.std.specs.Prelude.{◌≡◌, bytes_eq, IfOk};
 ghost use Rattle.std.specs.List.{list_any};
 ghost use Rattle.script_grammar.specs.Tree.{text_of, view_actor};
+ghost use Rattle.nuchapay_tool.specs.Lines.{GoesOn};
 ghost use Rattle.nuchapay_tool.specs.Names as names;
 
 use crate::swift::page::SwiftPage;
@@ -10,7 +11,7 @@ use script_grammar::{Actor, Field, Name};
 use std::alloc::{AllocError, Global};
 
 /// Swift's keywords, and what each program calls its own values, of the names that a script may have.
-pub const VALUES: [&[u8]; 54] = [
+pub const VALUES: [&[u8]; 57] = [
     b"_",
     b"as",
     b"associatedtype",
@@ -22,8 +23,10 @@ pub const VALUES: [&[u8]; 54] = [
     b"default",
     b"defer",
     b"deinit",
+    b"didSet",
     b"do",
     b"enum",
+    b"error",
     b"extension",
     b"fallthrough",
     b"false",
@@ -64,14 +67,16 @@ pub const VALUES: [&[u8]; 54] = [
     b"shared",
     b"turnEnds",
     b"unownedExecutor",
+    b"willSet",
     b"withThrowingTaskGroup",
 ];
 
 /// The types that each program names.
-pub const TYPES: [&[u8]; 33] = [
+pub const TYPES: [&[u8]; 38] = [
     b"Actor",
     b"Any",
     b"Bool",
+    b"BooleanLiteralType",
     b"CancellationError",
     b"Data",
     b"DispatchGroup",
@@ -82,8 +87,10 @@ pub const TYPES: [&[u8]; 33] = [
     b"Executors",
     b"Fault",
     b"FileHandle",
+    b"FloatLiteralType",
     b"Int",
     b"Int64",
+    b"IntegerLiteralType",
     b"Local",
     b"Main",
     b"NSCondition",
@@ -95,6 +102,7 @@ pub const TYPES: [&[u8]; 33] = [
     b"Sendable",
     b"SerialExecutor",
     b"String",
+    b"StringLiteralType",
     b"Task",
     b"TaskLocal",
     b"TaskPriority",
@@ -102,6 +110,7 @@ pub const TYPES: [&[u8]; 33] = [
     b"Type",
     b"UnownedJob",
     b"UnownedSerialExecutor",
+    b"Void",
 ];
 
 fn is_among(words: &[&[u8]], name: &[u8]) -> bool
@@ -154,6 +163,13 @@ fn is_plain_type(name: &[u8]) -> bool
     ensures { result ≡ names.is_plain_type name.now }
 {
     begins_upper(name) && (!begins_with(b'T', name) && !is_type_word(name))
+}
+
+// Whether an executor or a task local keeps its name.
+fn is_plain_member(name: &[u8]) -> bool
+    ensures { result ≡ names.is_plain_member name.now }
+{
+    !begins_with(b'v', name) && (!is_value_word(name) && !is_type_word(name))
 }
 
 // A name, or the same after a prefix.
@@ -210,34 +226,41 @@ pub(crate) fn is_same(left: &Name, right: &Name) -> bool
     left.text.as_slice() == right.text.as_slice()
 }
 
+// A name, or the same after a prefix.
+fn say_spelled(page: &mut SwiftPage, is_plain: bool, prefix: &[u8], name: &[u8])
+    ensures { GoesOn page.old page.new (names.spelled is_plain prefix.now name.now) }
+{
+    if !is_plain {
+        page.say_bytes(prefix);
+    }
+    page.say_bytes(name)
+}
+
 /// An actor, by its Swift name.
-pub(crate) fn say_type(page: &mut SwiftPage, name: &Name) {
-    if !is_plain_type(&name.text) {
-        page.say("T_");
-    }
-    page.say_bytes(&name.text)
+pub(crate) fn say_type(page: &mut SwiftPage, name: &Name)
+    ensures { GoesOn page.old page.new (names.type_name (text_of name.now)) }
+{
+    say_spelled(page, is_plain_type(&name.text), b"T_", &name.text)
 }
 
-/// A field, a parameter or a variable, by its Swift name.
-pub(crate) fn say_value(page: &mut SwiftPage, name: &Name) {
-    if !is_plain_value(&name.text) {
-        page.say("v_");
-    }
-    page.say_bytes(&name.text)
+/// A field, a parameter, a variable or a root, by its Swift name.
+pub(crate) fn say_value(page: &mut SwiftPage, name: &Name)
+    ensures { GoesOn page.old page.new (names.value_name (text_of name.now)) }
+{
+    say_spelled(page, is_plain_value(&name.text), b"v_", &name.text)
 }
 
-/// An executor, a task local or a root, after the word for these: by its name, or else `v_` and its name.
-pub(crate) fn say_member(page: &mut SwiftPage, name: &Name) {
-    if begins_with(b'v', &name.text) || is_value_word(&name.text) {
-        page.say("v_");
-    }
-    page.say_bytes(&name.text)
+/// An executor or a task local, after the word for these, by its Swift name: its own, or else `v_` and its own (our own).
+pub(crate) fn say_member(page: &mut SwiftPage, name: &Name)
+    ensures { GoesOn page.old page.new (names.member_name (text_of name.now)) }
+{
+    say_spelled(page, is_plain_member(&name.text), b"v_", &name.text)
 }
 
 /// A method, by its Swift name.
-pub(crate) fn say_method(page: &mut SwiftPage, actor: &Actor, name: &Name) {
-    if !is_plain_value(&name.text) || has_field(actor, name) {
-        page.say("m_");
-    }
-    page.say_bytes(&name.text)
+pub(crate) fn say_method(page: &mut SwiftPage, actor: &Actor, name: &Name)
+    ensures { GoesOn page.old page.new (names.method_name (view_actor actor.now) (text_of name.now)) }
+{
+    let is_kept = is_plain_value(&name.text) && !has_field(actor, name);
+    say_spelled(page, is_kept, b"m_", &name.text)
 }
