@@ -14,4 +14,4 @@ pub mod Translations
 pub mod Programs
 pub mod Outline
 pub mod Names
-pub mod Lines
+pub mod LinesInside

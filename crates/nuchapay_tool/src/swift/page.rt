@@ -1,6 +1,6 @@
 //! Lines of a Swift program, with their indentation.
 
-ghost use Rattle.nuchapay_tool.specs.Lines.{GoesOn};
+ghost use Rattle.nuchapay_tool.specs.LinesInside.{GoesOn};
 
 use crate::swift::prelude::{DIFFERENCES, Difference};
 use std::alloc::{AllocError, Global};

@@ -3,7 +3,7 @@
 ghost use Rattle.std.specs.Prelude.{◌≡◌, bytes_eq, IfOk};
 ghost use Rattle.std.specs.List.{list_any};
 ghost use Rattle.script_grammar.specs.Tree.{text_of, view_actor};
-ghost use Rattle.nuchapay_tool.specs.Lines.{GoesOn};
+ghost use Rattle.nuchapay_tool.specs.LinesInside.{GoesOn};
 ghost use Rattle.nuchapay_tool.specs.Names as names;
 
 use crate::swift::page::SwiftPage;

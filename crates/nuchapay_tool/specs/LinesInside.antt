@@ -1,4 +1,4 @@
--- What is written of a Swift program. (Own.)
+-- What is written of a Swift program. No public clause names it. (Own.)
 use Rattle.std.specs.Prelude.{◌≡◌, ◌++◌, ℕ, List, IsFalse}
 use Rattle.nuchapay_tool.specs.declared.swift.page.SwiftPage.{SwiftPage}
 
