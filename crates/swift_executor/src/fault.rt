@@ -20,8 +20,8 @@ pub enum ExecFault {
     /// The book refused, for another reason than memory.
     #[error("X4 refused by the book: {0}")]
     Refused(BookFault),
-    /// The desk has no allowance left.
-    #[error("X5 spent")]
+    /// The desk has no allowance left. It has the number of a full inbox: no job more is taken from this desk.
+    #[error("X3 spent")]
     Spent,
 }
 
