@@ -1,2 +1,1 @@
 mod CrossesThreads
-mod StateCalls

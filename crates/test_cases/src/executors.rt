@@ -1,4 +1,4 @@
-//! Calls on executors that threads share, and what calls on executors of one thread have in common with these.
+//! Calls on executors that threads share.
 
 // Calls that a gate makes.
 mod acting;
@@ -29,7 +29,6 @@ use crate::executors::owned::BookOf;
 use crate::executors::stage::CaseStage;
 use crate::fault::CaseFault;
 use crate::said::Said;
-use crate::states;
 use std::alloc::AllocGlobal;
 use std::marker::Brand;
 use std::random::RandomSource;
@@ -44,8 +43,8 @@ pub(crate) const JOBS: usize = 64;
 
 pub(crate) const DOORS: usize = 16;
 
-/// Makes the calls of a case on the executors of its script, which are of this kind, and writes what each answered.
-pub fn calls<R>(rt: &R, kind: &str, text: &str, out: &mut Said) -> Result<(), CaseFault>
+/// Makes the calls of a case on the executors of its script, and writes what each answered.
+pub fn calls<R>(rt: &R, text: &str, out: &mut Said) -> Result<(), CaseFault>
 where
     R: Wait + RandomSource + AllocGlobal,
 {
@@ -53,24 +52,13 @@ where
         return Err(CaseFault::Form);
     };
     let mut said = Said::with_room(rt.alloc(), ROOM)?;
-    let mut played = play_plan(rt, kind, plan, &mut said);
+    let mut played = play(rt, plan, &mut said);
     if played == Err(CaseFault::Granted) {
         said.clear();
-        played = play_plan(rt, kind, plan.without_last(), &mut said);
+        played = play(rt, plan.without_last(), &mut said);
     }
     out.part(&said);
     played
-}
-
-// Makes the calls of a case on executors of this kind.
-fn play_plan<R>(rt: &R, kind: &str, plan: CasePlan<'_>, out: &mut Said) -> Result<(), CaseFault>
-where
-    R: Wait + RandomSource + AllocGlobal,
-{
-    match kind {
-        "states" => states::play(rt, plan, out),
-        _ => play(rt, plan, out),
-    }
 }
 
 // Makes the calls of a case on executors that threads share.

@@ -67,6 +67,7 @@
 //!   run WORKER by DESK     a visit of a worker; the jobs that it makes are kept
 //!   ending TASK
 //!   allowance DESK         how many jobs may still be sent by it
+//!   look DESK              the fields of the executor, how many turns its journal has, and which jobs are ready, or that it is busy
 //!   split DESK             a new desk of the same executor
 //!   at MOMENT { CALL; .. } CALL
 //!                          the last call, with a gate that makes the others at that moment, once
@@ -77,20 +78,6 @@
 //!   Desks are numbered from 0: first the one that each executor is made with, in the order of executors, and then those that were
 //!   split. Calls in braces use other desks than the call behind them. MOMENT is the name of a moment of the gate. In answers `t3.1`
 //!   is turn 1 of task 3.
-//! - `states`: as `executors`, with the same answers, on executors of one thread. Each of them is the state of an executor
-//!   (`ExecState`), with a queue for an inbox; their book is one that no threads share, under a lock. They make the four calls of which a
-//!   visit to an executor that threads share is made, and tell a gate of the same moments. Tasks may be cancelled there, and jobs sent
-//!   that no book gave; the calls for that are of this kind alone:
-//!
-//!   ```text
-//!   make ROOT as NUMBER    keeps a job that no book gave: the turn of that number of a root's task, at the start of its method
-//!   foreign ROOT as NUMBER the same, with a body of a script that was read from another text
-//!   run_unknown WORKER by EXECUTOR
-//!                          a visit to an executor of that number whose book, of the same script, has no tasks; the first turn of
-//!                          root 0 was sent there
-//!   cancel TASK
-//!   ```
-//!
 //! - `held`, with the title `at MOMENT` and no text: two threads on one executor with the job of task 0 in its inbox, a worker that
 //!   visits it, and one that sends the job of task 1. At `Pushed` and `Counted` the thread that sends is held, at each other moment
 //!   the one that visits. The call that is not held begins when the other is held. A thread looks 1,000,000 times for the other, and
@@ -150,8 +137,6 @@ mod reading;
 mod running;
 // Texts that are being written.
 mod said;
-// Calls on executors of one thread.
-mod states;
 // How often each answer was given.
 mod tally;
 // Words of a command line.
@@ -274,7 +259,7 @@ where
         "agree" | "report" | "turns" | "gated" | "legal" | "meet" | "changed" => {
             workers::answer(rt, kind, title, text, out)
         }
-        "executors" | "states" => executors::calls(rt, kind, text, out),
+        "executors" => executors::calls(rt, text, out),
         "held" => executors::held(rt, title, out),
         _ if parts::is_part(kind) => parts::answer(rt, kind, text, out),
         _ => answer_whole(rt, kind, &expand(alloc, text)?, out),

@@ -9,7 +9,7 @@ use crate::desks::poller::Poller;
 use std::alloc::AllocError;
 use std::marker::Model;
 use std::sync::{Arc, Wait};
-use swift_executor::{Desk, Exec, ExecFault, Gate, VisitOutcome};
+use swift_executor::{Desk, Exec, ExecFault, Gate, LookOutcome, Onlooker, VisitOutcome};
 use swift_shared_book::{BookLock, TicketedJob, TicketedJobs};
 use swift_word::BeforeCount;
 
@@ -127,6 +127,13 @@ impl Door {
             .run_one(rt, desk, worker, &self.book, &mut cx, jobs, gate);
         cx.cancel();
         ran
+    }
+
+    /// Shows the executor to an onlooker.
+    pub fn look<R: Wait, L: Onlooker>(&mut self, rt: &R, onlooker: &mut L) -> LookOutcome
+        ensures { self.new ≡ self.old }
+    {
+        self.exec.look(rt, &mut self.desk, &self.book, onlooker)
     }
 
     // The executor and the desk, where no other desk of it is left.

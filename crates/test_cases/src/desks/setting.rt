@@ -4,12 +4,8 @@ use crate::desks::booked::Booked;
 use crate::fault::CaseFault;
 use std::alloc::Global;
 use std::sync::Arc;
-use swift_job::Job;
-use swift_locals::Bindings;
 use swift_script::{Script, read};
 use swift_tasks::BookFault;
-use swift_turn::Body;
-use swift_types::{Resume, RootId, TaskId};
 
 /// A script.
 pub struct Setting {
@@ -36,20 +32,13 @@ impl Setting {
         self.script.executor_count()
     }
 
+    /// How many actors it has.
+    pub fn actor_count(&self) -> usize {
+        self.script.actor_count()
+    }
+
     /// A book without tasks, for threads to share.
     pub fn booked(&self, alloc: Global) -> Result<Booked, BookFault> {
         Booked::new(alloc, Arc::clone(&self.script)?)
-    }
-
-    /// A job that no book gave: the turn of this number of a root's task, at the start of its method.
-    pub fn job(&self, alloc: Global, root: u32, number: u32) -> Result<Job<Body>, CaseFault> {
-        let script = Arc::clone(&self.script)?;
-        let method = script.root_method(RootId(root));
-        if method.0 as usize >= script.method_count() {
-            return Err(CaseFault::Form);
-        }
-        let args = script.root_args(RootId(root)).to_vec(alloc)?;
-        let body = Body::start(alloc, script, method, args, Bindings::new(alloc))?;
-        Ok(Job::new(TaskId(root), number, Resume::Start, body))
     }
 }

@@ -4,14 +4,11 @@
 #[derive(Clone, Copy)]
 pub enum Verb {
     Root,
-    Make,
-    Foreign,
     Enqueue,
     Run,
-    RunUnknown,
-    Cancel,
     Ending,
     Allowance,
+    Look,
 }
 
 /// A call, with its one or two numbers.
@@ -26,14 +23,11 @@ pub struct CaseCall {
 fn verb_of(word: &str) -> Option<Verb> {
     match word {
         "root" => Some(Verb::Root),
-        "make" => Some(Verb::Make),
-        "foreign" => Some(Verb::Foreign),
         "enqueue" => Some(Verb::Enqueue),
         "run" => Some(Verb::Run),
-        "run_unknown" => Some(Verb::RunUnknown),
-        "cancel" => Some(Verb::Cancel),
         "ending" => Some(Verb::Ending),
         "allowance" => Some(Verb::Allowance),
+        "look" => Some(Verb::Look),
         _ => None,
     }
 }

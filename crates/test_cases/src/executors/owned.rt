@@ -8,7 +8,7 @@ use crate::fault::CaseFault;
 use std::alloc::{AllocError, Global};
 use std::marker::{Brand, Model, PhantomData};
 use std::sync::Wait;
-use swift_executor::{ExecFault, Gate, VisitOutcome};
+use swift_executor::{ExecFault, Gate, LookOutcome, Onlooker, VisitOutcome};
 use swift_job::Job;
 use swift_shared_book::{TicketedJob, TicketedJobs};
 use swift_turn::Body;
@@ -235,6 +235,11 @@ impl<K: BookOf> OwnDoor<K> {
         ensures { jobs.new.book ≡ jobs.old.book }
     {
         self.door.run(rt, worker, poller, jobs, gate)
+    }
+
+    /// Shows the executor to an onlooker (`Door::look`).
+    pub fn look<R: Wait, L: Onlooker>(&mut self, rt: &R, onlooker: &mut L) -> LookOutcome {
+        self.door.look(rt, onlooker)
     }
 
     /// Takes the jobs out of a list, the oldest first, and puts them behind these. Where there is no memory for the place of one, it is

@@ -14,8 +14,8 @@ use crate::said::Said;
 use std::alloc::{AllocGlobal, Global};
 use std::random::RandomSource;
 use std::sync::{Mutex, Wait};
-use swift_executor::Gate;
-use swift_types::TaskId;
+use swift_executor::{ExecState, Gate, LookOutcome, Onlooker};
+use swift_types::{ActorId, TaskId};
 
 /// The script of a case, its book, the jobs that are kept, the oldest first, and its desks.
 #[derive(Drop)]
@@ -121,6 +121,20 @@ impl<K: BookOf> CaseStage<K> {
         told
     }
 
+    // What the executor of a desk is like, while no worker holds it.
+    fn look<R: Wait>(&self, rt: &R, desk: u32, out: &mut Said) -> Result<(), CaseFault> {
+        let Some(door) = self.doors.get(desk as usize) else {
+            return Err(CaseFault::Form);
+        };
+        let actors = self.setting.actor_count();
+        let looked = door.lock(rt).look(rt, &mut Looker { actors, out });
+        match looked {
+            LookOutcome::Free(left) => out.debug(", left ", &left),
+            LookOutcome::Busy => out.put("busy"),
+        }
+        Ok(())
+    }
+
     // How many jobs may still be sent by a desk.
     fn allowance<R: Wait>(&self, rt: &R, desk: u32, out: &mut Said) -> Result<(), CaseFault> {
         let Some(door) = self.doors.get(desk as usize) else {
@@ -129,6 +143,29 @@ impl<K: BookOf> CaseStage<K> {
         let allowance = door.lock(rt).allowance();
         out.count("", allowance);
         Ok(())
+    }
+}
+
+// Writes what it sees of executors of these actors.
+#[derive(Drop)]
+struct Looker<'a> {
+    actors: usize,
+    out: &'a mut Said,
+}
+
+impl<'a> Onlooker for Looker<'a> {
+    fn see(&mut self, state: &ExecState) {
+        for actor in 0..self.actors {
+            for value in state.fields(ActorId(actor as u32)) {
+                self.out.number("field ", *value);
+                self.out.put(", ");
+            }
+        }
+        self.out.count("", state.journal().len() as u64);
+        self.out.put(" turns");
+        for task in state.ready() {
+            self.out.number(", ready t", i64::from(task.0));
+        }
     }
 }
 
@@ -149,8 +186,7 @@ impl<K: BookOf, R: Wait + RandomSource + AllocGlobal> Callee<R> for CaseStage<K>
                 tell_ending(ending, out)
             }
             Verb::Allowance => self.allowance(rt, call.first, out),
-            // Those of executors of one thread alone.
-            Verb::Make | Verb::Foreign | Verb::RunUnknown | Verb::Cancel => Err(CaseFault::Form),
+            Verb::Look => self.look(rt, call.first, out),
         }
     }
 

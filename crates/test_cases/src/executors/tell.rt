@@ -5,19 +5,8 @@ use crate::said::Said;
 use std::alloc::{AllocError, Global};
 use swift_executor::{ExecFault, VisitOutcome};
 use swift_job::Job;
-use swift_tasks::BookFault;
 use swift_turn::Body;
 use swift_types::Ending;
-
-/// What a call on the book answered.
-pub fn tell_booked(answer: Result<(), BookFault>, out: &mut Said) -> Result<(), CaseFault> {
-    match answer {
-        Ok(()) => out.put("ok"),
-        Err(BookFault::Memory) => return Err(CaseFault::Memory),
-        Err(fault) => out.value(&fault),
-    }
-    Ok(())
-}
 
 /// How a task has ended, if it has.
 pub fn tell_ending(ending: Option<Ending>, out: &mut Said) -> Result<(), CaseFault> {
@@ -47,12 +36,6 @@ fn tell_turn(word: &str, task: u32, number: u32, out: &mut Said) {
 /// A job, or what has one.
 pub trait HasJob {
     fn job(&self) -> &Job<Body>;
-}
-
-impl HasJob for Job<Body> {
-    fn job(&self) -> &Job<Body> {
-        self
-    }
 }
 
 /// What came of a visit, and the jobs that it made.

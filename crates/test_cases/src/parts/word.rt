@@ -33,7 +33,11 @@ struct Number(u64);
 impl Named for Number {
     type Name = ();
 
+    type Image = ();
+
     ghost name = { λ _. tt };
+
+    ghost image = { λ _. tt };
 }
 
 // A word with this state.
