@@ -1,5 +1,8 @@
 //! A run as a picture.
 
+ghost use Rattle.std.specs.Prelude.{IfOk};
+ghost use Rattle.nuchapay.specs.Runs.{HasEndedWell, IsOfRun};
+
 use crate::values::{all_ended_well, run_text};
 use nuchapay_runs::picture::{PictureFault, picture_of, svg_text, write_trace};
 use nuchapay_tool::PictureFormat;
@@ -23,6 +26,7 @@ pub fn show_run<R, W>(
 where
     R: RandomSource + AllocGlobal + Threads + Wait + Sync,
     W: Write,
+    ensures { IfOk result (λ well. IsOfRun text.now (HasEndedWell well)) }
 {
     let alloc = rt.alloc();
     let (script, report) = run_text(rt, text, workers)?;

@@ -1,0 +1,6 @@
+use Rattle.std.proofs.Common.{rules}
+use Rattle.std.specs.Arc.{arc_value}
+use Rattle.nuchapay.proofs.show.show_run.Goals as goal
+
+pub returns : goal.returns
+returns g c = record { script = arc_value c.in_ok-script.script; report = c.in_ok-script.report; is = c.in_ok-script.ensures; holds = search rules }
