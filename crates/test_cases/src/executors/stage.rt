@@ -126,7 +126,9 @@ impl<K: BookOf> CaseStage<K> {
         let Some(door) = self.doors.get(desk as usize) else {
             return Err(CaseFault::Form);
         };
-        let actors = self.setting.actor_count();
+        let Ok(actors) = u32::try_from(self.setting.actor_count()) else {
+            return Err(CaseFault::Form);
+        };
         let looked = door.lock(rt).look(rt, &mut Looker { actors, out });
         match looked {
             LookOutcome::Free(left) => out.debug(", left ", &left),
@@ -149,14 +151,14 @@ impl<K: BookOf> CaseStage<K> {
 // Writes what it sees of executors of these actors.
 #[derive(Drop)]
 struct Looker<'a> {
-    actors: usize,
+    actors: u32,
     out: &'a mut Said,
 }
 
 impl<'a> Onlooker for Looker<'a> {
     fn see(&mut self, state: &ExecState) {
         for actor in 0..self.actors {
-            for value in state.fields(ActorId(actor as u32)) {
+            for value in state.fields(ActorId(actor)) {
                 self.out.number("field ", *value);
                 self.out.put(", ");
             }
