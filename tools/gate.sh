@@ -6,14 +6,14 @@ crates=$(ls -d crates/*/src | wc -l)
 cat <<TXT
 This proves those of $crates crates that have not passed on this machine before, tries a planted bug of each row of the table
 in docs/THEOREMS.md, which the prover has to refuse, runs all tests and programs, the examples, and cases of the test program once for each of a
-sample of their allocations, with that one refused. From nothing it takes some 90 minutes on the two cores that it uses at a time, at a slow
-hour; it prints little until its end.
+sample of their allocations, with that one refused. From nothing it takes some 90 minutes on two cores at a time, at a slow hour, and uses three
+of four; it prints little until its end.
 TXT
 log=$(mktemp)
-# One core for each check, and two checks at once at most: more cores or more checks take more processor time, and hardly less
-# of the clock's (docs/PROOFS.md).
+# One core for each check, and three checks at once where there are four cores, each of which takes 1 to 5 GB: more cores for a check take
+# more processor time, and hardly less of the clock's (docs/PROOFS.md).
 cores=$(nproc)
-export RT_JOBS=${RT_JOBS:-$((cores < 2 ? cores : 2))}
+export RT_JOBS=${RT_JOBS:-$((cores < 2 ? cores : cores < 4 ? 2 : 3))}
 rt ci | tee "$log"
 status=${PIPESTATUS[0]}
 last=$(tail -n 1 "$log")
