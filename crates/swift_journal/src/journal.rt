@@ -6,8 +6,7 @@ ghost use Rattle.swift_journal.specs.declared.stored.StoredEffect.{StoredEffect}
 
 use crate::brief::BriefExit;
 use crate::ends::{brief, resume};
-use crate::folded::Folded;
-use crate::parts::{effects_of, env_of, exit_part, read_ended, read_record, words_of};
+use crate::parts::{effects_of, env_of, exit_part, read_record, words_of};
 use crate::record::{OwnedRecord, Record};
 use crate::stored::{FrameHead, StoredEffect, StoredExit, TurnHead};
 use crate::tail::Tail;
@@ -58,7 +57,7 @@ impl Model for Journal {
 
 impl Journal {
     ghost use Rattle.swift_journal.specs.CheckpointInside.{ended_view};
-    ghost use Rattle.swift_journal.specs.Checkpoints.{folded_of, folded_view};
+    ghost use Rattle.swift_journal.specs.Checkpoints.{folded_of};
     ghost use Rattle.swift_journal.specs.Records.{RecordView, brief_of, owned_view, record_view};
 
     /// An empty journal. It takes no memory.
@@ -199,15 +198,6 @@ impl Journal {
         let head = &self.heads[place];
         let words = words_of(self.words.all(), head);
         read_record(alloc, head, words, effects_of(&self.effects, head))
-    }
-
-    /// What is left of the turn at a place when it is folded, in time and memory by the size of that. An `Err` says that a growth was
-    /// refused.
-    pub fn read_folded(&self, alloc: Global, place: usize) -> Result<Folded, AllocError>
-        requires { place < length self.now }
-        ensures { IfOk result (λ turn. (d : RecordView) → folded_view turn ≡ folded_of (slice_index_or self.now place d)) }
-    {
-        read_ended(alloc, self.ended(place))
     }
 
     /// Whether the turn at a place is this one, in time by its size. It is put to another journal first, and taken back

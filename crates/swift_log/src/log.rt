@@ -1,6 +1,6 @@
 //! Logs.
 
-ghost use Rattle.std.specs.Prelude.{◌≡◌, ◌+◌, ◌<◌, ◌^◌, [], ◌∷◌, ◌++◌, max, length, IfOk, OnOk, OnErr, slice_index_or, vec_len, vec_capacity};
+ghost use Rattle.std.specs.Prelude.{◌≡◌, ◌+◌, ◌<◌, ◌^◌, [], ◌∷◌, ◌++◌, max, length, OnOk, OnErr, slice_index_or, vec_len, vec_capacity};
 ghost use Rattle.swift_events.specs.declared.event.Event.{Event};
 ghost use Rattle.swift_log.specs.EntriesInside.{numbers_of};
 
@@ -57,18 +57,6 @@ impl EventLog {
             numbers: Vec::new(alloc),
             room: 0,
         }
-    }
-
-    /// A log of these events. Linear in their number.
-    pub fn from_events(alloc: Global, events: &[Event]) -> Result<EventLog, AllocError>
-        ensures { IfOk result (λ log. log.events ≡ events.now) }
-    {
-        let mut log = EventLog::new(alloc);
-        log.reserve(events.len())?;
-        for event in events {
-            log.push(*event);
-        }
-        Ok(log)
     }
 
     /// How many events there are.

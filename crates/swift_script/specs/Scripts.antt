@@ -83,10 +83,6 @@ executor_invariants s e = invariants_of_executor (parts_of s) e
 abbrev pub executor_start : ScriptView → ℕ → List (List ℤ)
 executor_start s e = starts_at (parts_of s) e
 
--- how many task locals a script declares
-abbrev pub local_count : ScriptView → ℕ
-local_count s = length (parts_of s).locals
-
 -- the name of a task local
 abbrev pub local_name : ScriptView → ℕ → List ℕ
 local_name s l = (local_at s l).name

@@ -13,7 +13,7 @@ ghost use Rattle.swift_script.specs.ScriptInvariant.{ScriptInvariant};
 ghost use Rattle.swift_script.specs.TreeInside.{tree_in};
 ghost use Rattle.swift_script.specs.Accepted.{WasAccepted, NoRootWaits};
 ghost use Rattle.swift_script.specs.SameScripts.{same_scripts};
-ghost use Rattle.swift_script.specs.Scripts.{executor_at, local_at, actor_at, method_at, root_at, executor_count, executor_invariants, executor_start, local_count, actor_count, actor_executor, actor_invariant, method_count, method_params, parts_of, root_count, root_method, root_args};
+ghost use Rattle.swift_script.specs.Scripts.{executor_at, local_at, actor_at, method_at, root_at, executor_count, executor_invariants, executor_start, actor_count, actor_executor, actor_invariant, method_count, method_params, parts_of, root_count, root_method, root_args};
 
 use script_code::Formula;
 use script_compiler::{
@@ -82,13 +82,6 @@ impl Script {
         ensures { result ≡ executor_count self.now }
     {
         self.compiled.executors.len()
-    }
-
-    /// How many task locals there are (SE-0311).
-    pub fn local_count(&self) -> usize
-        ensures { result ≡ local_count self.now }
-    {
-        self.compiled.locals.len()
     }
 
     /// How many actors there are, 64 at most (SE-0306).

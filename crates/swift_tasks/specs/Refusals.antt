@@ -1,6 +1,5 @@
 -- When the book refuses (our own).
 use Rattle.std.specs.Prelude.{◌≡◌, ℕ, Bool, true, false, ◌&&◌, nat_lt, is_some, is_none, if◌then◌else◌, Option, Some, None, List}
-use Rattle.std.specs.List.{list_all}
 use Rattle.swift_types.specs.declared.id.TaskId.{TaskId}
 use Rattle.swift_types.specs.declared.outcome.Resume.{Resume}
 use Rattle.swift_script.specs.Scripts.{ScriptView, root_count}
@@ -33,10 +32,6 @@ refusal_unless_open l = if is_none l.origin then Some Unknown else if is_some l.
 -- a task is cancelled if it was made and has not ended
 abbrev pub refusal_of_cancel : List Event → ℕ → Option BookFault
 refusal_of_cancel log t = refusal_unless_open (life_of t log)
-
--- each of these tasks was made
-abbrev pub refusal_of_priorities : List Event → List TaskId → Option BookFault
-refusal_of_priorities log ts = if list_all (λ t. is_some (life_of t.0 log).origin) ts then None else Some Unknown
 
 -- no cause before, and this holds
 abbrev pub refused_unless : Option BookFault → Bool → Option BookFault

@@ -1,25 +1,21 @@
 //! Calls between turns: roots, cancels, priorities, and the end of the run.
 
-ghost use Rattle.std.specs.Prelude.{◌≡◌, ℕ, ◌<◌, ◌≤◌, [], ◌∷◌, ◌++◌, None, Some, IfOk, IfErr, OnOk, OnErr, MatchResult, is_some, length, map, slice_index_or, vec_len, vec_capacity};
+ghost use Rattle.std.specs.Prelude.{◌≡◌, ◌<◌, ◌≤◌, [], ◌∷◌, ◌++◌, None, Some, IfOk, IfErr, OnOk, OnErr, MatchResult, map, vec_len, vec_capacity};
 ghost use Rattle.std.specs.Arc.{arc_value};
 ghost use Rattle.std.specs.Borrow.{sem};
 ghost use Rattle.std.specs.Io.BufRead.{Rests};
-ghost use Rattle.std.specs.List.{AllByRecursion, list_all};
+ghost use Rattle.std.specs.List.{AllByRecursion};
 ghost use Rattle.swift_types.specs.declared.limits.TheConstants.{TASKS};
 ghost use Rattle.swift_types.specs.declared.id.TaskId.{TaskId};
-ghost use Rattle.swift_types.specs.declared.priority.Priority.{Priority};
 ghost use Rattle.swift_script.specs.Scripts.{ScriptView, root_count};
-ghost use Rattle.swift_ledger.specs.Ledgers.{IsMade};
 ghost use Rattle.swift_ledger.specs.Levels.{AreLevels, HaveStayed};
 ghost use Rattle.swift_events.specs.Lives.{life_of};
-ghost use Rattle.swift_escalation.specs.Waits.{IsPriority};
-ghost use Rattle.swift_events.specs.Relations.{links_of};
 ghost use Rattle.swift_turn.specs.Body.{idle};
 ghost use Rattle.swift_history.specs.TurnEnds.{root_job, root_events};
 ghost use Rattle.swift_tasks.specs.BookInvariant.{FitsScript, held_views};
 ghost use Rattle.swift_tasks.specs.Books.{IsJobOf, jobs_held};
 ghost use Rattle.swift_history.specs.Jobs.{job_facts};
-ghost use Rattle.swift_tasks.specs.Refusals.{IsRefusal, refusal_of_root, refusal_of_cancel, refusal_of_priorities};
+ghost use Rattle.swift_tasks.specs.Refusals.{IsRefusal, refusal_of_root, refusal_of_cancel};
 
 use crate::book::Book;
 use crate::fault::BookFault;
@@ -34,7 +30,7 @@ use swift_locals::Bindings;
 use swift_log::EventLog;
 use swift_script::Script;
 use swift_turn::Body;
-use swift_types::{Priority, Resume, RootId, TaskId};
+use swift_types::{Resume, RootId, TaskId};
 
 impl Book {
     ghost use Rattle.swift_tasks.specs.contracts.book.Book.{the_row};
@@ -87,24 +83,6 @@ impl Book {
         Ok(())
     }
 
-    /// The priority of each of these tasks, at its place of a list of the same length (SE-0304; our own where tasks wait).
-    /// `Unknown` where one of them was not made: then nothing is written. It takes no memory, and time linear in how many are asked
-    /// for.
-    pub fn priorities(&self, tasks: &[TaskId], priorities: &mut [Priority]) -> Result<(), BookFault>
-        requires { length tasks.now ≡ length priorities.old }
-        ensures ok { OnOk result ((k : ℕ) (t : TaskId) (p : Priority) → k < length tasks.now → IsPriority (links_of self.now.log) (slice_index_or tasks.now k t) (slice_index_or priorities.new k p)) }
-        ensures err { OnErr result (priorities.new ≡ priorities.old) }
-        ensures refused { MatchResult result (λ _. refusal_of_priorities self.now.log tasks.now ≡ None) (λ fault. refusal_of_priorities self.now.log tasks.now ≡ Some fault) }
-    {
-        if !self.are_made(tasks) {
-            return Err(BookFault::Unknown);
-        }
-        for place in 0..tasks.len() {
-            priorities[place] = priority_of(&self.ledger, tasks[place]);
-        }
-        Ok(())
-    }
-
     /// The levels of the tasks, by the number of the task: one more than the number of the priority, and 0 for a task that was
     /// not made, as for each past the end (our own). It takes no memory. Constant time where no task was made and no wait
     /// has raised a priority since the last call, else time that is linear in the tasks.
@@ -121,14 +99,6 @@ impl Book {
         ensures { HaveStayed self.now.log result }
     {
         self.ledger.levels_changed()
-    }
-
-    fn are_made(&self, tasks: &[TaskId]) -> bool
-        ensures { result ≡ list_all (λ t. is_some (life_of t.0 self.now.log).origin) tasks.now }
-    {
-        tasks
-            .iter()
-            .all(|task| self.ledger.life(*task).origin.is_some())
     }
 
     /// Gives up the log, and the job of each task that still waits, by the number of the task. Such a job goes on where its
@@ -178,17 +148,6 @@ fn note_root(ledger: &mut Ledger, script: &Script, root: RootId)
     let priority = script.root_priority(root);
     ledger.note(Event::Root(task, priority));
     ledger.note_give(task, 0, Resume::Start);
-}
-
-// The priority of a task that was made.
-fn priority_of(ledger: &Ledger, task: TaskId) -> Priority
-    requires { IsMade ledger.now.log task }
-    ensures { IsPriority (links_of ledger.now.log) task result }
-{
-    match ledger.priority(task) {
-        Some(priority) => priority,
-        None => unreachable!(),
-    }
 }
 
 // The jobs of the tasks that wait, by the number of the task, in a list that has the room for them.

@@ -42,7 +42,7 @@ use swift_undo::{Undo, play_kept};
 /// ```text
 /// let solo = Solo::new(rt, Doorbell::spinning())?;
 /// let mut cx = solo.begin();
-/// .. any number of turns, each by `run_turn(&mut body, &mut cx, fields, resume, env)` ..
+/// .. any number of turns, each by `enter`, `poll(&mut cx)` and `leave`, or by `play_turn_from` ..
 /// cx.cancel();
 /// ```
 pub struct Body {

@@ -23,4 +23,4 @@ mod whole;
 pub use body::Body;
 pub use outcome::TurnOutcome;
 pub use step::Step;
-pub use whole::{play_turn_from, replay_turn, run_turn};
+pub use whole::{play_turn_from, replay_turn};

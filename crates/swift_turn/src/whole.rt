@@ -19,39 +19,6 @@ use std::alloc::AllocError;
 use swift_interpreter::{Effect, Exit, Frame, SavedRows};
 use swift_types::{Env, Resume};
 
-/// Enters a turn, polls it and leaves it, for a task that has not ended (`is_running`): the kept turn of the frame that runs. The
-/// body then stands for what that turn leaves. Out of memory, the fields come back, and the body is as it was, but that a turn
-/// which was entered before may be given up. Its cost is the turn's steps, the sizes of the frame's variables and own
-/// bindings, the fields of the actors that it sets, and a look at each invariant of its executor's actors. It takes memory
-/// for what it makes, and where what it keeps to undo it is more than that of any turn before.
-pub fn run_turn(
-    body: &mut Body,
-    cx: &mut Context<'_>,
-    fields: Vec<Vec<i64>>,
-    resume: Resume,
-    env: Env,
-) -> Result<TurnOutcome, (Vec<Vec<i64>>, AllocError)>
-    requires { IsRunning body.old }
-    // The theorem: what the three calls give is the kept turn of the frame that runs, and the body stands for it.
-    ensures turn { IfOk result (λ r. Polls body.old.script body.old.task.outer body.old.task.frames (entered (rows_of fields.items) resume env)
-        body.new.task.frames (left (rows_of r.fields.items) (effect_views r.effects.items) (exit_view r.exit))) }
-    ensures rest { OnOk result (body.new ≡ record body.old { task = record body.old.task { frames = body.new.task.frames }; phase = idle; waker = body.new.waker }) }
-    // The turn was polled. Where it waits, the waker of the task that is polled lies in the slot of the body's source, unless none could
-    // be made.
-    ensures waits { IfOk result (λ r. Registers (exit_view r.exit) → (cx.new.lacks_waker ≡ true) ⊎ (body.new.waker ≡ Some (polled_in cx.old))) }
-    // Else, where the task goes on, the next poll is asked for.
-    ensures yields { IfOk result (λ r. ending_if (callers_of body.old.task.frames) (exit_view r.exit) ≡ None → (Registers (exit_view r.exit) → ⊥) → cx.new.is_woken ≡ true) }
-    // A waker lies there only where the turn waits.
-    ensures slot { IfOk result (λ r. IsSome body.new.waker → Registers (exit_view r.exit)) }
-    ensures back { IfErr result (λ e. rows_of e.0.items ≡ rows_of fields.items) }
-    ensures err { OnErr result ((body.new ≡ body.old) ⊎ (body.new ≡ at_rest body.old)) }
-    ensures kept { Keeps cx.old cx.new }
-{
-    body.enter(fields, resume, env)?;
-    let _ = body.poll(cx);
-    body.leave()
-}
-
 /// Plays a whole turn on fields in place, in buffers of the caller's that are used again from turn to turn: `fields` become
 /// those after the turn, `before` the frame as it was, and `effects` what it did, in order; what the last two had before
 /// counts for nothing. A turn that was entered before is given up. It is polled once, as by `poll` of `Body`.
@@ -62,8 +29,8 @@ pub fn run_turn(
 /// `saved` becomes the rows that the turn has set, as they were before it, also after an error; what it had before counts for nothing.
 ///
 /// After an error the body is as it was, but that no turn is under way, the fields are as before, and the rest means nothing. Its
-/// cost is that of `run_turn`, less what that takes to copy its results and to test the other invariants; for each of these it takes a
-/// look at the rows that were set. It takes memory only for what the turn makes, for the rows of fields that it sets, and where a buffer
+/// cost is the turn's steps, the sizes of the frame's variables and own bindings, the rows of fields that it sets, and for each invariant
+/// of its executor's actors a look at these rows. It takes memory only for what the turn makes, for the rows of fields that it sets, and where a buffer
 /// is too small.
 pub fn play_turn_from(
     body: &mut Body,
@@ -102,8 +69,12 @@ pub fn play_turn_from(
     body.play_in_place(cx, rows, fields, saved, resume, env, before, effects)
 }
 
-/// The turn of `run_turn` without a poll, for whoever replays a turn and waits for nothing: no waker is made, and one that lies in
-/// the slot of the body's source stays there. Its cost is that of `run_turn`.
+/// Enters a turn, plays it without a poll and leaves it, for whoever replays a turn and waits for nothing, and for a task that has not
+/// ended (`is_running`): the kept turn of the frame that runs. No waker is made, and one that lies in the slot of the body's source
+/// stays there. The body then stands for what that turn leaves. Out of memory, the fields come back, and the body is as it was, but that a
+/// turn which was entered before may be given up. Its cost is the turn's steps, the sizes of the frame's variables and own bindings, the
+/// fields of the actors that it sets, and a look at each invariant of its executor's actors. It takes memory for what it makes, and where
+/// what it keeps to undo it is more than that of any turn before.
 pub fn replay_turn(
     body: &mut Body,
     fields: Vec<Vec<i64>>,

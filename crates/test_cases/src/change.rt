@@ -64,7 +64,17 @@ fn with_ends(alloc: Global, log: &EventLog, value: i64) -> Result<EventLog, Allo
             other => changed.push(other)?,
         }
     }
-    EventLog::from_events(alloc, &changed)
+    log_of(alloc, &changed)
+}
+
+// A log of these events.
+fn log_of(alloc: Global, events: &[Event]) -> Result<EventLog, AllocError> {
+    let mut log = EventLog::new(alloc);
+    for event in events {
+        log.reserve(1)?;
+        log.push(*event);
+    }
+    Ok(log)
 }
 
 fn set_ending(endings: &mut [(Origin, Ending)], ending: Ending) {
@@ -106,7 +116,7 @@ fn with_cancel(alloc: Global, log: &EventLog) -> Result<EventLog, AllocError> {
             other => changed.push(other)?,
         }
     }
-    EventLog::from_events(alloc, &changed)
+    log_of(alloc, &changed)
 }
 
 // The environment of a task that was cancelled.

