@@ -17,15 +17,19 @@ abbrev pub is_task : TaskId → Option TaskId → Bool
 is_task t None = false
 is_task t (Some u) = nat_eq u.0 t.0
 
+-- whether a task that comes from there was made by this one
+abbrev pub is_made_by : TaskId → Origin → Bool
+is_made_by maker origin = is_task maker (maker_of origin)
+
 -- how many of these tasks a task has made
-abbrev pub made_before : List (Origin × Ending) → TaskId → ℕ
-made_before es maker = count_by (λ e. is_task maker (maker_of e.0)) es
+abbrev pub made_of : List (Origin × Ending) → TaskId → ℕ
+made_of es maker = count_by (λ e. is_made_by maker e.0) es
 
 -- a task by the name of its maker: a root's name is its root's, and another one's that of its maker, and its place among those that its
 -- maker has made, from 1
 abbrev pub name_by : (ℕ → List ℕ) → ScriptView → List (Origin × Ending) → ℕ → Option TaskId → List ℕ
 name_by before p es t None = root_name p t
-name_by before p es t (Some maker) = before maker.0 ++ codes "/" ++ decimal (made_before (take t es) maker + 1)
+name_by before p es t (Some maker) = before maker.0 ++ codes "/" ++ decimal (made_of (take (t + 1) es) maker)
 
 abbrev pub name_if : (ℕ → List ℕ) → ScriptView → List (Origin × Ending) → ℕ → Option (Origin × Ending) → List ℕ
 name_if before p es t None = []

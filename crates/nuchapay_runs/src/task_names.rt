@@ -1,7 +1,7 @@
 //! Names of tasks.
 
 ghost use Rattle.std.specs.Prelude.{◌≡◌, ◌++◌, IfOk, IfSome, OnOk};
-ghost use Rattle.nuchapay_runs.specs.TaskNames.{made_before, maker_of, name_within, task_name};
+ghost use Rattle.nuchapay_runs.specs.TaskNames.{is_made_by, made_of, maker_of, name_within, task_name};
 
 use crate::number::number;
 use std::alloc::{AllocError, Global};
@@ -19,17 +19,24 @@ fn maker_of(origin: Origin) -> Option<TaskId>
     }
 }
 
-// How many of these tasks a task has made.
-fn made_before(endings: &[(Origin, Ending)], maker: TaskId) -> usize
-    ensures { result ≡ made_before endings.now maker }
+// Whether a task that comes from there was made by this one.
+fn is_made_by(origin: Origin, maker: TaskId) -> bool
+    ensures { result ≡ is_made_by maker origin }
 {
-    let mut made: usize = 0;
-    for (origin, _) in endings {
-        if maker_of(*origin) == Some(maker) {
-            made += 1;
-        }
+    match maker_of(origin) {
+        Some(by) => by.0 == maker.0,
+        None => false,
     }
-    made
+}
+
+// How many of these tasks a task has made.
+fn made_of(endings: &[(Origin, Ending)], maker: TaskId) -> usize
+    ensures { result ≡ made_of endings.now maker }
+{
+    endings
+        .iter()
+        .filter(|ended| is_made_by(ended.0, maker))
+        .count()
 }
 
 // Appends the name of a task, which with its makers is of at most so many tasks.
@@ -52,7 +59,7 @@ fn write_within(
         Some(maker) => {
             write_within(out, script, endings, maker, tasks - 1)?;
             out.extend_from_slice(b"/")?;
-            number(out, made_before(&endings[..place], maker) + 1)
+            number(out, made_of(&endings[..place + 1], maker))
         }
     }
 }

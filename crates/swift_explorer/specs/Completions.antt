@@ -19,7 +19,7 @@ IsFaultOf log t NotMade = (life_of t log).origin ≡ None
 IsFaultOf log t Ended = is_some (life_of t log).ending ≡ true
 IsFaultOf log t UnderWay = is_begun (life_of t log).stage ≡ true
 IsFaultOf log t NotBegun = is_begun (life_of t log).stage ≡ false
-IsFaultOf log t Waits = ((life_of t log).ending ≡ None) × (is_begun (life_of t log).stage ≡ false)
+IsFaultOf log t Waits = (is_some (life_of t log).ending ≡ false) × (is_begun (life_of t log).stage ≡ false)
 IsFaultOf log t (Busy u) = is_begun (life_of u.0 log).stage ≡ true
 IsFaultOf log t Other = Unit {0}
 

@@ -120,9 +120,9 @@ fn follow_or_stop(
     ensures path { IfOk result (λ o. o ≡ None → IsPath (arc_value history.old.script) path.now history.new) }
     ensures stopped { IfOk result (λ o. IfSome o (λ at. IsStopped (arc_value history.old.script) path.now at.0 at.1)) }
 {
-    for place in 0..path.len() {
-        let fault = history.step_fault(path[place]);
-        if let Followed::No = history.step(path[place])? {
+    for (place, step) in path.iter().enumerate() {
+        let fault = history.step_fault(*step);
+        if let Followed::No = history.step(*step)? {
             return Ok(Some((place, fault)));
         }
     }
