@@ -93,9 +93,9 @@ refusals: $(CASES) $(DAILY)
 links:
 	@tools/links.py
 
-# Whether the README says how many definitions the text of a run rests on, and whether files of specs/ that only proofs use are named so.
+# Whether docs/PROVED.md says how many definitions the text of a run rests on, and whether files of specs/ that only proofs use are named so.
 believe:
-	@tools/believe.py --check && echo "the README says on how many definitions the text of a run rests"
+	@tools/believe.py --check && echo "docs/PROVED.md says on how many definitions the text of a run rests"
 
 # Tests the tools: what the gate trusts some of them for, and whether tools/outcomes.py lists as many outcomes as were worked out by hand.
 tools:

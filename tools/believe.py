@@ -3,7 +3,7 @@
 
     tools/believe.py                    those of WritesRun of swift_tool, which is the clause `text` of `run_text`
     tools/believe.py CRATE NAME         those of another definition
-    tools/believe.py --check            whether the README gives the numbers of the first form, and whether each file of specs/ that no
+    tools/believe.py --check            whether docs/PROVED.md gives the numbers of the first form, and whether each file of specs/ that no
                                         public clause names, nor a definition that one names, has Inside or Invariant in its name,
                                         and no other
 
@@ -18,6 +18,8 @@ import sys
 TOP = os.path.dirname(os.path.dirname(os.path.abspath(__file__)))
 CRATES = os.path.join(TOP, "crates")
 FIRST = ("swift_tool", "WritesRun")
+# The page that says how many definitions these are.
+PAGE = os.path.join("docs", "PROVED.md")
 # A name, or one of another module through an alias of that. Parts of operators count as names, too.
 NAME = r"[^\W\d][\w'-]*(?:\.[^\W\d][\w'-]*)*|[◌\w]*◌\S*◌[◌\w]*"
 HEAD = r"(?:(?:pub|abbrev|unfoldable|opaque|unfold|data|record)\s+)*([^\s:(){}=|]+)"
@@ -282,10 +284,10 @@ def check():
     if wrong:
         sys.exit("\n".join(wrong))
     said = numbers(*rests_on(*FIRST))
-    with open(os.path.join(TOP, "README.md"), encoding="utf8") as readme:
-        if said in " ".join(readme.read().split()):
+    with open(os.path.join(TOP, PAGE), encoding="utf8") as page:
+        if said in " ".join(page.read().split()):
             return
-    sys.exit(f"README.md should say: {said}")
+    sys.exit(f"{PAGE} should say: {said}")
 
 
 def main():

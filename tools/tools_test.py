@@ -96,24 +96,24 @@ class Believe(Folder):
         said = believe.numbers(*believe.rests_on("high", "Says"))
         self.assertEqual(said, "3 definitions in 2 files, 7 lines, and 3 words of the kit")
 
-    def check(self, readme):
-        write(self.folder, {"README.md": readme})
+    def check(self, page):
+        write(self.folder, {"docs/PROVED.md": page})
         with self.assertRaises(SystemExit) as ended:
             believe.check()
         return str(ended.exception)
 
-    def test_readme(self):
-        write(self.folder, {"README.md": "There are 3 definitions in 2\nfiles, 7 lines, and 3 words of the kit.\n"})
+    def test_page(self):
+        write(self.folder, {"docs/PROVED.md": "There are 3 definitions in 2\nfiles, 7 lines, and 3 words of the kit.\n"})
         self.assertIsNone(believe.check())
         self.assertIn("should say: 3 definitions", self.check("There are 4 definitions in 2 files, 7 lines, and 3 words of the kit.\n"))
 
     def test_files_that_only_proofs_use(self):
-        readme = "3 definitions in 2 files, 7 lines, and 3 words of the kit"
-        write(self.folder, {"README.md": readme, "crates/low/specs/Hidden.antt": "abbrev pub hidden : Type 0\nhidden = hidden\n"})
-        self.assertEqual(self.check(readme), "crates/low/specs/Hidden.antt: no public clause rests on it")
+        page = "3 definitions in 2 files, 7 lines, and 3 words of the kit"
+        write(self.folder, {"docs/PROVED.md": page, "crates/low/specs/Hidden.antt": "abbrev pub hidden : Type 0\nhidden = hidden\n"})
+        self.assertEqual(self.check(page), "crates/low/specs/Hidden.antt: no public clause rests on it")
         os.remove(os.path.join(self.folder, "crates/low/specs/Hidden.antt"))
         write(self.folder, {"crates/high/src/lib.rt": TREE["high/src/lib.rt"].replace("Says", "counted").replace("high.specs.counted", "low.specs.CountInside")})
-        self.assertIn("crates/low/specs/CountInside.antt: a public clause rests on it", self.check(readme))
+        self.assertIn("crates/low/specs/CountInside.antt: a public clause rests on it", self.check(page))
 
 
 CODE = "fn first() -> u32 {\n    second() + 1\n}\n\nfn second() -> u32 {\n    2\n}\n\nfn third() -> u32 {\n    30\n}\n"
