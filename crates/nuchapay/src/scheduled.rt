@@ -1,13 +1,15 @@
 //! Runs by a schedule.
 
-ghost use Rattle.std.specs.Prelude.{◌≡◌, false, take, IfOk};
+ghost use Rattle.std.specs.Prelude.{◌≡◌, false, take, IfOk, Some};
 ghost use Rattle.std.specs.Arc.{arc_value};
 ghost use Rattle.swift_explorer.specs.FoundText.{schedule_text};
 ghost use Rattle.swift_report.specs.Text.{report_text};
 ghost use Rattle.swift_tool.specs.ReportJson.{report_json};
 ghost use Rattle.swift_tool.specs.Run.{end_well};
 ghost use Rattle.nuchapay_runs.specs.Notes.{IsAnnotated};
-ghost use Rattle.nuchapay.specs.Scheduled.{IsBrokenLine, IsChosen, IsScheduledReport};
+ghost use Rattle.nuchapay_tool.specs.declared.turn_names.TurnWord.{TurnWord};
+ghost use Rattle.nuchapay.specs.Runs.{IsAsked};
+ghost use Rattle.nuchapay.specs.Scheduled.{IsBrokenLine, IsChosen, IsCompleted, IsRunOrNone, IsScheduledReport};
 
 use crate::explore::{place_of, search_all};
 use crate::schedules::{ReadSchedule, WordFault, begun, read_schedule};
@@ -105,7 +107,9 @@ fn completed_run(
     alloc: Global,
     script: Arc<Script>,
     schedule: &[Move],
-) -> Result<ChosenRun, ToolFault> {
+) -> Result<ChosenRun, ToolFault>
+    ensures { IfOk result (IsCompleted (arc_value script) schedule.now) }
+{
     match complete_schedule(alloc, &script, schedule)? {
         Completion::Whole(whole) => {
             let report = scheduled_report(alloc, &script, &whole)?;
@@ -130,7 +134,9 @@ fn outcome_run(
     script: Arc<Script>,
     limit: u32,
     outcome: u32,
-) -> Result<ChosenRun, ToolFault> {
+) -> Result<ChosenRun, ToolFault>
+    ensures { IfOk result (IsRunOrNone (arc_value script) (ScheduleChoice.Outcome limit outcome)) }
+{
     let alloc = rt.alloc();
     let found = search_all(rt, &script, limit as usize)?;
     let Some(place) = place_of(found.outcomes.len(), outcome) else {
@@ -148,7 +154,9 @@ fn outcome_run(
 }
 
 // The run of a schedule to a turn that is undone by an invariant.
-fn broken_run(rt: &HostRuntime, script: Arc<Script>, limit: u32) -> Result<ChosenRun, ToolFault> {
+fn broken_run(rt: &HostRuntime, script: Arc<Script>, limit: u32) -> Result<ChosenRun, ToolFault>
+    ensures { IfOk result (IsRunOrNone (arc_value script) (ScheduleChoice.Broken limit)) }
+{
     let found = search_all(rt, &script, limit as usize)?;
     match &found.broken {
         Some(schedule) => completed_run(rt.alloc(), script, schedule),
@@ -182,7 +190,9 @@ pub fn broken_line(rt: &HostRuntime, text: &[u8], limit: u32) -> Result<BrokenLi
 }
 
 // The run of a schedule that was written down.
-fn given_run(alloc: Global, script: Arc<Script>, words: &str) -> Result<ChosenRun, ToolFault> {
+fn given_run(alloc: Global, script: Arc<Script>, words: &str) -> Result<ChosenRun, ToolFault>
+    ensures { IfOk result (IsRunOrNone (arc_value script) (ScheduleChoice.Given words.entry)) }
+{
     match read_schedule(alloc, script.root_count(), words)? {
         ReadSchedule::Steps(schedule) => completed_run(alloc, script, &schedule),
         ReadSchedule::Refused(number, fault) => Ok(ChosenRun::None(NoRun::Word(number, fault))),
@@ -250,7 +260,9 @@ impl ScheduledRun {
     }
 
     /// A turn, explained. Where none is named, the one of the last step that was given.
-    pub fn why(&self, alloc: Global, word: Option<TurnWord<'_>>) -> Result<AskedTurn, AllocError> {
+    pub fn why(&self, alloc: Global, word: Option<TurnWord<'_>>) -> Result<AskedTurn, AllocError>
+        ensures { (w : TurnWord) → word ≡ Some w → IfOk result (IsAsked w (arc_value self.now.script) self.now.report) }
+    {
         let word = match word {
             Some(word) => word,
             None => match last_turn(self.given_steps()) {

@@ -1,7 +1,7 @@
 //! Schedules that were written down.
 
-ghost use Rattle.std.specs.Prelude.{IfOk};
-ghost use Rattle.nuchapay.specs.Schedules.{IsReadAs};
+ghost use Rattle.std.specs.Prelude.{◌≡◌, IfOk};
+ghost use Rattle.nuchapay.specs.Schedules.{IsReadAs, line_of};
 
 use nuchapay_tool::{TurnName, turn_name};
 use std::alloc::{AllocError, Global};
@@ -114,12 +114,14 @@ fn roots_added(alloc: Global, roots: usize) -> Result<Vec<Move>, AllocError> {
 }
 
 // The line of a schedule that these words are.
-fn line_of(alloc: Global, words: &str) -> Result<Vec<u8>, AllocError> {
-    let mut line = Vec::from_slice(alloc, b"schedule")?;
-    if !words.is_empty() {
-        line.extend_from_slice(b" ")?;
-        line.extend_from_slice(words.as_bytes())?;
-    }
+fn line_of(alloc: Global, words: &[u8]) -> Result<Vec<u8>, AllocError>
+    ensures { IfOk result (λ line. line.items ≡ line_of words.now) }
+{
+    let [_, ..] = words else {
+        return Vec::from_slice(alloc, b"schedule\n");
+    };
+    let mut line = Vec::from_slice(alloc, b"schedule ")?;
+    line.extend_from_slice(words)?;
     line.extend_from_slice(b"\n")?;
     Ok(line)
 }
@@ -159,14 +161,14 @@ pub fn word_at(words: &str, number: usize) -> &str {
 ///
 /// `AllocError` where no memory was left.
 pub fn read_schedule(alloc: Global, roots: usize, words: &str) -> Result<ReadSchedule, AllocError>
-    ensures { IfOk result (IsReadAs roots words.now) }
+    ensures { IfOk result (IsReadAs words.now) }
 {
     let found = read_words(alloc, roots, words)?;
     let ReadSchedule::Steps(path) = found else {
         return Ok(found);
     };
     let printed = schedule_text(alloc, &path)?;
-    let given = line_of(alloc, words)?;
+    let given = line_of(alloc, words.as_bytes())?;
     if printed == given {
         Ok(ReadSchedule::Steps(path))
     } else {

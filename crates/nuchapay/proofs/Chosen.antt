@@ -1,0 +1,19 @@
+-- Runs by the schedule that was asked for.
+use Rattle.std.proofs.Common.{◌≡◌, List, sym, subst}
+use Rattle.std.specs.Prelude.{Result, Ok, Err, IfOk}
+use Rattle.swift_script.specs.Scripts.{ScriptView}
+use Rattle.swift_explorer.specs.declared.moves.Move.{Move}
+use Rattle.swift_tool.specs.declared.fault.ToolFault.{ToolFault}
+use Rattle.nuchapay_tool.specs.declared.requests.ScheduleChoice.{ScheduleChoice}
+use Rattle.nuchapay.specs.declared.scheduled.ChosenRun.{ChosenRun}
+use Rattle.nuchapay.specs.declared.scheduled.ChosenRun.TheVariants as chosen
+use Rattle.nuchapay.specs.Scheduled.{IsChoice, IsCompleted, IsRunOrNone}
+
+-- a schedule that was asked for, and was led to its end
+pub completed : (script : ScriptView) (choice : ScheduleChoice) (schedule : List Move) (r : ChosenRun) → IsChoice script choice schedule → IsCompleted script schedule r → IsRunOrNone script choice r
+completed script choice schedule (chosen.Run run) is c = record { same = c.same; is = c.is; chosen = subst (IsChoice script choice) (sym c.first) is }
+completed script choice schedule (chosen.None why) is c = c choice
+
+pub completed_if : (script : ScriptView) (choice : ScheduleChoice) (schedule : List Move) (r : Result ChosenRun ToolFault) → IsChoice script choice schedule → IfOk r (IsCompleted script schedule) → IfOk r (IsRunOrNone script choice)
+completed_if script choice schedule (Ok run) is c = completed script choice schedule run is c
+completed_if script choice schedule (Err e) is c = tt
