@@ -1,6 +1,6 @@
 -- A schedule that is followed, up to a step or to its end.
-use Rattle.std.proofs.Common.{◌≡◌, ℕ, List, ◌++◌, take}
-use Rattle.std.specs.Prelude.{Some, slice_get}
+use Rattle.std.proofs.Common.{◌≡◌, ◌<◌, ℕ, zero, suc, List, [], ◌∷◌, ◌++◌, length, take, refl, arith}
+use Rattle.std.specs.Prelude.{Some, slice_get, slice_index_or}
 use Rattle.swift_script.specs.Scripts.{ScriptView}
 use Rattle.swift_explorer.specs.declared.moves.Move.{Move}
 use Rattle.swift_explorer.specs.declared.completion.StepFault.{StepFault}
@@ -21,3 +21,9 @@ stopped_at script path place m why x p there is = record { log = x.book.log; bef
 -- steps that were followed, of which these are the first
 pub whole_of : (script : ScriptView) (schedule path rest : List Move) (x : SearchedHistory) → path ≡ schedule ++ rest → IsPath script path x → IsWhole script schedule path
 whole_of script schedule path rest x begins p = record { rest = rest; begins = begins; log = x.book.log; done = log_of script path x p }
+
+-- what stands at a place of a path
+pub read_at : (path : List Move) (place : ℕ) (d : Move) → place < length path → slice_get path place ≡ Some (slice_index_or path place d)
+read_at [] place d lt = absurd (omega (arith, lt))
+read_at (m ∷ ms) zero d lt = refl
+read_at (m ∷ ms) (suc place) d lt = read_at ms place d (omega (arith, lt))

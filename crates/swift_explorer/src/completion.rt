@@ -1,9 +1,10 @@
 //! A schedule that is led to its end.
 
-ghost use Rattle.std.specs.Prelude.{◌≡◌, ℕ, ◌++◌, List, [], IfOk, IfSome, None, OnOk};
+ghost use Rattle.std.specs.Prelude.{◌≡◌, ℕ, ◌++◌, List, [], ◌∷◌, IfOk, IfSome, IsTrue, None};
 ghost use Rattle.std.specs.Arc.{arc_value};
 ghost use Rattle.swift_explorer.specs.Completions.{IsCompletion, IsFaultOf, IsStepFault, IsStopped};
 ghost use Rattle.swift_explorer.specs.HistoryInside.{IsPath};
+ghost use Rattle.swift_explorer.specs.declared.moves.Move.{Move};
 
 use crate::history::{Followed, SearchedHistory};
 use crate::moves::Move;
@@ -16,7 +17,7 @@ use swift_types::TaskId;
 const CHOSEN: usize = 1_000_000;
 
 /// Why a step may not follow (our own), by the log of the steps before it.
-#[derive(Clone, Copy, PartialEq, Eq)]
+#[derive(Clone, Copy)]
 pub enum StepFault {
     /// Its task was not made yet.
     NotMade,
@@ -156,11 +157,30 @@ fn next_in_turn(moves: &[Move], last: Option<TaskId>) -> Option<Move> {
     moves.first().copied()
 }
 
+// Does one more step, and puts it to those before it: whether it may follow.
+fn push_step(
+    history: &mut SearchedHistory,
+    path: &mut Vec<Move>,
+    step: Move,
+) -> Result<bool, AllocError>
+    requires { IsPath (arc_value history.old.script) path.old.items history.old }
+    ensures script { history.new.script ≡ history.old.script }
+    ensures path { IfOk result (λ done. IsTrue done → IsPath (arc_value history.old.script) path.new.items history.new) }
+    ensures one { IfOk result (λ done. IsTrue done → path.new.items ≡ path.old.items ++ step ∷ []) }
+{
+    if let Followed::No = history.step(step)? {
+        return Ok(false);
+    }
+    path.push(step)?;
+    Ok(true)
+}
+
 // Goes on, where these steps have led, until no step may follow: whether that was reached. Each step is put to the others.
 fn go_to_the_end(history: &mut SearchedHistory, path: &mut Vec<Move>) -> Result<bool, AllocError>
     requires { IsPath (arc_value history.old.script) path.old.items history.old }
-    ensures path { OnOk result (IsPath (arc_value history.old.script) path.new.items history.new) }
-    ensures after { OnOk result ((rest : List Move) × (path.new.items ≡ path.old.items ++ rest)) }
+    ensures script { history.new.script ≡ history.old.script }
+    ensures path { IfOk result (λ done. IsTrue done → IsPath (arc_value history.old.script) path.new.items history.new) }
+    ensures after { IfOk result (λ done. IsTrue done → (rest : List Move) × (path.new.items ≡ path.old.items ++ rest)) }
 {
     let mut last: Option<TaskId> = None;
     for _ in 0..CHOSEN {
@@ -170,10 +190,9 @@ fn go_to_the_end(history: &mut SearchedHistory, path: &mut Vec<Move>) -> Result<
         let Some(step) = next_in_turn(&moves, last) else {
             return Ok(true);
         };
-        if let Followed::No = history.step(step)? {
+        if !push_step(history, path, step)? {
             return Ok(false);
         }
-        path.push(step)?;
         last = task_of(step);
     }
     Ok(false)
