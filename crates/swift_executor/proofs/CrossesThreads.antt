@@ -56,7 +56,7 @@ state_send = search (plain, script_send, script_sync, body_send, chosen_send, pl
 pub book_seat_send : IsSend book_seat.the_row
 book_seat_send = search (plain, Badge.the_send) depth 60 fits 20000
 
-held_send : IsSend (held.the_field).row
+held_send : IsSend held.the_row
 held_send = search (plain, state_send, taker_send, book_seat_send) depth 60 fits 20000
 
 resting_send : IsSend resting.the_row

@@ -2,6 +2,7 @@ pub mod CrossesThreads
 pub mod Visits
 pub mod OneRecord
 pub mod VisitsDone
+pub mod VisitSteps
 pub mod AccountKept
 pub mod Removed
 pub mod ReadyKept

@@ -1,9 +1,7 @@
 -- A turn that a visit has run wrote one record.
-use Rattle.std.proofs.Common.{◌≡◌, ℕ, Option, Some, None, List, [], ◌∷◌, ◌++◌, map, refl, ap, sym, subst, ◌∙◌}
+use Rattle.std.proofs.Common.{◌≡◌, ℕ, List, [], ◌∷◌, ◌++◌, map, refl, ap, sym, ◌∙◌}
 use Rattle.std.proofs.lemmas.Option.{same_Some}
 use Rattle.swift_types.specs.declared.id.TaskId.{TaskId}
-use Rattle.swift_job.specs.Job.{JobView}
-use Rattle.swift_turn.specs.Body.{BodyView}
 use Rattle.swift_journal.specs.Records.{RecordView}
 use Rattle.swift_history.specs.Jobs.{job_facts}
 use Rattle.swift_course.specs.Steps.{with_record}
@@ -13,7 +11,7 @@ use Rattle.swift_executor.specs.Account.{job_seen, ready_jobs, record_seen}
 use Rattle.swift_executor.specs.Ready.{ready_job}
 use Rattle.swift_executor.specs.Seats.{records_in}
 use Rattle.swift_executor.specs.State.{ChosenStageView, ChosenView, ExecStateView, journal_with, picked, begun, played, record_at, record_by, record_of}
-use Rattle.swift_executor.specs.Visits.{RunsTurn, TurnsWriteOne, WritesOne}
+use Rattle.swift_executor.specs.Visits.{TurnsWriteOne}
 use Rattle.swift_executor.proofs.AccountKept.{front_less}
 use Rattle.swift_executor.proofs.Visits.{only_both, only_played, only_started}
 
@@ -29,17 +27,17 @@ worker_of (played worker env frame fields effects exit) = worker
 
 pub writes_one : TurnsWriteOne
 writes_one worker task jobs jobs' old new ran =
-    let s = ran.starts in
+    let s = ran.begins.starts in
     let f = ran.finishes in
     let ch = s.chooses in
-    let b = s.begins.turn in
+    let b = s.begins.begins.turn in
     let p = f.plays in
     let e = f.ends.turn in
     let r = f.written in
     let first : ChosenView = record { job = ch.job; arrival = ch.arrival; stage = picked } in
     let was : first ≡ b.0 = same_Some first b.0 (sym (ap (λ (x : ExecStateView). x.chosen) ch.same) ∙ b.1) in
     let going : ChosenView = record b.0 { stage = begun worker b.2.env } in
-    let goes : p.0 ≡ going = same_Some p.0 going (sym p.1 ∙ ap (λ (x : ExecStateView). x.chosen) s.given ∙ ap (λ (x : ExecStateView). x.chosen) b.2.same) in
+    let goes : p.0 ≡ going = same_Some p.0 going (sym p.1 ∙ ap (λ (x : ExecStateView). x.chosen) s.begins.given ∙ ap (λ (x : ExecStateView). x.chosen) b.2.same) in
     let done : ChosenView = record { job = p.2.job; arrival = p.0.arrival; stage = played p.2.worker p.2.env p.2.frame p.2.fields p.2.effects p.2.exit } in
     let own : RecordView = record_by p.2.job p.2.worker p.2.env p.2.frame p.2.effects p.2.exit in
     let is : r ≡ own = same_Some r own (sym f.is_written ∙ ap (λ (x : ExecStateView). record_of x.chosen) p.2.same) in
@@ -49,7 +47,7 @@ writes_one worker task jobs jobs' old new ran =
     ap record_seen is ∙ ap job_seen p.2.same_job ∙ ap (λ (x : ChosenView). job_seen (job_facts x.job)) (goes ∙ ap (λ (x : ChosenView). record x { stage = begun worker b.2.env }) (sym was))
     in
     let stayed : f.played.journal ≡ old.state.journal =
-    ap (λ (x : ExecStateView). x.journal) (only_both old.state ran.begun f.played (only_started worker task old.seat.knows old.state ran.begun s) (only_played ran.begun f.played p))
+    ap (λ (x : ExecStateView). x.journal) (only_both old.state ran.begun.state f.played (only_started worker task old.seat.knows old.state ran.begun.state s) (only_played ran.begun.state f.played p))
     in
     record {
       written = r;
@@ -60,5 +58,5 @@ writes_one worker task jobs jobs' old new ran =
       of_task = ap (λ x. x.task) of_job ∙ ap (λ (t : TaskId). t.0) ch.task_is;
       on_worker = ap (λ (x : RecordView). x.worker) is ∙ ap worker_of (sym p.2.was ∙ ap (λ (x : ChosenView). x.stage) goes);
       journal = ap (λ (x : ExecStateView). x.journal) e.2.same ∙ ap (λ (js : List RecordView). journal_with js ended) stayed ∙ ap (journal_with old.state.journal) (sym ends);
-      account = ap (λ (x : BookSeatView). records_in x.knows) f.told ∙ records_applied r ran.seat.knows.accounts ∙ ap (map (λ rs. rs ++ r ∷ [])) ran.records;
+      account = ap (λ (x : BookSeatView). records_in x.knows) f.told ∙ records_applied r ran.begun.seat.knows.accounts ∙ ap (map (λ rs. rs ++ r ∷ [])) ran.begins.records;
     }

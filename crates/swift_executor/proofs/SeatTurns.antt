@@ -1,5 +1,5 @@
 -- What the seat of an executor knows when a turn is applied whose record was written.
-use Rattle.std.proofs.Common.{◌≡◌, ℕ, suc, ◌-◌, ℤ, Option, Some, None, List, [], ◌∷◌, ◌++◌, length, refl, ap, sym, subst, ◌∙◌, arith, length-append}
+use Rattle.std.proofs.Common.{◌≡◌, ℕ, suc, ◌-◌, ℤ, Some, None, List, [], ◌∷◌, ◌++◌, length, refl, ap, sym, subst, ◌∙◌, arith, length-append}
 use Rattle.std.specs.Prelude.{slice_get}
 use Rattle.std.proofs.lemmas.Option.{same_Some}
 use Rattle.swift_interpreter.specs.Frames.{effect_views, frame_view}
@@ -18,7 +18,7 @@ use Rattle.swift_executor.specs.PlayingInside.{WritesRecord, refusal_of_left}
 use Rattle.swift_executor.specs.Refusals.{IsRefusal, fault_of}
 use Rattle.swift_executor.proofs.StateKept.{refused_so}
 use Rattle.swift_executor.specs.Seats.{IsSeatFor}
-use Rattle.swift_executor.specs.State.{ExecStateView, ExecInvariant, IsPlayed, Journals, played, record_at, record_by, refusal_of_stage}
+use Rattle.swift_executor.specs.State.{ExecStateView, ExecInvariant, IsPlayed, Journals, record_at, record_by, refusal_of_stage}
 use Rattle.swift_executor.specs.StateInside.{chosen_view, stage_of}
 use Rattle.swift_executor.specs.declared.chosen.PlayedTurn.{PlayedTurn}
 use Rattle.swift_executor.specs.declared.chosen.ChosenStage.{ChosenStage}

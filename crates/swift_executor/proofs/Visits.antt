@@ -1,48 +1,31 @@
--- What a visit to an executor leaves, by what its calls have answered.
-use Rattle.std.proofs.Common.{◌≡◌, ℕ, Bool, true, map, refl, ◌⊎◌, inl, inr, sym, subst, [], ◌∷◌, ◌++◌, Option, Some, None, Result, Ok, Err, IfOk, IfErr, IfSome, IfNone, OnOk, OnErr, List, ap, ◌∙◌}
+-- What the steps of a visit leave, by what their calls have answered.
+use Rattle.std.proofs.Common.{◌≡◌, ℕ, Bool, true, map, sym, subst, [], ◌∷◌, Option, Some, None, length, Result, Ok, Err, IfOk, IfErr, IfSome, IfNone, List, ap, ◌∙◌}
+use Rattle.std.proofs.lemmas.Option.{same_Some}
 use Rattle.atomic_table.specs.Seated.{TableId}
 use Rattle.swift_types.specs.declared.id.TaskId.{TaskId}
 use Rattle.swift_events.specs.declared.event.Event.{Event}
-use Rattle.swift_history.specs.TurnEnds.{JobFacts}
 use Rattle.swift_ledger.specs.Levels.{AreLevels}
 use Rattle.swift_script.specs.Scripts.{ScriptView}
-use Rattle.swift_shared_book.specs.Calls.{facts_of}
-use Rattle.swift_executor.specs.declared.fault.ExecFault.{ExecFault}
-use Rattle.swift_executor.specs.declared.fault.ExecFault.TheVariants.{Memory}
-use Rattle.swift_executor.specs.Account.{HasTaken}
-use Rattle.swift_executor.specs.Inbox.{InboxView, TakerView, has_taken}
-use Rattle.swift_job.specs.Job.{JobView}
-use Rattle.swift_history.specs.Jobs.{job_facts}
-use Rattle.swift_turn.specs.Body.{BodyView}
 use Rattle.swift_course.specs.Views.{BookFacts, BookKnown, TurnOrder, at_rest, under_way}
 use Rattle.swift_course.specs.Reports.{Knows}
 use Rattle.swift_course.specs.Steps.{order_begun}
+use Rattle.swift_turn.specs.Body.{BodyView}
 use Rattle.swift_tasks.specs.Books.{BookView}
-use Rattle.swift_tasks.specs.declared.fault.BookFault.{BookFault}
-use Rattle.swift_tasks.specs.declared.fault.BookFault.TheVariants as book
-use Rattle.swift_executor.specs.Refusals.{IsRefusal, fault_of}
-use Rattle.swift_executor.specs.Visits.{Starts}
-use Rattle.swift_executor.specs.declared.resting.TakenState.{TakenState}
-use Rattle.swift_executor.specs.Exec.{IsAt, IsRunFault, chosen_task, site_of}
-use Rattle.swift_executor.specs.Ready.{Adds, HaveCounted, ReadyJobsView}
-use Rattle.swift_executor.specs.State.{BeginsTurn, ChosenView, Chooses, ExecStateView, HasChosen, HasNone, IsPicked, IsPlayed, LacksTask, OnlyJobs, Plays, PutsBack, played, refusal_to_apply}
-use Rattle.swift_executor.specs.Seats.{HaveSeen, IsSeatFor}
-use Rattle.swift_shared_book.specs.Shared.{BookLockView, BookSeatView, IsInRun, IsSeatOf, knowing, seat_of, with_ticket}
-use Rattle.swift_executor.proofs.AccountKept.{accepted, chose, had_none, lacked}
-use Rattle.swift_executor.proofs.SeatKept.{accepted_knows, chose_counted, chose_knows, lacked_knows, none_knows}
-
--- what holds after each answer holds
-pub either : {A E : Type 0} (r : Result A E) (P : Type 0) → OnOk r P → OnErr r P → P
-either (Ok a) P ok err = ok
-either (Err e) P ok err = err
-
-pub map_ok : {A E : Type 0} (r : Result A E) (P Q : Type 0) → (P → Q) → OnOk r P → OnOk r Q
-map_ok (Ok a) P Q f ok = f ok
-map_ok (Err e) P Q f ok = tt
-
-pub map_err : {A E : Type 0} (r : Result A E) (P Q : Type 0) → (P → Q) → OnErr r P → OnErr r Q
-map_err (Ok a) P Q f err = tt
-map_err (Err e) P Q f err = f err
+use Rattle.swift_shared_book.specs.Calls.{facts_of}
+use Rattle.swift_shared_book.specs.Shared.{BookLockView, BookSeatView, IsSeatOf, OpenSeatView, seat_of}
+use Rattle.swift_executor.specs.Account.{HasTaken}
+use Rattle.swift_executor.specs.Exec.{IsAt, IsOf, name_of, site_of, state_name}
+use Rattle.swift_executor.specs.Held.{GoesTogether, HasOpened, IsOfBook, IsResting, IsStateAt, order_of}
+use Rattle.swift_executor.specs.Inbox.{InboxView, TakerView}
+use Rattle.swift_executor.specs.Ready.{HaveCounted, ReadyJobsView}
+use Rattle.swift_executor.specs.Seats.{HaveSeen, IsSeatFor, KeepsOrder}
+use Rattle.swift_executor.specs.Site.{SiteView}
+use Rattle.swift_executor.specs.State.{BeginsTurn, ChosenView, Chooses, ExecStateView, HasChosen, HasNone, IsBegun, IsPicked, IsPlayed, LacksTask, OnlyJobs, Plays, PutsBack, begun, picked, played}
+use Rattle.swift_executor.specs.Taken.{TakenView, taken_of}
+use Rattle.swift_executor.specs.Visits.{BeginsIn, IsFree, Starts}
+use Rattle.swift_executor.specs.declared.fault.ExecFault.{ExecFault}
+use Rattle.swift_executor.specs.declared.state_name.StateName.{StateName}
+use Rattle.swift_executor.proofs.SeatKept.{chose_counted, counted_knows}
 
 -- where an executor has other jobs, only its jobs have changed
 pub only_by : (old new : ExecStateView) (ready : ReadyJobsView BodyView) (chosen : Option ChosenView) → new ≡ record old { ready = ready; chosen = chosen } → OnlyJobs old new
@@ -56,136 +39,122 @@ pub only_back : (old new : ExecStateView) → HasChosen old (PutsBack old new) �
 only_back old new back = only_by old new _ _ back.2.same
 
 -- a turn has begun
-pub only_begun : (book : BookView) (worker : ℕ) (old new : ExecStateView) → BeginsTurn book worker old new → OnlyJobs old new
+only_begun : (book : BookView) (worker : ℕ) (old new : ExecStateView) → BeginsTurn book worker old new → OnlyJobs old new
 only_begun book worker old new begins = only_by old new _ _ begins.turn.2.same
 
 pub only_started : (worker : ℕ) (task : TaskId) (knows : BookKnown) (old new : ExecStateView) → Starts worker task knows old new → OnlyJobs old new
 only_started worker task knows old new s =
-    only_both old s.picked new (only_by old s.picked _ _ s.chooses.same)
-    (only_both s.picked s.begun new (only_begun s.book worker s.picked s.begun s.begins) (only_by s.begun new _ _ s.given))
+    let b = s.begins in
+    only_both old s.picked new (only_by old s.picked _ _ s.chooses.same) (only_both s.picked b.begun new (only_begun s.book worker s.picked b.begun b.begins) (only_by b.begun new _ _ b.given))
 
 -- a turn was played
 pub only_played : (old new : ExecStateView) → HasChosen old (Plays old new) → OnlyJobs old new
 only_played old new plays = only_by old new _ _ plays.2.same
 
--- the refusals of a book are those of a visit
-fault_is : (cause : BookFault) → IsRunFault (fault_of cause)
-fault_is book.Memory = inl refl
-fault_is book.Unknown = inr (book.Unknown, refl)
-fault_is book.Completed = inr (book.Completed, refl)
-fault_is book.Refused = inr (book.Refused, refl)
+-- then the executor is the same
+pub site_stays : (lock : TableId) (old new : ExecStateView) → OnlyJobs old new → site_of lock new ≡ site_of lock old
+site_stays lock old new jobs = ap (site_of lock) jobs
 
-pub run_fault : (o : Option BookFault) (fault : ExecFault) → IsRefusal o fault → IsRunFault fault
-run_fault None fault is = inl is
-run_fault (Some cause) fault is = subst IsRunFault (sym is) (fault_is cause)
+-- the job is chosen, and its turn has begun, or was played
+pub is_picked : (log : List Event) (old new : ExecStateView) (task : TaskId) → Chooses log old new task → HasChosen new (λ c. IsPicked c.stage)
+is_picked log old new task h = (record { job = h.job; arrival = h.arrival; stage = picked }, ap (λ (s : ExecStateView). s.chosen) h.same, tt)
 
-fault_of_turn : (script : ScriptView) (v : BookKnown) (chosen : Option ChosenView) (fault : ExecFault)
-    → (fault ≡ Memory) ⊎ ((b : BookView) × (b.script ≡ script) × IsInRun v (facts_of b) × IsRefusal (refusal_to_apply b chosen) fault) → IsRunFault fault
-fault_of_turn script v chosen fault (inl memory) = inl memory
-fault_of_turn script v chosen fault (inr refused) = run_fault (refusal_to_apply refused.0 chosen) fault refused.3
+pub begun_at : (book : BookView) (worker : ℕ) (old new : ExecStateView) → BeginsIn book worker old new → (c : ChosenView) × (new.chosen ≡ Some c) × IsBegun c.stage × (order_of new.chosen ≡ under_way)
+begun_at book worker old new b =
+    let t = b.begins.turn in
+    let c : ChosenView = record t.0 { stage = begun worker t.2.env } in
+    let is : new.chosen ≡ Some c = ap (λ (s : ExecStateView). s.chosen) b.given ∙ ap (λ (s : ExecStateView). s.chosen) t.2.same in
+    (c, is, tt, ap order_of is)
 
-pub turn_refused : (script : ScriptView) (v : BookKnown) (chosen : Option ChosenView) (r : Result Unit ExecFault)
-    → IfErr r (λ fault. (fault ≡ Memory) ⊎ ((b : BookView) × (b.script ≡ script) × IsInRun v (facts_of b) × IsRefusal (refusal_to_apply b chosen) fault)) → IfErr r IsRunFault
-turn_refused script v chosen (Ok done) is = tt
-turn_refused script v chosen (Err fault) is = fault_of_turn script v chosen fault is
-
--- the book was taken, and the state and its taker are as they were
-pub took_book : (old new : TakenState) → new.taker ≡ old.taker → new.state ≡ old.state → HasTaken old.taker.taken old.state → HasTaken new.taker.taken new.state
-took_book old new taker state was = subst (λ (t : TakerView). HasTaken t.taken new.state) (sym taker) (subst (λ (s : ExecStateView). HasTaken old.taker.taken s) (sym state) was)
-
--- the turn that was played is that of the chosen job
 pub is_played : (old new : ExecStateView) → HasChosen old (Plays old new) → HasChosen new (λ c. IsPlayed c.stage)
 is_played old new p =
     (record { job = p.2.job; arrival = p.0.arrival; stage = played p.2.worker p.2.env p.2.frame p.2.fields p.2.effects p.2.exit }, ap (λ (s : ExecStateView). s.chosen) p.2.same, tt)
 
--- A choice by the levels of a log, of a state in which no job was chosen.
-module _ (given : List ℕ) (old new : ExecStateView) where
-  abbrev pub SomeIs : Result (Option TaskId) ExecFault → Type 0
-  SomeIs r = IfOk r (λ picked. IfSome picked (λ task. (log : List Event) → AreLevels log given → Chooses log old new task))
+-- a choice by the levels of a log
+module _ (given : List ℕ) (old new : ExecStateView) (log : List Event) (levels : AreLevels log given) where
+  pub picks_by : (r : Result (Option TaskId) ExecFault) → IfOk r (λ picked. IfSome picked (λ task. (log : List Event) → AreLevels log given → Chooses log old new task)) → IfOk r (λ picked. IfSome picked (λ task. Chooses log old new task))
+  picks_by (Ok (Some task)) some = some log levels
+  picks_by (Ok None) some = tt
+  picks_by (Err fault) some = tt
 
-  abbrev pub NoneIs : Result (Option TaskId) ExecFault → Type 0
-  NoneIs r = IfOk r (λ picked. IfNone picked ((log : List Event) → AreLevels log given → HasNone log old new))
+  pub none_by : (r : Result (Option TaskId) ExecFault) → IfOk r (λ picked. IfNone picked ((log : List Event) → AreLevels log given → HasNone log old new)) → IfOk r (λ picked. IfNone picked (HasNone log old new))
+  none_by (Ok (Some task)) none = tt
+  none_by (Ok None) none = none log levels
+  none_by (Err fault) none = tt
 
-  abbrev pub FaultIs : (ExecFault → Type 0) → Result (Option TaskId) ExecFault → Type 0
-  FaultIs F r = IfErr r (λ fault. F fault × ((log : List Event) → AreLevels log given → LacksTask log old new))
-
-  module _ (log : List Event) (levels : AreLevels log given) (free : old.chosen ≡ None) where
-    pub same_site : (lock : TableId) (F : ExecFault → Type 0) (r : Result (Option TaskId) ExecFault) → SomeIs r → NoneIs r → FaultIs F r → site_of lock new ≡ site_of lock old
-    same_site lock F (Ok (Some task)) some none err = ap (site_of lock) (some log levels).same
-    same_site lock F (Ok None) some none err = ap (site_of lock) (none log levels).same
-    same_site lock F (Err fault) some none err = ap (site_of lock) (err.1 log levels).same
-
-    pub same_taken : (F : ExecFault → Type 0) (taken : List JobFacts) (r : Result (Option TaskId) ExecFault) → SomeIs r → NoneIs r → FaultIs F r → HasTaken taken old → HasTaken taken new
-    same_taken F taken (Ok (Some task)) some none err was = chose taken log task old new was free (some log levels)
-    same_taken F taken (Ok None) some none err was = had_none taken log old new was (none log levels)
-    same_taken F taken (Err fault) some none err was = lacked taken log old new was (err.1 log levels)
-
-    pub same_known : (F : ExecFault → Type 0) (seat : BookSeatView) (r : Result (Option TaskId) ExecFault) → SomeIs r → NoneIs r → FaultIs F r → IsSeatFor old seat → IsSeatFor new seat
-    same_known F seat (Ok (Some task)) some none err was = chose_knows log task old new seat was free (some log levels)
-    same_known F seat (Ok None) some none err was = none_knows log old new seat was free (none log levels)
-    same_known F seat (Err fault) some none err was = lacked_knows log old new seat was free (err.1 log levels)
-
-    pub has_counted : (F : ExecFault → Type 0) (r : Result (Option TaskId) ExecFault) → SomeIs r → NoneIs r → FaultIs F r → HaveCounted log new.ready.levels
-    has_counted F (Ok (Some task)) some none err = (let p = (some log levels).picks in chose_counted log old new p.given p.levels p.higher)
-    has_counted F (Ok None) some none err = (let h = none log levels in chose_counted log old new h.given h.levels h.higher)
-    has_counted F (Err fault) some none err = (let p = (err.1 log levels).picks in chose_counted log old new p.given p.levels p.higher)
-
-    pub picks_by : (r : Result (Option TaskId) ExecFault) → SomeIs r → IfOk r (λ picked. IfSome picked (λ task. Chooses log old new task))
-    picks_by (Ok (Some task)) some = some log levels
-    picks_by (Ok None) some = tt
-    picks_by (Err fault) some = tt
-
-    pub none_by : (r : Result (Option TaskId) ExecFault) → NoneIs r → IfOk r (λ picked. IfNone picked (HasNone log old new))
-    none_by (Ok (Some task)) none = tt
-    none_by (Ok None) none = none log levels
-    none_by (Err fault) none = tt
-
-    pub lacks_by : (F : ExecFault → Type 0) (r : Result (Option TaskId) ExecFault) → FaultIs F r → IfErr r (λ fault. LacksTask log old new)
-    lacks_by F (Ok picked) err = tt
-    lacks_by F (Err fault) err = err.1 log levels
-
-    pub only_chosen : (F : ExecFault → Type 0) (r : Result (Option TaskId) ExecFault) → SomeIs r → NoneIs r → FaultIs F r → OnlyJobs old new
-    only_chosen F (Ok (Some task)) some none err = only_by old new _ _ (some log levels).same
-    only_chosen F (Ok None) some none err = only_by old new _ _ (none log levels).same
-    only_chosen F (Err fault) some none err = only_by old new _ _ (err.1 log levels).same
-
-    pub is_picked : (r : Result (Option TaskId) ExecFault) → SomeIs r → IfOk r (λ picked. IfSome picked (λ task. HasChosen new (λ c. IsPicked c.stage) × (chosen_task new.chosen ≡ Some task)))
-    is_picked (Ok (Some task)) some =
-        let h = some log levels in
-        let is = ap (λ (s : ExecStateView). s.chosen) h.same in
-        ((_, is, tt), ap chosen_task is ∙ ap (λ (t : TaskId). Some t) h.task_is)
-    is_picked (Ok None) some = tt
-    is_picked (Err fault) some = tt
-
-    pub is_none : (r : Result (Option TaskId) ExecFault) → NoneIs r → IfOk r (λ picked. IfNone picked (new.chosen ≡ None))
-    is_none (Ok (Some task)) none = tt
-    is_none (Ok None) none = ap (λ (s : ExecStateView). s.chosen) (none log levels).same ∙ free
-    is_none (Err fault) none = tt
-
-    pub is_free : (F : ExecFault → Type 0) (r : Result (Option TaskId) ExecFault) → FaultIs F r → OnErr r (new.chosen ≡ None)
-    is_free F (Ok picked) err = tt
-    is_free F (Err fault) err = ap (λ (s : ExecStateView). s.chosen) (err.1 log levels).same ∙ free
+  pub lacks_by : (F : ExecFault → Type 0) (r : Result (Option TaskId) ExecFault) → IfErr r (λ fault. F fault × ((log : List Event) → AreLevels log given → LacksTask log old new)) → IfErr r (λ fault. F fault × LacksTask log old new)
+  lacks_by F (Ok one) err = tt
+  lacks_by F (Err fault) err = (err.0, err.1 log levels)
 
 -- where the last root is there, and none was under way, one more turn begins in order
 pub begun_in_order : (there : Bool) (orders : List TurnOrder) → there ≡ true → orders ≡ at_rest ∷ [] → map (order_begun there) orders ≡ under_way ∷ []
 begun_in_order there orders is rest = ap (map (order_begun there)) rest ∙ ap (λ (b : Bool). order_begun b at_rest ∷ []) is
 
+-- a turn that has begun, in the book by whose levels its job was chosen, which are then noted
+pub begun_knows : (before old new : ExecStateView) (task : TaskId) (book : BookView) (worker : ℕ) (events : ℕ) (seat : BookSeatView) → Chooses book.log before old task → BeginsTurn book worker old new → IsSeatFor new seat
+    → map (λ a. a.seen) seat.knows.accounts ≡ book.log ∷ [] → events ≡ length book.log → IsSeatFor (record new { ready = record new.ready { counted = events } }) seat
+begun_knows before old new task book worker events seat ch begins known seen all =
+    let counted = chose_counted book.log before old ch.picks.given ch.picks.levels ch.picks.higher in
+    let same = ap (λ (s : ExecStateView). s.ready.levels) begins.turn.2.same in
+    counted_knows new seat book.log events known seen all (subst (HaveCounted book.log) (sym same) counted)
+
 -- a seat that was taken and given back as it was is the same
 pub same_seat : (b : BookLockView) (s : BookSeatView) → IsSeatOf b s → seat_of b s.knows ≡ s
 same_seat b s is = ap (λ (id : TableId). record { lock = id; here = true; knows = s.knows }) (sym is.0) ∙ ap (λ (h : Bool). record s { here = h }) (sym is.1)
+
+-- the seat of an executor of this book
+pub seat_of_book : (b : BookLockView) (r : TakenView) → IsOfBook b r → IsSeatFor r.state r.seat → IsSeatOf b r.seat
+seat_of_book b r of known = (of.0, known.here, known.account.script_is ∙ ap (λ (p : ScriptView). Some p) (sym of.1))
 
 -- what a seat knows of the book says what its accounts have seen of the log
 pub seen_of : (v : BookKnown) (facts : BookFacts) → Knows v facts → HaveSeen facts.log v
 seen_of v facts knows k d lt = (knows.1.orders k d lt).1
 
--- a job that was taken out of the inbox is ready, and the seat has its ticket
-pub accepted_at : (i : InboxView) (t t1 t2 : TakerView) (seat seat' : BookSeatView) (s s' : ExecStateView) (sent job : JobView BodyView) → IsAt i t seat s → s.chosen ≡ None → t2 ≡ has_taken t1 sent → t1 ≡ t → job ≡ sent
-    → seat' ≡ knowing (with_ticket (job_facts sent) seat.knows) seat → Adds s.ready job s'.ready → s' ≡ record s { ready = s'.ready } → IsAt i t2 seat' s'
-accepted_at i t t1 t2 seat seat' s s' sent job at free took same_taker of_job takes adds rest =
-    let q : t2 ≡ has_taken t sent = took ∙ ap (λ (x : TakerView). has_taken x sent) same_taker in
-    let adds' : Adds s.ready sent s'.ready = subst (λ (j : JobView BodyView). Adds s.ready j s'.ready) of_job adds in
-    let lock : seat'.lock ≡ seat.lock = ap (λ (x : BookSeatView). x.lock) takes in
-    let site : site_of seat'.lock s' ≡ site_of seat.lock s = ap (λ (t : TableId). site_of t s') lock ∙ ap (site_of seat.lock) rest in
-    let has : HasTaken (t.taken ++ job_facts sent ∷ []) s' = accepted t.taken sent s s' at.2.1 adds' rest in
-    let knows : IsSeatFor s' seat' = subst (λ (x : BookSeatView). IsSeatFor s' x) (sym takes) (accepted_knows sent s s' seat at.2.2 free adds' rest) in
-    subst (λ (x : TakerView). IsAt i x seat' s') (sym q) (at.0, site ∙ at.1, (at.2.0 ∙ ap (λ x. Some x) (sym site), has, knows))
+-- the book that was taken by a seat is as it was then
+pub has_opened : (b : BookLockView) (s : ExecStateView) (seat : BookSeatView) (o : OpenSeatView) (v v' : BookView) → IsSeatOf b seat → b.script ≡ s.script → IsSeatFor s seat → v' ≡ v
+    → v.script ≡ b.script → o ≡ record { lock = b.id; knows = seat.knows; taken = Some (facts_of v) } → Knows seat.knows (facts_of v) → HasOpened b s o v'
+has_opened b s seat o v v' of script known same script_is is knows =
+    let back : seat_of b o.knows ≡ seat = ap (λ (x : OpenSeatView). seat_of b x.knows) is ∙ same_seat b seat of in
+    record {
+      untouched = (ap (λ (x : OpenSeatView). x.lock) is, ap (λ (x : BookView). x.script) same ∙ script_is, ap (λ (x : OpenSeatView). x.taken) is ∙ ap (λ (x : BookView). Some (facts_of x)) (sym same));
+      seat_is = subst (IsSeatOf b) (sym back) of;
+      script_is = script;
+      known = subst (IsSeatFor s) (sym back) known;
+      front = subst (λ (x : BookView). HaveSeen x.log o.knows) (sym same) (subst (HaveSeen v.log) (sym (ap (λ (x : OpenSeatView). x.knows) is)) (seen_of seat.knows (facts_of v) knows));
+    }
+
+-- What lies beside a state goes together with it after a step: the executor is the same, none of its jobs is lost, the seat is its own, and
+-- the turns have begun in order as far as is known.
+pub together_after : (t : TakerView) (seat seat' : BookSeatView) (s s' : ExecStateView) (is_orderly : Bool) (o : TurnOrder) → IsOf t seat s → seat'.lock ≡ seat.lock → (site_of seat.lock s' ≡ site_of seat.lock s)
+    → HasTaken t.taken s' → IsSeatFor s' seat' → order_of s'.chosen ≡ o → KeepsOrder is_orderly o seat' → GoesTogether (taken_of s' t seat' is_orderly)
+together_after t seat seat' s s' is_orderly o is lock site taken known order keeps = record {
+  is_of = (is.0 ∙ ap (λ (x : SiteView). Some x) (sym site) ∙ ap (λ (l : TableId). Some (site_of l s')) (sym lock), taken, known);
+  order = subst (λ (x : TurnOrder). KeepsOrder is_orderly x seat') (sym order) keeps;
+}
+
+-- its name is then as it was
+pub name_stays : (old new : TakenView) → new.taker ≡ old.taker → new.seat.lock ≡ old.seat.lock → site_of old.seat.lock new.state ≡ site_of old.seat.lock old.state → name_of new ≡ name_of old
+name_stays old new taker lock site =
+    ap (λ (t : TakerView). state_name (site_of new.seat.lock new.state) t.inbox) taker ∙ ap (λ (l : TableId). state_name (site_of l new.state) old.taker.inbox) lock ∙ ap (λ (x : SiteView). state_name x old.taker.inbox) site
+
+-- where no job is chosen, no turn is under way
+pub at_rest_of : (r : TakenView) → GoesTogether r → r.state.chosen ≡ None → KeepsOrder r.is_orderly at_rest r.seat
+at_rest_of r is free = subst (λ (o : Option ChosenView). KeepsOrder r.is_orderly (order_of o) r.seat) free is.order
+
+-- a state that may lie in a word, of this name, lies in that of this executor
+pub free_at : (i : InboxView) (r : TakenView) → IsStateAt i r → IsResting r → IsFree i r
+free_at i r name rests = record {
+  none = rests.none;
+  at = (ap (λ (n : StateName). n.inbox.inbox) name, ap (λ (n : StateName). n.site) name, rests.together.is_of);
+  keeps = rests.keeps;
+  order = at_rest_of r rests.together rests.none;
+}
+
+-- a state of this executor, by its parts
+pub state_at : (i : InboxView) (r : TakenView) → IsAt i r.taker r.seat r.state → IsStateAt i r
+state_at i r at = ap (λ (x : TableId). state_name (site_of r.seat.lock r.state) x) at.0 ∙ ap (λ (x : SiteView). state_name x i.id) at.1
+
+pub of_book_at : (i : InboxView) (b : BookLockView) (r : TakenView) → i.site.book ≡ Some b.id → b.script ≡ i.site.script → IsStateAt i r → IsOfBook b r
+of_book_at i b r book script is =
+    let site = ap (λ (n : StateName). n.site) is in
+    (same_Some r.seat.lock b.id (ap (λ (x : SiteView). x.book) site ∙ book), script ∙ sym (ap (λ (x : SiteView). x.script) site))

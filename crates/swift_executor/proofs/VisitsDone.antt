@@ -1,95 +1,130 @@
 -- What the parts of a visit have done together.
-use Rattle.std.proofs.Common.{◌≡◌, ℕ, Option, Some, None, Result, Ok, Err, IfOk, IfErr, OnOk, OnErr, List, ◌∷◌, ◌⊎◌, inl, inr, ap, sym, subst, ◌∙◌}
-use Rattle.std.proofs.lemmas.Option.{same_Some}
-use Rattle.atomic_table.specs.Seated.{TableId}
+use Rattle.std.proofs.Common.{◌≡◌, ℕ, ◌*◌, ◌<◌, Option, Some, None, Result, Ok, Err, IfOk, IfErr, OnErr, List, ◌∷◌, ◌⊎◌, inl, inr, refl, ap, sym, subst, ◌∙◌}
+use Rattle.swift_course.specs.Views.{BookKnown}
 use Rattle.swift_history.specs.TurnEnds.{JobFacts}
-use Rattle.swift_journal.specs.Records.{RecordView}
-use Rattle.swift_shared_book.specs.Shared.{BookLockView, BookSeatView, after_turn, knowing}
+use Rattle.swift_script.specs.Scripts.{ScriptView}
+use Rattle.swift_shared_book.specs.Calls.{facts_of}
+use Rattle.swift_shared_book.specs.Shared.{IsInRun}
+use Rattle.swift_tasks.specs.Books.{BookView}
 use Rattle.swift_tasks.specs.declared.fault.BookFault.{BookFault}
-use Rattle.swift_word.specs.Seat.{WordSeatView, left}
-use Rattle.swift_executor.specs.Account.{HasTaken}
-use Rattle.swift_executor.specs.Exec.{IsAt, IsRunFault, image_of, seat_after, site_of}
-use Rattle.swift_executor.specs.Inbox.{InboxView, TakerView}
-use Rattle.swift_executor.specs.Resting.{RestingView}
-use Rattle.swift_executor.specs.Seats.{IsSeatFor}
-use Rattle.swift_executor.specs.Site.{SiteView}
-use Rattle.swift_executor.specs.State.{EndsTurn, ExecStateView, HasChosen, Plays, record_of}
-use Rattle.swift_executor.specs.Visits.{Fails, Finishes, HasMoved, HasRun, HasStayed, IsFree, Leaves, Visited, Visits}
+use Rattle.swift_tasks.specs.declared.fault.BookFault.TheVariants as book
+use Rattle.swift_word.specs.Seat.{WordSeatView, last_found, left}
+use Rattle.swift_executor.specs.Exec.{DeskView, FoundFree, HasFound, HasLeft, HasTried, IfTurn, IsAt, IsRunFault, image_of, seat_after}
+use Rattle.swift_executor.specs.Inbox.{InboxView}
+use Rattle.swift_executor.specs.Refusals.{IsRefusal, fault_of}
+use Rattle.swift_executor.specs.State.{ChosenView, refusal_to_apply}
+use Rattle.swift_executor.specs.Taken.{TakenView}
+use Rattle.swift_executor.specs.Visits.{Fails, HasMoved, HasRun, HasStayed, HasStopped, IsFree, IsNotBegun, IsNotEnded, IsRefused, Leaves, RunsNone, RunsTurn, Visited, Visits}
 use Rattle.swift_executor.specs.declared.fault.ExecFault.{ExecFault}
 use Rattle.swift_executor.specs.declared.fault.ExecFault.TheVariants.{Memory, Worker, Full, Refused, Spent}
 use Rattle.swift_executor.specs.declared.ran.VisitOutcome.{VisitOutcome}
 use Rattle.swift_executor.specs.declared.ran.VisitOutcome.TheVariants.{Turn, Busy, Nothing}
-use Rattle.swift_executor.specs.declared.resting.TakenState.{TakenState}
 use Rattle.swift_executor.specs.declared.state_name.StateImage.{StateImage}
 use Rattle.swift_executor.specs.declared.state_name.StateName.{StateName}
 
--- a turn was played and journalled
-pub finished : (r : Result Unit ExecFault) (jobs jobs' : List JobFacts) (seat mid seat' : BookSeatView) (old played new : ExecStateView) → HasChosen old (Plays old played) → mid ≡ seat
-    → OnOk r (EndsTurn mid.knows jobs jobs' played new) → OnOk r ((w : RecordView) × (record_of played.chosen ≡ Some w) × (seat' ≡ knowing (after_turn w mid.knows) mid)) → OnOk r (Finishes jobs jobs' seat seat' old new)
-finished (Ok done) jobs jobs' seat mid seat' old played new plays same ends told = record {
-  played = played;
-  plays = plays;
-  ends = subst (λ (s : BookSeatView). EndsTurn s.knows jobs jobs' played new) same ends;
-  written = told.0;
-  is_written = told.1;
-  told = told.2 ∙ ap (λ (s : BookSeatView). knowing (after_turn told.0 s.knows) s) same;
-}
-finished (Err fault) jobs jobs' seat mid seat' old played new plays same ends told = tt
+-- the refusals of a book are those of a visit
+fault_is : (cause : BookFault) → IsRunFault (fault_of cause)
+fault_is book.Memory = inl refl
+fault_is book.Unknown = inr (book.Unknown, refl)
+fault_is book.Completed = inr (book.Completed, refl)
+fault_is book.Refused = inr (book.Refused, refl)
 
--- a state is at its executor as it was
-pub stays_at : (i : InboxView) (b : BookLockView) (v t : TakenState) → IsAt i v.taker v.seat v.state → i.site.book ≡ Some b.id → t.taker ≡ v.taker → site_of b.id t.state ≡ site_of b.id v.state → t.seat.lock ≡ b.id
-    → (HasTaken v.taker.taken v.state → HasTaken t.taker.taken t.state) → IsSeatFor t.state t.seat → IsAt i t.taker t.seat t.state
-stays_at i b v t at of_book taker site lock taken known =
-    let was : v.seat.lock ≡ b.id = same_Some v.seat.lock b.id (ap (λ (s : SiteView). s.book) at.1 ∙ of_book) in
-    let is : site_of t.seat.lock t.state ≡ i.site =
-    ap (λ (l : TableId). site_of l t.state) lock ∙ site ∙ ap (λ (l : TableId). site_of l v.state) (sym was) ∙ at.1
-    in (
-      ap (λ (x : TakerView). x.inbox) taker ∙ at.0,
-      is,
-      (ap (λ (x : TakerView). x.site) taker ∙ at.2.0 ∙ ap (λ (s : SiteView). Some s) (at.1 ∙ sym is), taken at.2.1, known),
-    )
+run_fault : (o : Option BookFault) (fault : ExecFault) → IsRefusal o fault → IsRunFault fault
+run_fault None fault is = inl is
+run_fault (Some cause) fault is = subst IsRunFault (sym is) (fault_is cause)
 
--- what was taken, made ready and given back
-moved_by : (i : InboxView) (old : List StateImage) (took ready : RestingView) (P : RestingView → RestingView → Type 0) (after : ℕ → RestingView → WordSeatView StateName StateImage → WordSeatView StateName StateImage) (s s' : WordSeatView StateName StateImage)
-    → s.moved ≡ image_of took ∷ old → IsFree i took → ready.state.chosen ≡ None → IsAt i ready.taker ready.seat ready.state → HasStayed took ready
-    → (l : Leaves i (P ready) after s s') → s'.moved ≡ image_of l.gave ∷ s.moved → HasMoved i old s'.moved (Visited i P)
-moved_by i old took ready P after s s' moved free none at stayed l gave = record {
-  took = took;
-  gave = l.gave;
-  moved = gave ∙ ap (λ (m : List StateImage). image_of l.gave ∷ m) moved;
-  taken = free;
-  given = l.given;
-  holds = record { ready = ready; none = none; at = at; accepts = stayed; does = l.holds };
-}
+not_begun : (old new : TakenView) (fault : ExecFault) → IsNotBegun old fault new → IsRunFault fault
+not_begun old new fault (inl c) = inr (book.Unknown, c.cause)
+not_begun old new fault (inr c) = run_fault _ fault c.cause
 
-pub visited : (i : InboxView) (worker : ℕ) (jobs jobs' : List JobFacts) (r : Result VisitOutcome ExecFault) (old : List StateImage) (took ready : RestingView) (s s' : WordSeatView StateName StateImage)
-    → s.moved ≡ image_of took ∷ old → IsFree i took → ready.state.chosen ≡ None → IsAt i ready.taker ready.seat ready.state → HasStayed took ready
-    → IfOk r (λ ran. Leaves i (HasRun worker jobs jobs' ran ready) (seat_after ran) s s') → IfOk r (λ ran. Visits i worker jobs jobs' ran old s'.moved)
-visited i worker jobs jobs' (Ok (Turn task more)) old took ready s s' moved free none at stayed l =
-    moved_by i old took ready (HasRun worker jobs jobs' (Turn task more)) (seat_after (Turn task more)) s s' moved free none at stayed l (ap (λ (x : WordSeatView StateName StateImage). x.moved) l.seat)
-visited i worker jobs jobs' (Ok Busy) old took ready s s' moved free none at stayed l = absurd l.holds
-visited i worker jobs jobs' (Ok (Nothing more)) old took ready s s' moved free none at stayed l =
-    moved_by i old took ready (HasRun worker jobs jobs' (Nothing more)) (seat_after (Nothing more)) s s' moved free none at stayed l (ap (λ (x : WordSeatView StateName StateImage). x.moved) l.seat)
-visited i worker jobs jobs' (Err fault) old took ready s s' moved free none at stayed l = tt
+of_end : (script : ScriptView) (knows : BookKnown) (chosen : Option ChosenView) (fault : ExecFault)
+    → (fault ≡ Memory) ⊎ ((b : BookView) × (b.script ≡ script) × IsInRun knows (facts_of b) × IsRefusal (refusal_to_apply b chosen) fault) → IsRunFault fault
+of_end script knows chosen fault (inl memory) = inl memory
+of_end script knows chosen fault (inr refused) = run_fault (refusal_to_apply refused.0 chosen) fault refused.3
 
--- a visit that got the state is not refused for its worker
-abbrev is_worker : ExecFault → Type 0
-is_worker Worker = Unit {0}
-is_worker Memory = ⊥
-is_worker Full = ⊥
-is_worker (Refused cause) = ⊥
-is_worker Spent = ⊥
+not_ended : (old new : TakenView) (fault : ExecFault) → IsNotEnded old fault new → IsRunFault fault
+not_ended old new fault (inl c) = inl c.cause
+not_ended old new fault (inr c) = of_end old.state.script old.seat.knows c.played.chosen fault c.cause
 
-not_worker : IsRunFault Worker → ⊥
-not_worker (inl e) = subst is_worker e tt
-not_worker (inr e) = subst is_worker e.1 tt
+of_refused : (worker : ℕ) (fault : ExecFault) (old new : TakenView) → IsNotBegun old fault new ⊎ HasStopped worker old fault new → IsRunFault fault
+of_refused worker fault old new (inl why) = not_begun old new fault why
+of_refused worker fault old new (inr stopped) = not_ended stopped.begun new fault stopped.why
 
-pub failed : (i : InboxView) (r : Result VisitOutcome ExecFault) (old : List StateImage) (took ready : RestingView) (s s' : WordSeatView StateName StateImage)
-    → s.moved ≡ image_of took ∷ old → IsFree i took → ready.state.chosen ≡ None → IsAt i ready.taker ready.seat ready.state → HasStayed took ready
-    → IfErr r IsRunFault → OnErr r (Leaves i (HasStayed ready) (λ n x. left n (image_of x)) s s') → IfErr r (λ fault. Fails i fault old s'.moved)
-failed i (Ok ran) old took ready s s' moved free none at stayed is l = tt
-failed i (Err Worker) old took ready s s' moved free none at stayed is l = absurd (not_worker is)
-failed i (Err Memory) old took ready s s' moved free none at stayed is l = moved_by i old took ready HasStayed (λ n x. left n (image_of x)) s s' moved free none at stayed l (ap (λ (x : WordSeatView StateName StateImage). x.moved) l.seat)
-failed i (Err Full) old took ready s s' moved free none at stayed is l = moved_by i old took ready HasStayed (λ n x. left n (image_of x)) s s' moved free none at stayed l (ap (λ (x : WordSeatView StateName StateImage). x.moved) l.seat)
-failed i (Err (Refused cause)) old took ready s s' moved free none at stayed is l = moved_by i old took ready HasStayed (λ n x. left n (image_of x)) s s' moved free none at stayed l (ap (λ (x : WordSeatView StateName StateImage). x.moved) l.seat)
-failed i (Err Spent) old took ready s s' moved free none at stayed is l = moved_by i old took ready HasStayed (λ n x. left n (image_of x)) s s' moved free none at stayed l (ap (λ (x : WordSeatView StateName StateImage). x.moved) l.seat)
+pub refused_fault : (worker : ℕ) (fault : ExecFault) (old new : TakenView) → IsRefused worker fault old new → IsRunFault fault
+refused_fault worker fault old new r = of_refused worker fault old new r.why
+
+-- A visit has taken a state out of the word, and made jobs of the inbox ready.
+pub record HasReady (i : InboxView) (old : List StateImage) (s : WordSeatView StateName StateImage) (took ready : TakenView) : Type 0 where
+  pub moved : s.moved ≡ image_of took ∷ old
+  pub free : IsFree i took
+  pub at : IsAt i ready.taker ready.seat ready.state
+  pub accepts : HasStayed took ready
+
+module _ (i : InboxView) (d d' : DeskView) (took ready : TakenView) (s s' : WordSeatView StateName StateImage) (r : HasReady i d.moved s took ready) (moves : d'.moved ≡ s'.moved) where
+  -- what was given back then
+  moved_by : (P : TakenView → TakenView → Type 0) (after : ℕ → TakenView → WordSeatView StateName StateImage → WordSeatView StateName StateImage)
+      → (l : Leaves i (P ready) after s s') → s'.moved ≡ image_of l.gave ∷ s.moved → HasMoved i d.moved d'.moved (Visited i P)
+  moved_by P after l gave = record {
+    took = took;
+    gave = l.gave;
+    moved = moves ∙ gave ∙ ap (λ (m : List StateImage). image_of l.gave ∷ m) r.moved;
+    taken = r.free;
+    given = l.given;
+    holds = record { ready = ready; none = r.accepts.goes_on.1; at = r.at; accepts = r.accepts; does = l.holds };
+  }
+
+  pub visited : (worker pending : ℕ) (jobs jobs' : List JobFacts) (ran : Result VisitOutcome ExecFault) → d'.found ≡ s'.found → s.found ≡ 2 * pending ∷ d.found
+      → IfOk ran (λ ran. Leaves i (HasRun worker pending jobs jobs' ran ready) (seat_after ran) s s') → IfOk ran (λ ran. Visits i worker jobs jobs' ran d d')
+  visited worker pending jobs jobs' (Ok (Turn task more)) found begun l = moved_by (RunsTurn worker task jobs jobs') (seat_after (Turn task more)) l (ap (λ (x : WordSeatView StateName StateImage). x.moved) l.seat)
+  visited worker pending jobs jobs' (Ok Busy) found begun l = absurd l.holds
+  visited worker pending jobs jobs' (Ok (Nothing more)) found begun l =
+      let n = last_found s' in
+      let free : FoundFree d.found d'.found pending n = found ∙ ap (λ (x : WordSeatView StateName StateImage). x.found) l.seat ∙ ap (λ (xs : List ℕ). n ∷ xs) begun in
+      (pending, n, free, moved_by (RunsNone pending) (seat_after (Nothing more)) l (ap (λ (x : WordSeatView StateName StateImage). x.moved) l.seat))
+  visited worker pending jobs jobs' (Err fault) found begun l = tt
+
+  -- a visit that got the state is not refused for its worker
+  abbrev is_worker : ExecFault → Type 0
+  is_worker Worker = Unit {0}
+  is_worker Memory = ⊥
+  is_worker Full = ⊥
+  is_worker (Refused cause) = ⊥
+  is_worker Spent = ⊥
+
+  not_worker : IsRunFault Worker → ⊥
+  not_worker (inl e) = subst is_worker e tt
+  not_worker (inr e) = subst is_worker e.1 tt
+
+  gives_back : (worker : ℕ) (fault : ExecFault) → Leaves i (IsRefused worker fault ready) (λ n x. left n (image_of x)) s s' → HasMoved i d.moved d'.moved (Visited i (IsRefused worker fault))
+  gives_back worker fault l = moved_by (IsRefused worker fault) (λ n x. left n (image_of x)) l (ap (λ (x : WordSeatView StateName StateImage). x.moved) l.seat)
+
+  -- what its steps on the word found
+  pub has_found : (worker pending : ℕ) (jobs jobs' : List JobFacts) (ran : Result VisitOutcome ExecFault) → d'.found ≡ s'.found → s.found ≡ 2 * pending ∷ d.found
+      → IfOk ran (λ ran. Leaves i (HasRun worker pending jobs jobs' ran ready) (seat_after ran) s s') → IfOk ran (λ ran. HasLeft ran (last_found s')) → IfOk ran (IfTurn (λ task. 0 < pending)) → IfOk ran (λ ran. HasFound ran d.found d'.found)
+  has_found worker pending jobs jobs' (Ok (Turn task more)) found begun l left some =
+      (pending, last_found s', found ∙ ap (λ (x : WordSeatView StateName StateImage). x.found) l.seat ∙ ap (λ (xs : List ℕ). last_found s' ∷ xs) begun, some, left)
+  has_found worker pending jobs jobs' (Ok Busy) found begun l left some = absurd l.holds
+  has_found worker pending jobs jobs' (Ok (Nothing more)) found begun l left some =
+      (pending, last_found s', found ∙ ap (λ (x : WordSeatView StateName StateImage). x.found) l.seat ∙ ap (λ (xs : List ℕ). last_found s' ∷ xs) begun, left)
+  has_found worker pending jobs jobs' (Err fault) found begun l left some = tt
+
+  pub has_tried : (worker pending : ℕ) (ran : Result VisitOutcome ExecFault) → d'.found ≡ s'.found → s.found ≡ 2 * pending ∷ d.found
+      → IfErr ran (λ fault. Leaves i (IsRefused worker fault ready) (λ n x. left n (image_of x)) s s') → OnErr ran (0 < pending) → IfErr ran (λ fault. HasTried fault d.found d'.found)
+  has_tried worker pending (Ok ran) found begun l some = tt
+  has_tried worker pending (Err fault) found begun l some =
+      by fault (refused_fault worker fault ready l.gave l.holds) (pending, last_found s', found ∙ ap (λ (x : WordSeatView StateName StateImage). x.found) l.seat ∙ ap (λ (xs : List ℕ). last_found s' ∷ xs) begun, some)
+    where
+      by : (fault : ExecFault) → IsRunFault fault → (pending n : ℕ) × FoundFree d.found d'.found pending n × (0 < pending) → HasTried fault d.found d'.found
+      by Worker is so = absurd (not_worker is)
+      by Memory is so = so
+      by Full is so = so
+      by (Refused cause) is so = so
+      by Spent is so = so
+
+  pub failed : (worker : ℕ) (ran : Result VisitOutcome ExecFault) → IfErr ran (λ fault. Leaves i (IsRefused worker fault ready) (λ n x. left n (image_of x)) s s') → IfErr ran (λ fault. Fails i worker fault d d')
+  failed worker (Ok ran) l = tt
+  failed worker (Err Worker) l = absurd (not_worker (refused_fault worker Worker ready l.gave l.holds))
+  failed worker (Err Memory) l = gives_back worker Memory l
+  failed worker (Err Full) l = gives_back worker Full l
+  failed worker (Err (Refused cause)) l = gives_back worker (Refused cause) l
+  failed worker (Err Spent) l = gives_back worker Spent l

@@ -8,7 +8,6 @@ use Rattle.swift_history.specs.TurnEnds.{JobFacts}
 use Rattle.swift_executor.specs.Inbox.{InboxView, TakerView}
 use Rattle.swift_executor.specs.Site.{SiteView}
 use Rattle.swift_job.specs.Job.{JobView}
-use Rattle.swift_script.specs.Scripts.{ScriptView}
 use Rattle.swift_shared_book.specs.Shared.{BookLockView, BookSeatView}
 use Rattle.swift_history.specs.Jobs.{job_facts}
 use Rattle.swift_types.specs.declared.id.TaskId.{TaskId}
@@ -23,7 +22,7 @@ use Rattle.swift_executor.specs.declared.fault.ExecFault.{ExecFault}
 use Rattle.swift_executor.specs.declared.fault.ExecFault.TheVariants.{Memory, Worker, Refused}
 use Rattle.swift_executor.specs.declared.ran.VisitOutcome.{VisitOutcome}
 use Rattle.swift_executor.specs.declared.ran.VisitOutcome.TheVariants.{Turn, Busy, Nothing}
-use Rattle.swift_executor.specs.Resting.{RestingView}
+use Rattle.swift_executor.specs.Taken.{TakenView}
 use Rattle.swift_executor.specs.declared.state_name.StateImage.{StateImage}
 use Rattle.swift_executor.specs.declared.state_name.StateName.{StateName}
 
@@ -73,7 +72,7 @@ abbrev pub other_desk : DeskView → DeskView
 other_desk d = record d { sent = []; finished = 0; allowance = d.allowance / 2; found = []; moved = [] }
 
 -- what a desk notes of a state
-abbrev pub image_of : RestingView → StateImage
+abbrev pub image_of : TakenView → StateImage
 image_of r = record { resting = r }
 
 -- the desk has made further steps on the word, which found this and moved these states
@@ -126,12 +125,16 @@ IsOf t seat s = (t.site ≡ Some (site_of seat.lock s)) × HasTaken t.taken s ×
 abbrev pub state_name : SiteView → TableId → StateName
 state_name site inbox = record { site = site; inbox = record { inbox = inbox } }
 
+-- by which name a word knows a state with what lies beside it
+abbrev pub name_of : TakenView → StateName
+name_of r = state_name (site_of r.seat.lock r.state) r.taker.inbox
+
 -- a seat of the executor's word
 abbrev pub IsSeatAt : ExecView → WordSeatView StateName StateImage → Type 0
 IsSeatAt e s = (s.word ≡ e.word) × (s.name ≡ Some (state_name e.inbox.site e.inbox.id))
 
 -- what a visit, whose last step found this word and gave this state back, leaves of the seat that held the state
-abbrev pub seat_after : VisitOutcome → ℕ → RestingView → WordSeatView StateName StateImage → WordSeatView StateName StateImage
+abbrev pub seat_after : VisitOutcome → ℕ → TakenView → WordSeatView StateName StateImage → WordSeatView StateName StateImage
 seat_after (Turn task l) n r s = ended n (image_of r) s
 seat_after Busy n r s = s
 seat_after (Nothing l) n r s = left n (image_of r) s

@@ -1,6 +1,7 @@
 pub mod Account
 pub mod Exec
 pub mod FieldsInside
+pub mod Held
 pub mod HomeInside
 pub mod PlayingInside
 pub mod Ready
@@ -13,7 +14,7 @@ pub mod TasksInside
 pub mod Visits
 pub mod Inbox
 pub mod Looks
-pub mod Resting
+pub mod Taken
 pub mod Rule
 pub mod Site
 pub mod Picks

@@ -1,5 +1,5 @@
 -- A look at an executor that no worker holds (our own).
-use Rattle.std.specs.Prelude.{◌≡◌, ℕ, ◌<◌, ◌*◌, ◌/◌, ◌↔◌, Some, None, List, ◌∷◌, ◌++◌, map}
+use Rattle.std.specs.Prelude.{◌≡◌, ℕ, ◌<◌, ◌/◌, ◌↔◌, None, List, ◌∷◌, ◌++◌, map}
 use Rattle.swift_script.specs.Scripts.{executor_start}
 use Rattle.swift_journal.specs.Checkpoints.{folded_of}
 use Rattle.swift_journal.specs.Records.{RecordView}
@@ -11,7 +11,7 @@ use Rattle.swift_shared_book.specs.Shared.{BookSeatView}
 use Rattle.swift_word.specs.declared.word.PendingLeft.TheVariants.{More}
 use Rattle.swift_executor.specs.Exec.{DeskView, FoundFree, FoundRunning, image_of}
 use Rattle.swift_executor.specs.Inbox.{InboxView}
-use Rattle.swift_executor.specs.Resting.{RestingView}
+use Rattle.swift_executor.specs.Taken.{TakenView}
 use Rattle.swift_executor.specs.Seats.{IsSeatFor}
 use Rattle.swift_executor.specs.State.{ExecInvariant, ExecStateView}
 use Rattle.swift_executor.specs.Visits.{IsFree}
@@ -41,6 +41,6 @@ FreeAreSeen = (s : ExecStateView) (seat : BookSeatView) (facts : BookFacts) → 
 -- which is seen so, and the second gave it back as it was, and says whether jobs are left. Or a worker held the state.
 abbrev pub Looks : InboxView → LookOutcome → DeskView → DeskView → Type 0
 Looks i (Free left) old new =
-    ((r : RestingView) × (new.moved ≡ image_of r ∷ image_of r ∷ old.moved) × IsFree i r × IsSeen r.state)
+    ((r : TakenView) × (new.moved ≡ image_of r ∷ image_of r ∷ old.moved) × IsFree i r × IsSeen r.state)
     × ((pending n : ℕ) × FoundFree old.found new.found pending n × ((left ≡ More) ↔ (0 < n / 2)))
 Looks i Busy old new = (new.moved ≡ old.moved) × FoundRunning old.found new.found

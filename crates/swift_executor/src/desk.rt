@@ -1,7 +1,8 @@
 //! A thread's right to send jobs to an executor, and to run it.
 
 ghost use Rattle.std.specs.Prelude.{◌≡◌, ◌*◌, ◌∷◌};
-ghost use Rattle.swift_executor.specs.Exec.{FoundRunning, IsDeskOf, has_found, image_of, kept_desk, other_desk, site_of, state_name};
+ghost use Rattle.swift_executor.specs.Exec.{FoundRunning, IsDeskOf, has_found, image_of, kept_desk, other_desk};
+ghost use Rattle.swift_executor.specs.Held.{IsStateAt};
 ghost use Rattle.swift_word.specs.Begun.{IfRun, OnBusy};
 
 use crate::exec::Exec;
@@ -97,7 +98,7 @@ impl Desk {
     pub(crate) fn begin_last(self, exec: &Exec) -> (ClosedDesk, Begun<Resting>)
         requires { IsDeskOf exec.now self }
         ensures run { IfRun result.1 (λ pending state. result.0 ≡ has_found (2 * pending ∷ self.found) (image_of state ∷ self.moved) self) }
-        ensures name { IfRun result.1 (λ _ state. state_name (site_of state.seat.lock state.state) state.taker.inbox ≡ state_name exec.now.inbox.site exec.now.inbox.id) }
+        ensures name { IfRun result.1 (λ _ state. IsStateAt exec.now.inbox state) }
         ensures desk { OnBusy result.1 (result.0 ≡ has_found result.0.found self.moved self) }
         ensures busy { OnBusy result.1 (FoundRunning self.found result.0.found) }
     {

@@ -1,11 +1,11 @@
 //! A serial executor that threads share, and what is left of it.
 
-ghost use Rattle.std.specs.Prelude.{◌≡◌, ◌⊎◌, ◌<◌, ◌*◌, ◌↔◌, [], ◌∷◌, None, Some, IfOk, IfErr, IfSome, IfNone, OnOk, OnErr};
+ghost use Rattle.std.specs.Prelude.{◌≡◌, ◌⊎◌, ◌<◌, ◌*◌, ◌↔◌, [], ◌∷◌, true, None, Some, IfOk, IfErr, IfSome, IfNone, OnOk, OnErr};
 ghost use Rattle.std.specs.Arc.{arc_value};
 ghost use Rattle.swift_executor.specs.Site.{CanRunAt};
 ghost use Rattle.swift_executor.specs.Exec.{FoundRunning, IsDeskOf, IsLeft, first_desk, has_found, has_sent, image_of, site_of};
 ghost use Rattle.swift_executor.specs.Inbox.{TakerView};
-ghost use Rattle.swift_executor.specs.Visits.{resting};
+ghost use Rattle.swift_executor.specs.Taken.{taken_of};
 ghost use Rattle.swift_executor.specs.Seats.{IsOpened, KeepsOrder};
 ghost use Rattle.swift_course.specs.Views.{at_rest};
 ghost use Rattle.swift_executor.specs.State.{new_executor};
@@ -15,7 +15,6 @@ use crate::desk::{ClosedDesk, Desk};
 use crate::fault::ExecFault;
 use crate::gate::{Gate, Moment};
 use crate::inbox::{ExecutorSite, Inbox, Taker};
-use crate::laws::{new_has_taken_none, new_knows_no_turn};
 use crate::resting::{Resting, TakenState, spend_held};
 use crate::state::ExecState;
 use std::alloc::{AllocError, Global};
@@ -119,12 +118,8 @@ fn first_state(
     requires unused { taker.taken ≡ [] }
     requires book { site.now.book ≡ Some seat.lock }
     requires seat { IsOpened site.now.script site.now.executor seat }
-    ensures of { IfOk result (λ r. (site_of r.seat.lock r.state ≡ site.now) × (r.taker ≡ taker) × (r.seat ≡ seat)) }
-    ensures state { IfOk result (λ r. r.state ≡ new_executor site.now.script site.now.executor room) }
-    ensures room { IfOk result (λ r. r.state.ready.room ≡ room) }
+    ensures { IfOk result (λ r. r ≡ taken_of (new_executor site.now.script site.now.executor room) taker seat true) }
 {
-    new_has_taken_none();
-    new_knows_no_turn();
     let script = Arc::clone(site.script())?;
     let state = ExecState::new(alloc, script, site.executor(), room)?;
     let held = TakenState {
@@ -251,7 +246,7 @@ impl Exec {
         // The desk makes one step: one that finds no desk at the state, and how many jobs are pending; or one that finds a desk there.
         ensures desk { result.desk ≡ has_found result.desk.found result.desk.moved desk }
         // The state is the one that this step took out of the word.
-        ensures moved { IfSome result.state (λ s. (taker : TakerView) × (result.desk.moved ≡ image_of (resting s.0 taker s.2 result.is_orderly) ∷ desk.moved)) }
+        ensures moved { IfSome result.state (λ s. (taker : TakerView) × (result.desk.moved ≡ image_of (taken_of s.0 taker s.2 result.is_orderly) ∷ desk.moved)) }
         ensures still { IfNone result.state (result.desk.moved ≡ desk.moved) }
         ensures pending { IfSome result.state (λ s. result.desk.found ≡ 2 * result.pending ∷ desk.found) }
         ensures held { IfNone result.state (FoundRunning desk.found result.desk.found) }

@@ -2,12 +2,12 @@
 
 ghost use Rattle.std.specs.Prelude.{◌≡◌};
 ghost use Rattle.swift_executor.specs.Exec.{IsBookOf, IsDeskOf, has_found};
+ghost use Rattle.swift_executor.specs.Held.{IsOfBook, IsResting};
 ghost use Rattle.swift_executor.specs.Looks.{IsSeen, Looks};
 
 use crate::desk::Desk;
 use crate::exec::Exec;
-use crate::laws::free_executors_stand_in_a_history;
-use crate::run::take_book;
+use crate::resting::TakenState;
 use crate::state::ExecState;
 use std::sync::Wait;
 use swift_shared_book::BookLock;
@@ -33,6 +33,18 @@ pub enum LookOutcome {
     Busy,
 }
 
+// Shows a state to an onlooker. Its seat takes the book and gives it back, by which its turns are known to stand in a history.
+fn show<R: Wait, L: Onlooker>(rt: &R, held: &mut TakenState, book: &BookLock, onlooker: &mut L)
+    requires rests { IsResting held.old }
+    requires book { IsOfBook book.now held.old }
+    ensures same { held.new ≡ held.old }
+    ensures seen { IsSeen held.old.state }
+{
+    let taken = book.lock(rt, &mut held.seat);
+    book.leave(&mut held.seat, taken);
+    onlooker.see(&held.state);
+}
+
 impl Exec {
     /// Shows the executor's state to an onlooker, where no worker holds it, and gives it back as it was (our own). `Busy` where a worker
     /// holds it; then nothing is shown.
@@ -54,11 +66,8 @@ impl Exec {
         match self.word.begin(&mut desk.seat) {
             Begun::Busy => LookOutcome::Busy,
             Begun::Run(_, resting) => {
-                let mut held = self.taken(resting);
-                let taken = take_book(rt, &mut held, book);
-                free_executors_stand_in_a_history();
-                book.leave(&mut held.seat, taken);
-                onlooker.see(&held.state);
+                let mut held = resting.into_held();
+                show(rt, &mut held, book, onlooker);
                 LookOutcome::Free(self.leave(&mut desk.seat, held))
             }
         }

@@ -1,10 +1,8 @@
-//! The state of an executor while no worker holds it.
+//! The state of an executor while no worker holds it, and what a worker holds of it.
 
 ghost use Rattle.std.specs.Prelude.{◌≡◌, None};
-ghost use Rattle.swift_executor.specs.Exec.{IsOf};
-ghost use Rattle.swift_executor.specs.Seats.{KeepsOrder};
-ghost use Rattle.swift_executor.specs.State.{ExecInvariant};
-ghost use Rattle.swift_course.specs.Views.{at_rest};
+ghost use Rattle.swift_executor.specs.Held.{IsResting};
+ghost use Rattle.swift_executor.specs.Taken.{taken_of};
 
 use crate::inbox::Taker;
 use crate::state::ExecState;
@@ -15,7 +13,8 @@ use swift_shared_book::BookSeat;
 use swift_word::Named;
 
 /// What a worker holds of an executor: its state, the right to take its jobs out of the inbox, and the seat by which it takes
-/// the book.
+/// the book. Its type keeps that they go together, whatever step of a visit comes next: each job that was taken is ready, chosen or
+/// journalled, and the seat has the executor's turns and the tickets of its jobs.
 pub struct TakenState {
     pub state: ExecState,
     pub taker: Taker,
@@ -24,28 +23,41 @@ pub struct TakenState {
     pub is_orderly: bool,
 }
 
+impl Model for TakenState {
+    ghost use Rattle.std.specs.Coded.{codes};
+    ghost use Rattle.swift_script.specs.Codes.{expression_code, statement_code, block_code};
+    ghost use Rattle.swift_executor.specs.Taken.{TakenView, taken_of};
+
+    ghost Value = { TakenView };
+
+    ghost coded = { Prim.hlevel (codes, expression_code, statement_code (block_code (Prim.hlevel (codes, expression_code)) (Prim.hlevel (codes, expression_code)))) };
+
+    ghost use Rattle.swift_executor.specs.Held.{GoesTogether};
+
+    ghost view = { λ h. taken_of h.state h.taker h.seat h.is_orderly };
+
+    ghost invariant = { λ h. GoesTogether (taken_of h.state h.taker h.seat h.is_orderly) };
+}
+
 /// The state of an executor while no worker holds it: no job is chosen. Where it is dropped, its jobs are spent.
 pub struct Resting {
     held: Box<TakenState>,
 }
 
 impl Model for Resting {
-    ghost use Rattle.std.specs.Prelude.{◌≡◌, None};
     ghost use Rattle.std.specs.Coded.{codes};
     ghost use Rattle.swift_script.specs.Codes.{expression_code, statement_code, block_code};
-    ghost use Rattle.swift_executor.specs.Exec.{IsOf};
-    ghost use Rattle.swift_executor.specs.Resting.{RestingView};
-    ghost use Rattle.swift_executor.specs.State.{ExecInvariant};
-    ghost use Rattle.swift_executor.specs.Seats.{KeepsOrder};
-    ghost use Rattle.swift_course.specs.Views.{at_rest};
+    ghost use Rattle.swift_executor.specs.Taken.{TakenView};
 
-    ghost Value = { RestingView };
+    ghost Value = { TakenView };
 
     ghost coded = { Prim.hlevel (codes, expression_code, statement_code (block_code (Prim.hlevel (codes, expression_code)) (Prim.hlevel (codes, expression_code)))) };
 
-    ghost view = { λ r. record { state = r.held.value.state; taker = r.held.value.taker; seat = r.held.value.seat; is_orderly = r.held.value.is_orderly } };
+    ghost use Rattle.swift_executor.specs.Held.{IsResting};
 
-    ghost invariant = { λ r. (r.held.value.state.chosen ≡ None) × IsOf r.held.value.taker r.held.value.seat r.held.value.state × KeepsOrder r.held.value.is_orderly at_rest r.held.value.seat × ExecInvariant r.held.value.state };
+    ghost view = { λ r. r.held.value };
+
+    ghost invariant = { λ r. IsResting r.held.value };
 }
 
 impl Named for Resting {
@@ -53,9 +65,9 @@ impl Named for Resting {
 
     type Image = StateImage;
 
-    ghost use Rattle.swift_executor.specs.Exec.{image_of, state_name, site_of};
+    ghost use Rattle.swift_executor.specs.Exec.{image_of, name_of};
 
-    ghost name = { λ r. state_name (site_of r.seat.lock r.state) r.taker.inbox };
+    ghost name = { λ r. name_of r };
 
     ghost image = { λ r. image_of r };
 }
@@ -63,23 +75,20 @@ impl Named for Resting {
 impl Resting {
     /// The state that a worker has held.
     pub fn new(held: Box<TakenState>) -> Resting
-        requires free { held.value.state.chosen ≡ None }
-        requires is_of { IsOf held.value.taker held.value.seat held.value.state }
-        requires order { KeepsOrder held.value.is_orderly at_rest held.value.seat }
-        ensures same { result ≡ record { state = held.value.state; taker = held.value.taker; seat = held.value.seat; is_orderly = held.value.is_orderly } }
-        ensures keeps { ExecInvariant held.value.state }
+        requires { held.value.state.chosen ≡ None }
+        ensures same { result ≡ held.value }
+        ensures rests { IsResting held.value }
     {
-        held.state.facts();
+        let taken: &TakenState = &held;
+        let state = &taken.state;
+        let _ = &state.home;
         Resting { held }
     }
 
     /// The state, for the worker that holds it.
     pub fn into_held(self) -> Box<TakenState>
-        ensures same { (result.value.state ≡ self.state) × (result.value.taker ≡ self.taker) × (result.value.seat ≡ self.seat) × (result.value.is_orderly ≡ self.is_orderly) }
-        ensures free { result.value.state.chosen ≡ None }
-        ensures is_of { IsOf result.value.taker result.value.seat result.value.state }
-        ensures order { KeepsOrder result.value.is_orderly at_rest result.value.seat }
-        ensures keeps { ExecInvariant result.value.state }
+        ensures same { result.value ≡ self }
+        ensures rests { IsResting self }
     {
         let Resting { held } = self;
         held
@@ -87,10 +96,8 @@ impl Resting {
 
     /// The state, the right to take its jobs, the seat by which it took the book, and whether its turns are known to have begun in order.
     pub fn into_parts(self) -> (ExecState, Taker, BookSeat, bool)
-        ensures same { (result.0 ≡ self.state) × (result.1 ≡ self.taker) × (result.2 ≡ self.seat) × (result.3 ≡ self.is_orderly) }
-        ensures free { result.0.chosen ≡ None }
-        ensures is_of { IsOf result.1 result.2 result.0 }
-        ensures order { KeepsOrder result.3 at_rest result.2 }
+        ensures same { taken_of result.0 result.1 result.2 result.3 ≡ self }
+        ensures rests { IsResting self }
     {
         let held = Box::into_inner(self.into_held());
         let TakenState {

@@ -3,7 +3,7 @@
 ghost use Rattle.atomic_table.specs.Seated.{TableId, table_id_coded};
 ghost use Rattle.std.specs.Coded.{codes};
 ghost use Rattle.swift_script.specs.Codes.{expression_code, statement_code, block_code};
-ghost use Rattle.swift_executor.specs.Resting.{RestingView};
+ghost use Rattle.swift_executor.specs.Taken.{TakenView};
 
 use crate::inbox::ExecutorSite;
 use std::marker::Model;
@@ -28,7 +28,7 @@ pub struct StateName {
 /// A state as clauses see it while no worker holds it, which a desk notes where it takes it or gives it back. No value of it is made. It is
 /// a type of its own, in which no jobs lie.
 pub struct StateImage {
-    pub ghost resting: { RestingView } by { Prim.hlevel (codes, expression_code, statement_code (block_code (Prim.hlevel (codes, expression_code)) (Prim.hlevel (codes, expression_code)))) },
+    pub ghost resting: { TakenView } by { Prim.hlevel (codes, expression_code, statement_code (block_code (Prim.hlevel (codes, expression_code)) (Prim.hlevel (codes, expression_code)))) },
 }
 
 impl Model for StateImage {

@@ -1,16 +1,33 @@
-use Rattle.std.proofs.Common.{◌≡◌, Some, [], sym, subst, rules}
+use Rattle.std.proofs.Common.{◌≡◌, ℕ, Some, [], true, refl, ap, sym, subst, rules}
+use Rattle.std.specs.Prelude.{List}
+use Rattle.std.proofs.lemmas.List.Sorted.{IsPermutation-refl}
+use Rattle.swift_history.specs.TurnEnds.{JobFacts}
+use Rattle.swift_script.specs.Scripts.{ScriptView}
+use Rattle.swift_shared_book.specs.Shared.{BookSeatView}
 use Rattle.swift_executor.specs.Account.{HasTaken}
 use Rattle.swift_executor.specs.Exec.{site_of}
-use Rattle.swift_executor.specs.Seats.{IsSeatFor}
-use Rattle.swift_executor.specs.State.{new_executor}
+use Rattle.swift_executor.specs.Held.{GoesTogether}
+use Rattle.swift_executor.specs.Inbox.{TakerView}
+use Rattle.swift_executor.specs.Seats.{IsOpened, orders_of}
+use Rattle.swift_executor.specs.State.{ExecStateView, new_executor}
+use Rattle.swift_executor.specs.Taken.{taken_of}
+use Rattle.swift_executor.proofs.SeatKept.{new_knows}
 use Rattle.swift_executor.proofs.exec.first_state.Goals as goal
 
-pub new-requires-in-Ok-clause-is_of : goal.new-requires-in-Ok-clause-is_of
-new-requires-in-Ok-clause-is_of c =
-    let is = c.in-Ok.ensures.ok in
-    let same : c.in_ok-state.state ≡ new_executor c.args.site.now.script c.args.site.now.executor c.args.room = search rules in
-    let site : c.args.taker.site ≡ Some (site_of c.args.seat.lock c.in_ok-state.state) = search rules in (
-      subst (λ h. h.taker.site ≡ Some (site_of h.seat.lock h.state)) (sym is) site,
-      subst (λ h. HasTaken h.taker.taken h.state) (sym is) (subst (λ ts. HasTaken ts c.in_ok-state.state) (sym c.requires.unused) (subst (HasTaken []) (sym same) (c.new_has_taken_none.ensures c.args.site.now.script c.args.site.now.executor c.args.room))),
-      subst (λ h. IsSeatFor h.state h.seat) (sym is) (subst (λ s. IsSeatFor s c.args.seat) (sym same) (c.new_knows_no_turn.ensures c.args.site.now.script c.args.site.now.executor c.args.room c.args.seat c.requires.seat)),
-    )
+-- what a new executor begins with goes together
+together_new : (script : ScriptView) (executor room : ℕ) (t : TakerView) (seat : BookSeatView) → t.site ≡ Some (site_of seat.lock (new_executor script executor room)) → t.taken ≡ [] → IsOpened script executor seat
+    → GoesTogether (taken_of (new_executor script executor room) t seat true)
+together_new script executor room t seat site none opened =
+    let s = new_executor script executor room in
+    let first : HasTaken [] s = record { journalled = []; folded = []; all = IsPermutation-refl []; records = refl; past = refl } in
+    record {
+      is_of = (site, subst (λ (ts : List JobFacts). HasTaken ts s) (sym none) first, new_knows script executor room seat opened);
+      order = λ is. ap orders_of opened.1;
+    }
+
+pub invariant_of-held : goal.invariant_of-held
+invariant_of-held c =
+    let i = c.args.site.now in
+    let same : c.in_ok-state.state ≡ new_executor i.script i.executor c.args.room = search rules in
+    let site : c.args.taker.site ≡ Some (site_of c.args.seat.lock (new_executor i.script i.executor c.args.room)) = search rules in
+    subst (λ (s : ExecStateView). GoesTogether (taken_of s c.args.taker c.args.seat true)) (sym same) (together_new i.script i.executor c.args.room c.args.taker c.args.seat site c.requires.unused c.requires.seat)

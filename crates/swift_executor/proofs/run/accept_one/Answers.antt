@@ -1,17 +1,19 @@
-use Rattle.std.proofs.Common.{rules, ap}
-use Rattle.swift_executor.specs.Seats.{orders_of, records_in}
-use Rattle.swift_executor.proofs.Visits.{accepted_at, only_by}
+use Rattle.std.proofs.Common.{ap, sym, subst, ◌∙◌}
+use Rattle.swift_executor.specs.Exec.{IsAt}
+use Rattle.swift_executor.specs.Taken.{TakenView, taken_of}
+use Rattle.swift_executor.proofs.VisitSteps.{accepts_one}
 use Rattle.swift_executor.proofs.run.accept_one.Goals as goal
+
+pub invariant_of-held-in-Some : goal.invariant_of-held-in-Some
+invariant_of-held-in-Some g c =
+    let x = c.held.inside in
+    let here = subst (λ (v : TakenView). IsAt c.args.inbox.now v.taker v.seat v.state) (sym c.held.view_is) c.requires.at in
+    let free = ap (λ (v : TakenView). v.state.chosen) c.held.view_is ∙ c.requires.free in
+    (accepts_one c.args.inbox.now (taken_of x.state x.taker x.seat x.is_orderly) c.held.invariant free here _ _ _ _ c.in-Some.sent.job _ c.in-Some.ensures.some c.is_empty_now.ensures c.accept-job.ensures.job c.accept-job.ensures.seat c.accept.ensures.ready c.accept.ensures.rest).together
 
 pub returns-in-Some-clause-at : goal.returns-in-Some-clause-at
 returns-in-Some-clause-at g c =
-    accepted_at c.args.inbox.now c.args.held.now.taker _ _ c.args.held.now.seat _ c.args.held.now.state _ c.in-Some.sent.job _ c.requires.at c.requires.free c.in-Some.ensures.some c.is_empty_now.ensures c.accept-job.ensures.job c.accept-job.ensures.seat c.accept.ensures.ready c.accept.ensures.rest
-
-pub returns-in-Some-clause-order : goal.returns-in-Some-clause-order
-returns-in-Some-clause-order g c = (search rules, ap (λ s. orders_of s.knows) c.accept-job.ensures.seat)
-
-pub returns-in-Some-clause-jobs : goal.returns-in-Some-clause-jobs
-returns-in-Some-clause-jobs g c = only_by c.args.held.now.state c.accept.new.self c.accept.new.self.ready c.args.held.now.state.chosen c.accept.ensures.rest
-
-pub returns-in-Some-clause-records : goal.returns-in-Some-clause-records
-returns-in-Some-clause-records g c = ap (λ s. records_in s.knows) c.accept-job.ensures.seat
+    let x = c.held.inside in
+    let here = subst (λ (v : TakenView). IsAt c.args.inbox.now v.taker v.seat v.state) (sym c.held.view_is) c.requires.at in
+    let free = ap (λ (v : TakenView). v.state.chosen) c.held.view_is ∙ c.requires.free in
+    (accepts_one c.args.inbox.now (taken_of x.state x.taker x.seat x.is_orderly) c.held.invariant free here _ _ _ _ c.in-Some.sent.job _ c.in-Some.ensures.some c.is_empty_now.ensures c.accept-job.ensures.job c.accept-job.ensures.seat c.accept.ensures.ready c.accept.ensures.rest).does.at

@@ -1,33 +1,36 @@
-use Rattle.std.proofs.Common.{◌≡◌, length, refl, ap, subst, sym, ◌∙◌, rules}
+use Rattle.std.proofs.Common.{◌≡◌, length, ap, subst, sym, ◌∙◌, rules}
+use Rattle.std.proofs.lemmas.Result.{err_from_is_err_and}
+use Rattle.swift_course.specs.Views.{at_rest}
 use Rattle.swift_tasks.specs.Books.{BookView}
 use Rattle.swift_history.specs.Orderly.{has_last_root}
-use Rattle.swift_executor.specs.Exec.{site_of}
-use Rattle.swift_executor.specs.Ready.{HaveCounted}
-use Rattle.swift_executor.specs.Seats.{orders_of}
+use Rattle.swift_executor.specs.Seats.{IsSeatFor, KeepsOrder, orders_of}
 use Rattle.swift_executor.specs.State.{ExecStateView}
-use Rattle.swift_executor.proofs.Visits.{begun_in_order, run_fault}
+use Rattle.swift_executor.proofs.Visits.{begun_in_order, begun_knows, is_picked}
 use Rattle.swift_executor.proofs.run.start_one.Goals as goal
 
-pub returns-in-Ok-clause-begun : goal.returns-in-Ok-clause-begun
-returns-in-Ok-clause-begun c = λ r.
+pub start-requires-clause-picked : goal.start-requires-clause-picked
+start-requires-clause-picked c = is_picked _ c.requires.chosen.0 c.args.state.now c.requires.chosen.1 c.requires.chosen.2
+
+pub returns-clause-known : goal.returns-clause-known
+returns-clause-known c =
+    let h = c.requires.chosen in
+    let all : c.len-events.result ≡ length c.args.taken.book.value.log = search rules in
+    subst (λ (s : ExecStateView). IsSeatFor s c.start.new.seat) (sym c.counts_from.ensures)
+    (begun_knows h.0 c.args.state.now c.start.new.self h.1 c.args.taken.book.value c.args.worker c.len-events.result c.start.new.seat h.2 c.in_ok-start.ensures.ok c.start.ensures.known c.in_ok-start.ensures.seen all)
+
+pub returns-clause-begins : goal.returns-clause-begins
+returns-clause-begins c =
+    let e = c.counts_from.ensures in
+    let s = c.start.new.self in
+    record { begun = s; begins = c.in_ok-start.ensures.ok; given = e ∙ ap (λ (x : ExecStateView). record s { ready = record s.ready { counted = x.ready.counted } }) (sym e) }
+
+pub returns-clause-begun : goal.returns-clause-begun
+returns-clause-begun c = λ r.
     let same : c.deref.result.now ≡ c.args.taken.book.value = c.deref.ensures in
-    c.in-Ok.ensures.order ∙ begun_in_order _ _ (ap (λ (b : BookView). has_last_root b.script b.log) (sym same) ∙ c.stays_orderly-held.ensures.there r) (c.requires.order (c.stays_orderly-held.ensures.before r))
+    c.in_ok-start.ensures.order ∙ begun_in_order _ _ (ap (λ (b : BookView). has_last_root b.script b.log) (sym same) ∙ c.stays_orderly.ensures.there r) (c.requires.order (c.stays_orderly.ensures.before r))
 
-pub returns-in-Err-clause-back : goal.returns-in-Err-clause-back
-returns-in-Err-clause-back c = λ r. ap (λ s. orders_of s.knows) c.in-Err.ensures.same ∙ c.requires.order (c.stays_orderly-held.ensures.before r)
-
-pub returns-in-Ok-clause-same : goal.returns-in-Ok-clause-same
-returns-in-Ok-clause-same c = (refl, c.note_counted.ensures.same c.args.book.now.id ∙ ap (site_of c.args.book.now.id) c.in-Ok.ensures.ok.turn.2.same)
-
-pub returns-in-Ok-clause-known : goal.returns-in-Ok-clause-known
-returns-in-Ok-clause-known c =
-    let log = c.args.taken.book.value.log in
-    let all : c.len-events.result ≡ length log = search rules in
-    let counted = subst (HaveCounted log) (sym (ap (λ (s : ExecStateView). s.ready.levels) c.in-Ok.ensures.ok.turn.2.same)) c.requires.counted in
-    c.note_counted.ensures.known c.start.new.seat log c.start.ensures.known c.in-Ok.ensures.seen all counted
-
-pub returns-in-Ok-clause-starts : goal.returns-in-Ok-clause-starts
-returns-in-Ok-clause-starts c = (c.start.new.self, c.in-Ok.ensures.ok, c.note_counted.ensures.given)
-
-pub returns-in-Err-clause-err : goal.returns-in-Err-clause-err
-returns-in-Err-clause-err c = run_fault _ _ c.in-Err.ensures.refused
+pub returns-in_err-start-clause-rest : goal.returns-in_err-start-clause-rest
+returns-in_err-start-clause-rest c =
+    let p = err_from_is_err_and c.from_residual.result c.from_residual.ensures.1 in
+    let rest : KeepsOrder c.stays_orderly.result at_rest c.start.new.seat = λ r. ap (λ s. orders_of s.knows) c.in_err-start.ensures.same ∙ c.requires.order (c.stays_orderly.ensures.before r) in
+    rw p.1 rest

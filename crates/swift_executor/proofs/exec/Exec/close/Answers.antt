@@ -1,7 +1,6 @@
 use Rattle.std.proofs.Common.{rules, ◌≡◌, ◌*◌, ◌∷◌, ap, sym, ◌∙◌}
 use Rattle.swift_executor.specs.Exec.{DeskView, has_found, image_of}
-use Rattle.swift_executor.specs.Resting.{RestingView}
-use Rattle.swift_executor.specs.Visits.{resting}
+use Rattle.swift_executor.specs.Taken.{TakenView, taken_of}
 use Rattle.swift_executor.proofs.exec.Exec.close.Goals as goal
 
 pub returns-in-Run-clause-moved : goal.returns-in-Run-clause-moved
@@ -10,7 +9,5 @@ returns-in-Run-clause-moved g c =
     let p = c.into_parts-state.result in
     let same = c.into_parts-state.ensures.same in
     let found : c.begin_last-desk.result.0 ≡ has_found (2 * c.in-Run.pending ∷ c.args.desk.found) (image_of r ∷ c.args.desk.moved) c.args.desk = search rules in
-    let is : r ≡ resting p.0 r.taker p.2 p.3 =
-    ap (λ s. resting s r.taker r.seat r.is_orderly) (sym same.0) ∙ ap (λ s. resting p.0 r.taker s r.is_orderly) (sym same.2) ∙ ap (resting p.0 r.taker p.2) (sym same.3)
-    in
-    (r.taker, ap (λ (d : DeskView). d.moved) found ∙ ap (λ (x : RestingView). image_of x ∷ c.args.desk.moved) is)
+    let is : r ≡ taken_of p.0 r.taker p.2 p.3 = ap (λ (x : TakenView). taken_of x.state r.taker x.seat x.is_orderly) (sym same) in
+    (r.taker, ap (λ (d : DeskView). d.moved) found ∙ ap (λ (x : TakenView). image_of x ∷ c.args.desk.moved) is)
