@@ -40,13 +40,8 @@ class Program(NamedTuple):
 WORKERS = Option("workers", "Runs the tasks on N threads, from 1 to 8", "N", tuple("12345678"))
 QUIET = Option("quiet", "Leaves the journals out of the report")
 LIMIT = Option("limit", "Keeps at most N states, from 1 to 10000000", "N")
-# By which schedule a run is made.
-SCHEDULES = (
-    Option("outcome", "Takes the schedule of outcome K, as explore lists it", "K"),
-    Option("schedule", "Takes this schedule, as explore prints it: 't0.0 t1.0 t0.1'", "TURNS"),
-    Option("broken", "Takes a schedule to a turn that an invariant undoes, as explore finds it"),
-    LIMIT,
-)
+# By the schedule of which outcome a run is made.
+OUTCOME = (Option("outcome", "Takes the schedule of outcome K, as explore lists it", "K"), LIMIT)
 # Refusals of scripts and of runs, and the words of faults.
 TOPICS = (
     *(f"S{number}" for number in range(1, 15)),
@@ -62,12 +57,12 @@ NUCHAPAY = (
             QUIET,
             Option("values", "Says below each turn which fields it changed"),
             Option("format", "Prints the report as text, or as JSON", "FORMAT", ("text", "json")),
-            *SCHEDULES,
+            *OUTCOME,
         ),
     ),
     Command(
         "why", "Runs a script, and explains one of its turns: what it began with, what it did to the fields, and who changed them meanwhile",
-        ("<FILE>", "[TURN]"), (WORKERS, *SCHEDULES),
+        ("<FILE>", "<TURN>"), (WORKERS, *OUTCOME),
     ),
     Command(
         "check", "Says whether a script is accepted; else why not, where, and what to do", ("[FILE]",),
@@ -80,14 +75,13 @@ NUCHAPAY = (
     ),
     Command(
         "show", "Runs a script, and shows the run as a picture", ("[FILE]",),
-        (WORKERS, Option("format", "A picture, or a trace for Perfetto and chrome://tracing", "FORMAT", ("svg", "trace")), *SCHEDULES),
+        (WORKERS, Option("format", "A picture, or a trace for Perfetto and chrome://tracing", "FORMAT", ("svg", "trace")), *OUTCOME),
     ),
     Command("swift", "Prints a script as a Swift program, for Swift's own runtime", ("[FILE]",)),
     Command(
         "explore", "Lists outcomes that some order of turns leads to, each with its schedule", ("[FILE]",),
         (
             LIMIT,
-            Option("broken", "Prints the schedule to a turn that an invariant undoes, and nothing else"),
             Option("schedule", "Runs the schedule of outcome K again, and prints the whole report", "K"),
         ),
     ),

@@ -1,2 +1,1 @@
 mod OfRun
-mod Chosen

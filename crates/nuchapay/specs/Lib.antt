@@ -1,4 +1,3 @@
 pub mod Runs
 pub mod Scheduled
-pub mod Schedules
 pub mod Searches

@@ -19,7 +19,7 @@ name_at p es n k t d m more lt is =
     ap (λ (i : ℕ). name_within i p es t) more ∙ ap (name_if (name_within k p es) p es t) (read_at es t d lt) ∙ ap (name_by (name_within k p es) p es t) is
 
 -- a name that is put after a text, in three parts
-pub put_name : (a b c d name slash number : List ℕ) → b ≡ a ++ name → c ≡ b ++ slash → d ≡ c ++ number → d ≡ a ++ (name ++ (slash ++ number))
+pub put_name : (a b c d name slash number : List ℕ) → b ≡ a ++ name → c ≡ b ++ slash → d ≡ c ++ number → d ≡ a ++ ((name ++ slash) ++ number)
 put_name a b c d name slash number first then_is last =
-    let joined : ((a ++ name) ++ slash) ++ number ≡ a ++ (name ++ (slash ++ number)) = simp append_assoc in
+    let joined : ((a ++ name) ++ slash) ++ number ≡ a ++ ((name ++ slash) ++ number) = simp append_assoc in
     last ∙ ap (λ (l : List ℕ). l ++ number) (then_is ∙ ap (λ (l : List ℕ). l ++ slash) first) ∙ joined

@@ -21,17 +21,6 @@ pub enum PictureFormat {
     Trace,
 }
 
-/// By which schedule a run is made (our own).
-#[derive(Clone, Copy)]
-pub enum ScheduleChoice<'a> {
-    /// That of the outcome with this number, from 1, of those that a search finds which keeps at most `limit` histories.
-    Outcome { limit: u32, outcome: u32 },
-    /// The one that these words spell, as `explore` prints it.
-    Given(&'a str),
-    /// One to a turn that is undone by an invariant, which a search finds that keeps at most `limit` histories.
-    Broken { limit: u32 },
-}
-
 /// What is to be said of a run by a schedule (our own).
 #[derive(Clone, Copy)]
 pub enum RunForm<'a> {
@@ -41,8 +30,8 @@ pub enum RunForm<'a> {
     Json(bool),
     /// Its report, and below each turn what it did to the fields.
     Values,
-    /// One of its turns, explained. Where none is named, the turn that is undone.
-    Why(Option<TurnWord<'a>>),
+    /// One of its turns, explained.
+    Why(TurnWord<'a>),
     /// The run as a picture in this format.
     Picture(PictureFormat),
 }
@@ -66,18 +55,17 @@ pub enum Request<'a> {
     Print(Source<'a>, bool),
     /// To run a script on this number of threads, and to show the run as a picture in this format.
     Show(Source<'a>, u32, PictureFormat),
-    /// To run a script by a schedule, and to say this of the run.
+    /// To search as `Explore` does, to run a script by the schedule of one of the outcomes, by its number from 1, and to say this of the run.
     Scheduled {
         source: Source<'a>,
-        schedule: ScheduleChoice<'a>,
+        limit: u32,
+        outcome: u32,
         form: RunForm<'a>,
     },
     /// To print the Swift program of a script.
     Swift(Source<'a>),
     /// To search the histories of a script for outcomes, and to keep at most so many histories.
     Explore(Source<'a>, u32),
-    /// To search as `Explore` does, and to print the schedule to a turn that is undone by an invariant.
-    ExploreBroken(Source<'a>, u32),
     /// To search as `Explore` does, and to run the schedule of one of the outcomes again, by its number from 1.
     Rerun {
         source: Source<'a>,

@@ -5,10 +5,10 @@ ghost use Rattle.swift_types.specs.declared.limits.TheConstants.{WORKERS};
 ghost use Rattle.nuchapay_tool.specs.Requests.{HasCrew};
 ghost use Rattle.nuchapay_tool.specs.declared.requests.Source.TheVariants.{File, Stdin};
 
-use crate::requests::{PictureFormat, Request, RunForm, ScheduleChoice, Source};
-use crate::schedule_words::chosen_schedule;
+use crate::outcome_words::{chosen_outcome, limit_of};
+use crate::requests::{PictureFormat, Request, RunForm, Source};
 use crate::topic::find_topic;
-use crate::turn_names::{TurnWord, turn_word};
+use crate::turn_names::turn_word;
 use clap::error::ErrorKind;
 use clap::{Arg, ArgAction, ArgMatches, Command, Error, value_parser};
 use std::alloc::{AllocError, Global};
@@ -71,17 +71,13 @@ fn picture_format<'a>(alloc: Global) -> Arg<'a> {
         .default_value("svg")
 }
 
-// A command that may make a run by a schedule.
-fn with_schedules<'a>(
+// A command that may make a run by the schedule of an outcome.
+fn with_outcome<'a>(
     words: Result<Command<'a>, AllocError>,
     alloc: Global,
 ) -> Result<Command<'a>, AllocError> {
     let outcome = "Takes the schedule of outcome K, as explore lists it";
     let words = with_arg(words, number(alloc, "outcome", "K", outcome));
-    let schedule = "Takes this schedule, as explore prints it: 't0.0 t1.0 t0.1'";
-    let words = with_arg(words, option(alloc, "schedule", "TURNS", schedule));
-    let broken = "Takes a schedule to a turn that an invariant undoes, as explore finds it";
-    let words = with_arg(words, flag(alloc, "broken", broken));
     with_arg(words, limit(alloc))
 }
 
@@ -119,7 +115,7 @@ fn run_command<'a>(alloc: Global) -> Result<Command<'a>, AllocError> {
     let values = "Says below each turn which fields it changed";
     let words = with_arg(words, flag(alloc, "values", values));
     let words = with_arg(words, report_format(alloc));
-    with_schedules(words, alloc)
+    with_outcome(words, alloc)
 }
 
 fn why_command<'a>(alloc: Global) -> Result<Command<'a>, AllocError> {
@@ -134,11 +130,10 @@ fn why_command<'a>(alloc: Global) -> Result<Command<'a>, AllocError> {
         Ok(words),
         operand(alloc, "file", "FILE", script).required(true),
     );
-    let turn =
-        "The turn, as the journal names it, t1.0, or by its task's name, second.0; by --broken it may be missing";
-    let words = with_arg(words, operand(alloc, "turn", "TURN", turn));
+    let turn = "The turn, as the journal names it, t1.0, or by the name of its task, second.0";
+    let words = with_arg(words, operand(alloc, "turn", "TURN", turn).required(true));
     let words = with_arg(words, workers(alloc));
-    with_schedules(words, alloc)
+    with_outcome(words, alloc)
 }
 
 fn check_command<'a>(alloc: Global) -> Result<Command<'a>, AllocError> {
@@ -193,7 +188,7 @@ fn show_command<'a>(alloc: Global) -> Result<Command<'a>, AllocError> {
     let words = with_arg(Ok(words), file(alloc));
     let words = with_arg(words, workers(alloc));
     let words = with_arg(words, picture_format(alloc));
-    with_schedules(words, alloc)
+    with_outcome(words, alloc)
 }
 
 fn swift_command<'a>(alloc: Global) -> Result<Command<'a>, AllocError> {
@@ -220,8 +215,6 @@ fn explore_command<'a>(alloc: Global) -> Result<Command<'a>, AllocError> {
     );
     let words = with_arg(Ok(words), file(alloc));
     let words = with_arg(words, limit(alloc));
-    let broken = "Prints the schedule to a turn that an invariant undoes, and nothing else";
-    let words = with_arg(words, flag(alloc, "broken", broken));
     let schedule = "Runs the schedule of outcome K again, and prints the whole report";
     with_arg(words, number(alloc, "schedule", "K", schedule))
 }
@@ -286,8 +279,8 @@ fn run_request<'a>(matches: &ArgMatches<'a>) -> Result<Request<'a>, Refused>
     ensures { IfOk result HasCrew }
 {
     let form = report_form(matches)?;
-    if let Some(schedule) = chosen_schedule(matches)? {
-        return Ok(scheduled(matches, schedule, form));
+    if let Some(outcome) = chosen_outcome(matches)? {
+        return Ok(scheduled(matches, outcome, form));
     }
     let source = source(matches);
     let workers = workers_of(matches);
@@ -317,17 +310,14 @@ fn report_form<'a>(matches: &ArgMatches<'a>) -> Result<RunForm<'a>, Refused> {
     Ok(RunForm::Report(quiet))
 }
 
-// A run by a schedule.
-fn scheduled<'a>(
-    matches: &ArgMatches<'a>,
-    schedule: ScheduleChoice<'a>,
-    form: RunForm<'a>,
-) -> Request<'a>
+// A run by the schedule of an outcome.
+fn scheduled<'a>(matches: &ArgMatches<'a>, outcome: u32, form: RunForm<'a>) -> Request<'a>
     ensures { HasCrew result }
 {
     Request::Scheduled {
         source: source(matches),
-        schedule,
+        limit: limit_of(matches),
+        outcome,
         form,
     }
 }
@@ -354,43 +344,26 @@ fn show_request<'a>(matches: &ArgMatches<'a>) -> Result<Request<'a>, Refused>
         Some("trace") => PictureFormat::Trace,
         _ => PictureFormat::Svg,
     };
-    if let Some(schedule) = chosen_schedule(matches)? {
-        return Ok(scheduled(matches, schedule, RunForm::Picture(format)));
+    if let Some(outcome) = chosen_outcome(matches)? {
+        return Ok(scheduled(matches, outcome, RunForm::Picture(format)));
     }
     Ok(Request::Show(source(matches), workers_of(matches), format))
 }
 
-// What the words of `why` ask for, if they name a turn, or a schedule to one.
+// What the words of `why` ask for, if they name a turn.
 fn why_request<'a>(matches: &ArgMatches<'a>) -> Result<Request<'a>, Refused>
     ensures { IfOk result HasCrew }
 {
-    let name = named_turn(matches)?;
-    if let Some(schedule) = chosen_schedule(matches)? {
-        if name.is_some() || matches!(schedule, ScheduleChoice::Broken { .. }) {
-            return Ok(scheduled(matches, schedule, RunForm::Why(name)));
-        }
-    }
-    match name {
-        Some(name) => Ok(Request::Why(source(matches), name, workers_of(matches))),
-        None => Err(Refused {
-            kind: ErrorKind::MissingRequiredArgument,
-            said: "TURN is missing: t1.0 is the first turn of task 1. It may be missing only beside --broken",
-        }),
-    }
-}
-
-// The turn that is named, if one is.
-fn named_turn<'a>(matches: &ArgMatches<'a>) -> Result<Option<TurnWord<'a>>, Refused> {
-    let Some(word) = matches.get_str("turn") else {
-        return Ok(None);
-    };
-    match turn_word(word) {
-        Some(name) => Ok(Some(name)),
-        None => Err(Refused {
+    let Some(name) = matches.get_str("turn").and_then(turn_word) else {
+        return Err(Refused {
             kind: ErrorKind::InvalidValue,
             said: "a turn is named as in a journal: t1.0 is the first turn of task 1, and second.0 that of the task second",
-        }),
+        });
+    };
+    if let Some(outcome) = chosen_outcome(matches)? {
+        return Ok(scheduled(matches, outcome, RunForm::Why(name)));
     }
+    Ok(Request::Why(source(matches), name, workers_of(matches)))
 }
 
 // What the words of `check` ask for, if they name a colour that there is.
@@ -454,10 +427,7 @@ fn requested<'a>(matches: &ArgMatches<'a>) -> Result<Request<'a>, Refused>
 fn explore_request<'a>(found: &ArgMatches<'a>) -> Request<'a>
     ensures { HasCrew result }
 {
-    let limit = found.get_one::<u32>("limit").unwrap_or(100_000);
-    if found.get_flag("broken") {
-        return Request::ExploreBroken(source(found), limit);
-    }
+    let limit = limit_of(found);
     match found.get_one::<u32>("schedule") {
         Some(outcome) => Request::Rerun {
             source: source(found),
@@ -482,9 +452,8 @@ fn is_second(matches: &ArgMatches<'_>, argument: &str, first: &str, second: &str
 ///
 /// - `run`, with a file, `--workers N` from 1 to 8 and 1 where it is not given, `--quiet`, `--format` with `text` or `json`, `text` where it
 ///   is not given, and `--values`, for which there is no place where `--quiet` is given, and which is refused beside `json`;
-/// - `why`, with a file, the name of a turn, and `--workers N`; the turn may be missing beside `--broken`;
-/// - `run`, `why` and `show` with one of `--outcome K`, `--schedule TURNS` and `--broken`, and with `--limit N` as for `explore`, beside the
-///   first and the last of these; `--workers` is refused beside them;
+/// - `why`, with a file, the name of a turn, and `--workers N`;
+/// - `run`, `why` and `show` with `--outcome K` from 1 to 10,000,000, beside which there is `--limit N` as for `explore`, and no `--workers`;
 /// - `swift`, with a file;
 /// - `explore`, with a file, `--limit N` from 1 to 10,000,000, 100,000 where it is not given, and `--schedule K` from 1 to 10,000,000;
 /// - `show`, with a file, `--workers N`, and `--format` with `svg` or `trace`, `svg` where it is not given;

@@ -21,7 +21,6 @@ mod Trying
 mod Noting
 mod KnownEnds
 mod Complete
-mod Completing
 mod Texts
 pub mod Bytes
 pub mod Codes

@@ -1,8 +1,6 @@
 //! Outcomes that some order of turns of a script leads to.
 #![tactic(auto)]
 
-// A schedule that is led to its end.
-mod completion;
 // A search that is made in parts.
 mod exploration;
 // What is left of tasks to do, as numbers.
@@ -26,10 +24,9 @@ mod text;
 // What the next turn of each task begins with.
 mod waiting;
 
-pub use completion::{Completion, StepFault, complete_schedule};
 pub use exploration::{Exploration, FoundOutcomes};
 pub use keys::laws;
 pub use moves::Move;
 pub use outcome::RunOutcome;
 pub use schedule::schedule_report;
-pub use text::{found_text, schedule_text};
+pub use text::found_text;

@@ -23,9 +23,9 @@ returns-in_ok-extend_from_slice-in-Some t c =
     let more : c.args.tasks ≡ suc (c.args.tasks - 1) = omega arith in
     let lt : c.args.task.0 < length es = omega arith in
     let many : c.made_of.result ≡ made_of (take (c.args.task.0 + 1) es) maker = search rules in
-    let told : List ℕ = name ++ (codes "/" ++ decimal (made_of (take (c.args.task.0 + 1) es) maker)) in
+    let told : List ℕ = (name ++ codes "/") ++ decimal (made_of (take (c.args.task.0 + 1) es) maker) in
     let named : name_within c.args.tasks p es c.args.task.0 ≡ told = name_at p es c.args.tasks before c.args.task.0 _ (Some maker) more lt (sym c.in-Some.ensures) in
-    let numbered : told ≡ name ++ (codes "/" ++ decimal c.made_of.result) = ap (λ (n : ℕ). name ++ (codes "/" ++ decimal n)) (sym many) in
+    let numbered : told ≡ (name ++ codes "/") ++ decimal c.made_of.result = ap (λ (n : ℕ). (name ++ codes "/") ++ decimal n) (sym many) in
     subst (λ (l : List ℕ). OnOk c.number.result (c.number.new.out.items ≡ c.args.out.now.items ++ l)) (sym (named ∙ numbered))
     (on_ok_weaker c.number.result
         (λ (last : c.number.new.out.items ≡ c.extend_from_slice-in-Some.new.self.items ++ decimal c.made_of.result).
