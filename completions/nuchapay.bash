@@ -17,7 +17,7 @@ _nuchapay() {
         why:--workers) words='1 2 3 4 5 6 7 8' ;;
         check:--color) words='always never' ;;
         show:--workers) words='1 2 3 4 5 6 7 8' ;;
-        show:--format) words='svg trace' ;;
+        show:--format) words='svg html trace' ;;
         explore:--limit) words='' ;;
         explore:--schedule) words='' ;;
         *)

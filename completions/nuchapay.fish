@@ -29,7 +29,7 @@ complete -c nuchapay -n '__fish_seen_subcommand_from print' -l pretty -d 'Lays t
 complete -c nuchapay -n '__fish_seen_subcommand_from print' -l help -d 'Print help'
 complete -c nuchapay -n '__fish_seen_subcommand_from print' -k -a '(__fish_complete_suffix .actors)'
 complete -c nuchapay -n '__fish_seen_subcommand_from show' -l workers -x -a '1 2 3 4 5 6 7 8' -d 'Runs the tasks on N threads, from 1 to 8'
-complete -c nuchapay -n '__fish_seen_subcommand_from show' -l format -x -a 'svg trace' -d 'A picture, or a trace for Perfetto and chrome://tracing'
+complete -c nuchapay -n '__fish_seen_subcommand_from show' -l format -x -a 'svg html trace' -d 'A picture, a page for a browser, or a trace for Perfetto and chrome://tracing'
 complete -c nuchapay -n '__fish_seen_subcommand_from show' -l help -d 'Print help'
 complete -c nuchapay -n '__fish_seen_subcommand_from show' -k -a '(__fish_complete_suffix .actors)'
 complete -c nuchapay -n '__fish_seen_subcommand_from swift' -l help -d 'Print help'

@@ -71,7 +71,7 @@ NUCHAPAY = (
     ),
     Command(
         "show", "Runs a script, and shows the run as a picture", ("[FILE]",),
-        (WORKERS, Option("format", "A picture, or a trace for Perfetto and chrome://tracing", "FORMAT", ("svg", "trace"))),
+        (WORKERS, Option("format", "A picture, a page for a browser, or a trace for Perfetto and chrome://tracing", "FORMAT", ("svg", "html", "trace"))),
     ),
     Command("swift", "Prints a script as a Swift program, for Swift's own runtime", ("[FILE]",)),
     Command(

@@ -6,6 +6,7 @@ ghost use Rattle.nuchapay.specs.Runs.{HasEndedWell, IsOfRun};
 use crate::values::{all_ended_well, run_text};
 use nuchapay_runs::picture::{PictureFault, picture_of, svg_text, write_trace};
 use nuchapay_tool::PictureFormat;
+use run_page::{Heading, page_text};
 use std::alloc::{AllocError, AllocGlobal};
 use std::io::Write;
 use std::random::RandomSource;
@@ -35,6 +36,15 @@ where
         PictureFormat::Svg => {
             let text = svg_text(alloc, &script, &report, &picture, name, workers)?;
             write_all(out, &text)?;
+        }
+        PictureFormat::Html => {
+            let heading = Heading {
+                name,
+                workers,
+                source: text,
+            };
+            let page = page_text(alloc, &script, &report, heading)?;
+            write_all(out, &page)?;
         }
         PictureFormat::Trace => traced(write_trace(alloc, &script, &picture, out))?,
     }
