@@ -106,7 +106,7 @@ tools:
 	@tools/tools_test.py
 	@tools/outcomes_test.py
 	@tools/run_page.py && echo "the statics of run_page are what its page's files give"
-	@cd tools && python3 -B -m unittest -q try_test editors_test completions_test
+	@cd tools && python3 -B -m unittest -q try_test editors_test completions_test run_page_test
 
 # Whether the input of test_cases and what it has to write are what the cases of its areas are joined to.
 cases:

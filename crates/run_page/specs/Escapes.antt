@@ -1,5 +1,6 @@
 -- How texts stand in a page (our own).
-use Rattle.std.specs.Prelude.{◌≡◌, ℕ, ◌==◌, Bool, false, ◌||◌, List, [], ◌∷◌, All, codes, flat_map, nat_lt, if◌then◌else◌}
+use Rattle.std.specs.Prelude.{◌≡◌, ℕ, ◌==◌, Bool, true, ◌||◌, not, List, [], ◌∷◌, codes, flat_map, nat_lt, if◌then◌else◌}
+use Rattle.std.specs.List.{list_all}
 
 -- a byte of JSON; one that could begin or end markup is spelled as JSON's escape, which has none of them
 abbrev pub escaped_byte : ℕ → List ℕ
@@ -13,9 +14,13 @@ escaped_byte b =
 abbrev pub escaped : List ℕ → List ℕ
 escaped = flat_map escaped_byte
 
--- a byte that can neither begin nor end markup: none of `<`, `>` and `&`
-abbrev pub IsPlain : ℕ → Type 0
-IsPlain b = (b == 60 || b == 62 || b == 38) ≡ false
+-- whether a byte can neither begin nor end markup: it is none of `<`, `>` and `&`
+abbrev pub is_plain : ℕ → Bool
+is_plain b = not (b == 60 || b == 62 || b == 38)
+
+-- No byte of a text can begin or end markup.
+abbrev pub IsPlain : List ℕ → Type 0
+IsPlain text = list_all is_plain text ≡ true
 
 -- a byte of a text in a string of JSON: of the control characters a tab and a line feed are kept, and the others are a space
 abbrev pub quoted_byte : ℕ → List ℕ

@@ -17,5 +17,5 @@ pub record IsPage (p : ScriptView) (r : Report) (h : Heading) (text : List ℕ) 
   pub turns : List ExplainedTurn
   pub explained : All (IsExplained r) turns
   pub is : text ≡ page_bytes p r h turns
-  pub plain_report : All IsPlain (escaped (report_json p r false))
-  pub plain_more : All IsPlain (escaped (more_json p r h turns))
+  pub plain_report : IsPlain (escaped (report_json p r false))
+  pub plain_more : IsPlain (escaped (more_json p r h turns))

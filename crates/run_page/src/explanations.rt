@@ -68,7 +68,7 @@ fn first_explained(log: &EventLog) -> usize {
             if many == EXPLAINED {
                 return place + 1;
             }
-            many += 1;
+            many = many.saturating_add(1);
         }
     }
     0

@@ -24,8 +24,8 @@ pub struct Heading<'a> {
 }
 
 // What a page is headed with.
-fn heading(out: &mut Vec<u8>, heading: Heading<'_>) -> Result<(), AllocError>
-    ensures { OnOk result (out.new.items ≡ out.old.items ++ heading_json heading) }
+fn put_heading(out: &mut Vec<u8>, heading: Heading<'_>) -> Result<(), AllocError>
+    ensures { OnOk result (out.new.items ≡ out.old.items ++ heading_json heading.entry) }
 {
     labelled_text(out, b"{\"name\":\"", heading.name.as_bytes())?;
     labelled(out, b"\",\"workers\":", heading.workers)?;
@@ -51,9 +51,9 @@ pub(crate) fn more(
     report: &Report,
     head: Heading<'_>,
 ) -> Result<(), AllocError>
-    ensures { OnOk result (AppendsExplained report.now (more_json script.now report.now head) out.old.items out.new.items) }
+    ensures { OnOk result (AppendsExplained report.now (more_json script.now report.now head.entry) out.old.items out.new.items) }
 {
-    heading(out, head)?;
+    put_heading(out, head)?;
     run(alloc, out, script, report)?;
     explanations(alloc, out, script, report)?;
     say(out, b"]}\n")

@@ -35,7 +35,7 @@ fn more_part(
     report: &Report,
     heading: Heading<'_>,
 ) -> Result<(), AllocError>
-    ensures { OnOk result (AppendsExplained report.now (λ turns. escaped (more_json script.now report.now heading turns)) out.old.items out.new.items) }
+    ensures { OnOk result (AppendsExplained report.now (λ turns. escaped (more_json script.now report.now heading.entry turns)) out.old.items out.new.items) }
 {
     let mut json = Vec::new(alloc);
     more(alloc, &mut json, script, report, heading)?;
@@ -49,7 +49,7 @@ fn parts(
     report: &Report,
     heading: Heading<'_>,
 ) -> Result<(), AllocError>
-    ensures { OnOk result (AppendsExplained report.now (page_bytes script.now report.now heading) out.old.items out.new.items) }
+    ensures { OnOk result (AppendsExplained report.now (page_bytes script.now report.now heading.entry) out.old.items out.new.items) }
 {
     say(out, FRONT.as_bytes())?;
     report_part(alloc, out, script, report)?;
@@ -73,7 +73,7 @@ pub fn page_text(
     report: &Report,
     heading: Heading<'_>,
 ) -> Result<Vec<u8>, AllocError>
-    ensures { IfOk result (λ text. IsPage script.now report.now heading text.items) }
+    ensures { IfOk result (λ text. IsPage script.now report.now heading.entry text.items) }
 {
     let mut out = Vec::new(alloc);
     parts(alloc, &mut out, script, report, heading)?;

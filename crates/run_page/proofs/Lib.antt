@@ -1,0 +1,4 @@
+mod Events
+mod Executors
+mod Explained
+mod Plain
