@@ -96,7 +96,9 @@ def data_faults(program, path, report_text, more):
     if (more["name"], more["workers"]) != (path, 1):
         yield "it has another name, or other workers"
     report = json.loads(report_text)
-    if values_of(report, more) != noted(said_by(program, "run", "--values", path)):
+    # Of a turn that was undone before it changed a field, `run --values` says nothing.
+    values = {turn: (kept or not changes, changes) for turn, (kept, changes) in values_of(report, more).items()}
+    if values != noted(said_by(program, "run", "--values", path)):
         yield "it says other changes than `run --values`"
     explained = {f"t{task}.{turn}": text for task, turn, text in more["why"][1:]}
     names = [name_of(record) for journal in report["journals"] for record in journal["records"]]
