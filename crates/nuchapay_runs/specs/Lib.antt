@@ -4,3 +4,5 @@ pub mod Notes
 pub mod Values
 pub mod Boxes
 pub mod Explains
+pub mod OperatorsInside
+pub mod UndoneInside

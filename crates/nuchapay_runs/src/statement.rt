@@ -1,5 +1,8 @@
 //! Statements in words, by the instructions that they were compiled to.
 
+ghost use Rattle.std.specs.Prelude.{◌≡◌};
+ghost use Rattle.nuchapay_runs.specs.OperatorsInside.{operator_text};
+
 use crate::notes::actor_at;
 use crate::printed::parameter;
 use crate::text::Text;
@@ -48,7 +51,9 @@ fn write_place(out: &mut Text, names: &NamesAt<'_>, place: NumberPlace) {
     }
 }
 
-fn sign(operator: Operator) -> &'static [u8] {
+fn sign(operator: Operator) -> &'static [u8]
+    ensures { result.now ≡ operator_text operator }
+{
     match operator {
         Operator::Or => b" || ",
         Operator::And => b" && ",
