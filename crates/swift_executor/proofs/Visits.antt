@@ -59,12 +59,8 @@ site_stays lock old new jobs = ap (site_of lock) jobs
 pub is_picked : (log : List Event) (old new : ExecStateView) (task : TaskId) → Chooses log old new task → HasChosen new (λ c. IsPicked c.stage)
 is_picked log old new task h = (record { job = h.job; arrival = h.arrival; stage = picked }, ap (λ (s : ExecStateView). s.chosen) h.same, tt)
 
-pub begun_at : (book : BookView) (worker : ℕ) (old new : ExecStateView) → BeginsIn book worker old new → (c : ChosenView) × (new.chosen ≡ Some c) × IsBegun c.stage × (order_of new.chosen ≡ under_way)
-begun_at book worker old new b =
-    let t = b.begins.turn in
-    let c : ChosenView = record t.0 { stage = begun worker t.2.env } in
-    let is : new.chosen ≡ Some c = ap (λ (s : ExecStateView). s.chosen) b.given ∙ ap (λ (s : ExecStateView). s.chosen) t.2.same in
-    (c, is, tt, ap order_of is)
+pub begun_order : (book : BookView) (worker : ℕ) (old new : ExecStateView) → BeginsIn book worker old new → order_of new.chosen ≡ under_way
+begun_order book worker old new b = ap (λ (s : ExecStateView). order_of s.chosen) b.given ∙ ap (λ (s : ExecStateView). order_of s.chosen) b.begins.turn.2.same
 
 pub is_played : (old new : ExecStateView) → HasChosen old (Plays old new) → HasChosen new (λ c. IsPlayed c.stage)
 is_played old new p =
@@ -131,11 +127,6 @@ together_after t seat seat' s s' is_orderly o is lock site taken known order kee
   is_of = (is.0 ∙ ap (λ (x : SiteView). Some x) (sym site) ∙ ap (λ (l : TableId). Some (site_of l s')) (sym lock), taken, known);
   order = subst (λ (x : TurnOrder). KeepsOrder is_orderly x seat') (sym order) keeps;
 }
-
--- its name is then as it was
-pub name_stays : (old new : TakenView) → new.taker ≡ old.taker → new.seat.lock ≡ old.seat.lock → site_of old.seat.lock new.state ≡ site_of old.seat.lock old.state → name_of new ≡ name_of old
-name_stays old new taker lock site =
-    ap (λ (t : TakerView). state_name (site_of new.seat.lock new.state) t.inbox) taker ∙ ap (λ (l : TableId). state_name (site_of l new.state) old.taker.inbox) lock ∙ ap (λ (x : SiteView). state_name x old.taker.inbox) site
 
 -- where no job is chosen, no turn is under way
 pub at_rest_of : (r : TakenView) → GoesTogether r → r.state.chosen ≡ None → KeepsOrder r.is_orderly at_rest r.seat

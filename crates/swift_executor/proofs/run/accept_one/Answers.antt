@@ -9,11 +9,11 @@ invariant_of-held-in-Some g c =
     let x = c.held.inside in
     let here = subst (λ (v : TakenView). IsAt c.args.inbox.now v.taker v.seat v.state) (sym c.held.view_is) c.requires.at in
     let free = ap (λ (v : TakenView). v.state.chosen) c.held.view_is ∙ c.requires.free in
-    (accepts_one c.args.inbox.now (taken_of x.state x.taker x.seat x.is_orderly) c.held.invariant free here _ _ _ _ c.in-Some.sent.job _ c.in-Some.ensures.some c.is_empty_now.ensures c.accept-job.ensures.job c.accept-job.ensures.seat c.accept.ensures.ready c.accept.ensures.rest).together
+    (accepts_one c.args.inbox.now (taken_of x.state x.taker x.seat x.is_orderly) c.held.invariant free here _ _ _ _ c.in-Some.sent.job _ c.in-Some.ensures.some c.is_empty_now.ensures c.accept-job.ensures.job c.accept-job.ensures.seat c.accept.ensures.ready c.accept.ensures.rest).1
 
 pub returns-in-Some-clause-at : goal.returns-in-Some-clause-at
 returns-in-Some-clause-at g c =
     let x = c.held.inside in
     let here = subst (λ (v : TakenView). IsAt c.args.inbox.now v.taker v.seat v.state) (sym c.held.view_is) c.requires.at in
     let free = ap (λ (v : TakenView). v.state.chosen) c.held.view_is ∙ c.requires.free in
-    (accepts_one c.args.inbox.now (taken_of x.state x.taker x.seat x.is_orderly) c.held.invariant free here _ _ _ _ c.in-Some.sent.job _ c.in-Some.ensures.some c.is_empty_now.ensures c.accept-job.ensures.job c.accept-job.ensures.seat c.accept.ensures.ready c.accept.ensures.rest).does.at
+    (accepts_one c.args.inbox.now (taken_of x.state x.taker x.seat x.is_orderly) c.held.invariant free here _ _ _ _ c.in-Some.sent.job _ c.in-Some.ensures.some c.is_empty_now.ensures c.accept-job.ensures.job c.accept-job.ensures.seat c.accept.ensures.ready c.accept.ensures.rest).0

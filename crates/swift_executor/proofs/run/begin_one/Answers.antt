@@ -42,26 +42,21 @@ invariant_of-held g c =
     let free = ap (λ (v : TakenView). v.state.chosen) c.held.view_is ∙ c.requires.free in
     let same : c.choose_one.new.book ≡ v = c.choose_one.ensures.book ∙ c.deref_mut.ensures.value in
     let ch : Chooses v.log x.state s c.in-Ok-Some.task = subst (λ (b : BookView). Chooses b.log x.state s c.in-Ok-Some.task) c.deref_mut.ensures.value (rw c.in-Ok-Some.field-0-is at c.in-Ok-Some.ensures.some) in
-    let cause = subst (λ (b : BookView). IsRefusal (refusal_to_begin b s.chosen) c.in_err-begun-in-Ok-Some.field-0.0) same c.in_err-begun-in-Ok-Some.ensures.refused in
-    (cannot_begin b r c.held.invariant free of c.lock-taken.result.seat v c.lock-taken.ensures.seat c.lock-taken.ensures.run c.in-Ok-Some.task s n.state n.seat n.is_orderly _ ch c.in_err-begun-in-Ok-Some.ensures.back e.seat.0 e.seat.1 e.known c.in_err-begun-in-Ok-Some.ensures.rest cause).together
+    cannot_begin b r c.held.invariant free of c.lock-taken.result.seat v c.lock-taken.ensures.seat c.lock-taken.ensures.run c.in-Ok-Some.task s n.state n.seat n.is_orderly ch c.in_err-begun-in-Ok-Some.ensures.back e.seat.0 e.known c.in_err-begun-in-Ok-Some.ensures.rest
 
 pub returns-in_err-begun-in-Ok-Some-clause-refused : goal.returns-in_err-begun-in-Ok-Some-clause-refused
 returns-in_err-begun-in-Ok-Some-clause-refused g c =
     let x = c.held.inside in
-    let r = taken_of x.state x.taker x.seat x.is_orderly in
-    let b = c.args.book.now in
     let s = c.choose_one.new.state in
     let v = c.lock-taken.result.book.value in
     let n = c.start_one-begun.new in
-    let e = c.start_one-begun.ensures in
-    let of = subst (IsOfBook b) (sym c.held.view_is) c.requires.book in
     let free = ap (λ (v : TakenView). v.state.chosen) c.held.view_is ∙ c.requires.free in
     let same : c.choose_one.new.book ≡ v = c.choose_one.ensures.book ∙ c.deref_mut.ensures.value in
     let ch : Chooses v.log x.state s c.in-Ok-Some.task = subst (λ (b : BookView). Chooses b.log x.state s c.in-Ok-Some.task) c.deref_mut.ensures.value (rw c.in-Ok-Some.field-0-is at c.in-Ok-Some.ensures.some) in
     let cause = subst (λ (b : BookView). IsRefusal (refusal_to_begin b s.chosen) c.in_err-begun-in-Ok-Some.field-0.0) same c.in_err-begun-in-Ok-Some.ensures.refused in
     let p = err_from_is_err_and c.from_residual.result c.from_residual.ensures.1 in
     rw (p.1, p.2) (subst (λ (w : TakenView). IsNotBegun w c.in_err-begun-in-Ok-Some.field-0.0 (taken_of n.state x.taker n.seat n.is_orderly)) c.held.view_is
-    (inr (cannot_begin b r c.held.invariant free of c.lock-taken.result.seat v c.lock-taken.ensures.seat c.lock-taken.ensures.run c.in-Ok-Some.task s n.state n.seat n.is_orderly _ ch c.in_err-begun-in-Ok-Some.ensures.back e.seat.0 e.seat.1 e.known c.in_err-begun-in-Ok-Some.ensures.rest cause).does.why))
+    (inr (record { book = v; run = c.lock-taken.ensures.run; picked = s; task = c.in-Ok-Some.task; chooses = ch; back = c.in_err-begun-in-Ok-Some.ensures.back; cause = cause })))
 
 pub invariant_of-held-in-Ok-Some : goal.invariant_of-held-in-Ok-Some
 invariant_of-held-in-Ok-Some g c =
@@ -77,7 +72,7 @@ invariant_of-held-in-Ok-Some g c =
     let same : c.choose_one.new.book ≡ v = c.choose_one.ensures.book ∙ c.deref_mut.ensures.value in
     let ch : Chooses v.log x.state s c.in-Ok-Some.task = subst (λ (b : BookView). Chooses b.log x.state s c.in-Ok-Some.task) c.deref_mut.ensures.value (rw c.in-Ok-Some.field-0-is at c.in-Ok-Some.ensures.some) in
     let begins = subst (λ (b : BookView). BeginsIn b c.args.worker s n.state) same c.in_ok-begun-in-Ok-Some.ensures.begins in
-    (begins_one b r c.held.invariant free of c.lock-taken.result.seat v c.lock-taken.ensures.seat c.lock-taken.ensures.run c.args.worker c.in-Ok-Some.task s n.state n.seat n.is_orderly ch begins e.seat.0 e.seat.1 e.known c.in_ok-begun-in-Ok-Some.ensures.begun).together
+    begins_one b r c.held.invariant free of c.lock-taken.result.seat v c.lock-taken.ensures.seat c.lock-taken.ensures.run c.args.worker c.in-Ok-Some.task s n.state n.seat n.is_orderly ch begins e.seat.0 e.known c.in_ok-begun-in-Ok-Some.ensures.begun
 
 pub invariant_of-held-in-Ok-None : goal.invariant_of-held-in-Ok-None
 invariant_of-held-in-Ok-None g c =
@@ -89,7 +84,7 @@ invariant_of-held-in-Ok-None g c =
     let of = subst (IsOfBook b) (sym c.held.view_is) c.requires.book in
     let free = ap (λ (v : TakenView). v.state.chosen) c.held.view_is ∙ c.requires.free in
     let none : HasNone v.log x.state s = subst (λ (b : BookView). HasNone b.log x.state s) c.deref_mut.ensures.value (rw c.in-Ok-None.field-0-is at c.in-Ok-None.ensures.none) in
-    (finds_none b r c.held.invariant free of c.lock-taken.result.seat v c.lock-taken.ensures.seat c.lock-taken.ensures.run s c.leave.new.seat none c.leave.ensures).together
+    finds_none b r c.held.invariant free of c.lock-taken.result.seat v c.lock-taken.ensures.seat c.lock-taken.ensures.run s c.leave.new.seat none c.leave.ensures
 
 pub invariant_of-held-in-Err : goal.invariant_of-held-in-Err
 invariant_of-held-in-Err g c =
@@ -101,4 +96,4 @@ invariant_of-held-in-Err g c =
     let of = subst (IsOfBook b) (sym c.held.view_is) c.requires.book in
     let free = ap (λ (v : TakenView). v.state.chosen) c.held.view_is ∙ c.requires.free in
     let lacks : LacksTask v.log x.state s = subst (λ (b : BookView). LacksTask b.log x.state s) c.deref_mut.ensures.value c.in-Err.ensures.err.1 in
-    (cannot_choose b r c.held.invariant free of c.lock-taken.result.seat v c.lock-taken.ensures.seat c.lock-taken.ensures.run s c.leave-in-Err.new.seat c.in-Err.fault lacks c.in-Err.ensures.err.0 c.leave-in-Err.ensures).together
+    cannot_choose b r c.held.invariant free of c.lock-taken.result.seat v c.lock-taken.ensures.seat c.lock-taken.ensures.run s c.leave-in-Err.new.seat lacks c.leave-in-Err.ensures
