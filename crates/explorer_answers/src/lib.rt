@@ -2,9 +2,9 @@
 #![tactic(auto)]
 
 // What comes of each expectation in each outcome, and the answer.
-mod answered;
+mod answering;
 // The answer, as a text.
 mod text;
 
-pub use answered::{answered, judged};
+pub use answering::{answered, judged};
 pub use text::answer_text;
