@@ -23,7 +23,7 @@
 //!   answer, and what the device has.
 //! - `input`: how many bytes the program takes of a text; `failing`: what it says of a device that gives one byte and
 //!   then fails.
-//! - `moments`: how often a gate is told of a token, and of a turn of task 1 on executor 0.
+//! - `moments`: how often a gate is told of each kind of moment, and of a turn of task 1 on executor 0.
 //! - `faults`: what the program says of each fault of its own.
 //! - `words`: what the words of each line ask the program for, or what is said of them, with the status.
 //! - `agree`: the report of the run on one worker without its journals, whether those on two, four and eight workers are the same,
