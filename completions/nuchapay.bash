@@ -6,7 +6,7 @@ _nuchapay() {
     for ((at = 1; at < COMP_CWORD; at++)); do
         each=${COMP_WORDS[at]}
         case $each in
-            --workers | --format | --color | --limit | --schedule) if [[ ${COMP_WORDS[at + 1]} == = ]]; then ((at += 2)); else ((at++)); fi ;;
+            --workers | --format | --color | --limit | --schedule | --expect) if [[ ${COMP_WORDS[at + 1]} == = ]]; then ((at += 2)); else ((at++)); fi ;;
             -?*) ;;
             *) if [[ -z $command ]]; then command=$each; else ((place++)); fi ;;
         esac
@@ -20,6 +20,7 @@ _nuchapay() {
         show:--format) words='svg trace' ;;
         explore:--limit) words='' ;;
         explore:--schedule) words='' ;;
+        explore:--expect) words='' ;;
         *)
             case $command:$word:$place in
                 :-*) words='--version --help' ;;
@@ -38,7 +39,7 @@ _nuchapay() {
                 show:*:0) files='*.actors' ;;
                 swift:-*) words='--help' ;;
                 swift:*:0) files='*.actors' ;;
-                explore:-*) words='--limit --schedule --help' ;;
+                explore:-*) words='--limit --schedule --expect --no-fault --help' ;;
                 explore:*:0) files='*.actors' ;;
                 help:-*) words='--help' ;;
                 help:*:0) words='run why check explain print show swift explore help' ;;

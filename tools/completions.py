@@ -75,10 +75,13 @@ NUCHAPAY = (
     ),
     Command("swift", "Prints a script as a Swift program, for Swift's own runtime", ("[FILE]",)),
     Command(
-        "explore", "Lists outcomes that some order of turns leads to, each with its schedule", ("[FILE]",),
+        "explore",
+        "Lists outcomes that some order of turns leads to, each with its schedule, and says whether each is as expected", ("[FILE]",),
         (
             Option("limit", "Keeps at most N states, from 1 to 10000000", "N"),
             Option("schedule", "Runs the schedule of outcome K again, and prints the whole report", "K"),
+            Option("expect", "Fails where EXPR, over Actor.field and the values of roots, is 0 in an outcome", "EXPR"),
+            Option("no-fault", "Fails where a root ends with a fault in an outcome"),
         ),
     ),
     Command("help", "Print this message or the help of the given subcommand(s)", ("[COMMAND]",)),

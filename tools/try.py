@@ -34,7 +34,7 @@ PARTS = ("src", "specs")
 # The tool's own lines about a run that ended.
 OWN = re.compile(r"interpreter: |checked: |races: |run=|case=|cases=|rt: ")
 # The program's own statuses; greater ones are the tool's, or of a program that was stopped.
-STATUSES = range(0, 5)
+STATUSES = range(0, 6)
 # How often the kit's folder is looked at, in seconds, and a script that runs much longer than that: the program is there while it runs.
 PAUSE = 0.03
 LONG = b"actor A { func f() { let i = 0; while i < 4000 { i = i + 1; } return i; } }\n"

@@ -1,29 +1,20 @@
 -- What commands say of a search.
-use Rattle.std.specs.Prelude.{◌≡◌, ◌⊎◌, ◌<◌, ℕ, ◌+◌, All, IfSome, IsTrue, None, Some, false, List, length, slice_get}
-use Rattle.swift_script.specs.Accepted.{IsAccepted}
+use Rattle.std.specs.Prelude.{◌≡◌, ◌⊎◌, ◌<◌, ℕ, ◌+◌, Bool, Some, false, List, length, slice_get}
+use Rattle.expectations.specs.declared.answer.Answer.{Answer}
+use Rattle.explorer_answers.specs.Answered.{IsAnswer}
+use Rattle.explorer_answers.specs.AnswerText.{answer_text}
+use Rattle.explorer_answers.specs.Found.{IsFoundOf}
 use Rattle.swift_script.specs.Scripts.{ScriptView}
 use Rattle.swift_history.specs.Histories.{IsLegal}
 use Rattle.swift_certificate.specs.Reports.{report_view}
 use Rattle.swift_report.specs.declared.report.Report.{Report as RunReport}
 use Rattle.swift_report.specs.Text.{report_text}
 use Rattle.swift_explorer.specs.declared.exploration.FoundOutcomes.{FoundOutcomes}
-use Rattle.swift_explorer.specs.FoundText.{found_text}
 use Rattle.swift_explorer.specs.declared.moves.Move.{Move}
 use Rattle.swift_explorer.specs.declared.outcome.RunOutcome.{RunOutcome}
-use Rattle.swift_explorer.specs.Outcomes.{EachOnce, HasEachOutcome, IsBrokenAfter, IsLogOf, IsOutcomeOf, NeverBreaks}
+use Rattle.swift_explorer.specs.Outcomes.{IsLogOf}
 use Rattle.nuchapay.specs.declared.explore.Rerun.{Rerun}
 use Rattle.nuchapay.specs.declared.explore.Rerun.TheVariants.{Report, Nowhere}
-
--- What a search of the histories of a script has found, of which at most `limit` were kept: each outcome is one, and there once; the
--- turn that is said to break an invariant does; where the search came to its end no outcome is missing, and where it shows no such turn
--- there is none; and it says that it met the limit only where so many were kept.
-pub record IsFound (script : ScriptView) (limit : ℕ) (found : FoundOutcomes) : Type 0 where
-  pub outcomes : All (IsOutcomeOf script) found.outcomes.items
-  pub once : EachOnce found.outcomes.items
-  pub broken : IfSome found.broken (λ schedule. IsBrokenAfter script schedule.items)
-  pub all : IsTrue found.is_complete → HasEachOutcome script found.outcomes.items
-  pub unbroken : IsTrue found.is_complete → found.broken ≡ None → NeverBreaks script
-  pub met : IsTrue found.met_limit → found.states ≡ limit
 
 -- A text is that of a legal report of a script, whose log is that of a schedule.
 pub record IsScheduleText (script : ScriptView) (schedule : List Move) (text : List ℕ) : Type 0 where
@@ -32,17 +23,11 @@ pub record IsScheduleText (script : ScriptView) (schedule : List Move) (text : L
   pub log : IsLogOf script schedule report.log.events
   pub printed : text ≡ report_text script report false
 
--- what was found by such a search of the script that these bytes spell
-pub record IsFoundOf (bytes : List ℕ) (limit : ℕ) (script : ScriptView) (found : FoundOutcomes) : Type 0 where
-  pub accepted : IsAccepted bytes script
-  pub is : IsFound script limit found
-
--- A text is that of what was found by such a search.
-pub record IsSearchOf (bytes : List ℕ) (limit : ℕ) (text : List ℕ) : Type 0 where
-  pub script : ScriptView
-  pub found : FoundOutcomes
-  pub of : IsFoundOf bytes limit script found
-  pub printed : text ≡ found_text script found
+-- What a search says of the script that these bytes spell, of whose histories at most `limit` are kept, to the expectations of these words
+-- and of its comments, and perhaps that no root ends with a fault: the answer, and a text of it and of all that was found.
+pub record IsExplored (bytes : List ℕ) (limit : ℕ) (words : List (List ℕ)) (without_fault : Bool) (answer : Answer) (text : List ℕ) : Type 0 where
+  pub is : IsAnswer bytes limit words without_fault answer
+  pub printed : text ≡ answer_text is.script is.asked is.found
 
 -- A text is that of the schedule of the outcome with this number, of those that were found, from 1.
 pub record IsTextOfOutcome (bytes : List ℕ) (limit number : ℕ) (text : List ℕ) : Type 0 where

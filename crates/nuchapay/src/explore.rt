@@ -1,15 +1,18 @@
 //! Outcomes of orders of turns.
 
-ghost use Rattle.std.specs.Prelude.{◌≡◌, ◌⊎◌, ◌<◌, ◌+◌, IfOk, IfSome, None};
+ghost use Rattle.std.specs.Prelude.{◌≡◌, ◌⊎◌, ◌<◌, ◌+◌, IfOk, IfSome, None, map};
 ghost use Rattle.std.specs.Arc.{arc_value};
-ghost use Rattle.nuchapay.specs.Searches.{IsFound, IsRerun, IsScheduleText, IsSearchOf};
+ghost use Rattle.explorer_answers.specs.Found.{IsFound};
+ghost use Rattle.nuchapay.specs.Searches.{IsExplored, IsRerun, IsScheduleText};
 
-use std::alloc::{AllocError, Global};
+use expectations::{Answer, ExpectationError, Misread, ask};
+use explorer_answers::{answer_text, answered};
+use std::alloc::{AllocError, AllocFailed, Global};
 use std::sync::Arc;
 use swift_certificate::legal;
-use swift_explorer::{Exploration, FoundOutcomes, Move, found_text, schedule_report};
+use swift_explorer::{Exploration, FoundOutcomes, Move, schedule_report};
 use swift_report::report_text;
-use swift_script::{Script, read};
+use swift_script::{Script, ScriptFault, read};
 use swift_tool::ToolFault;
 use swift_workers::RunFault;
 
@@ -43,16 +46,71 @@ fn search_all(
     Ok(search.finish())
 }
 
-/// What a search of the histories of a script has found, of which at most `limit` are kept. How far it is, it says on standard error now
-/// and then.
-pub fn outcomes_text(rt: &HostRuntime, text: &[u8], limit: u32) -> Result<Vec<u8>, ToolFault>
-    ensures { IfOk result (λ said. IsSearchOf text.now limit said.items) }
+/// What a search says (our own).
+#[derive(Drop)]
+pub struct Explored {
+    /// What it says to what was expected.
+    pub answer: Answer,
+    /// That, and what it has found, as a text.
+    pub text: Vec<u8>,
+}
+
+/// Why a search was not made, or not to its end.
+#[derive(Clone, Copy)]
+pub enum ExploreFault {
+    /// The script was refused.
+    Script(ScriptFault),
+    /// What is expected is none of this script.
+    Misread(Misread),
+    /// No memory was left.
+    Memory,
+}
+
+impl From<AllocError> for ExploreFault {
+    fn from(_fault: AllocError) -> ExploreFault {
+        ExploreFault::Memory
+    }
+}
+
+impl<T: Drop> From<AllocFailed<T>> for ExploreFault {
+    fn from(_fault: AllocFailed<T>) -> ExploreFault {
+        ExploreFault::Memory
+    }
+}
+
+impl From<ScriptFault> for ExploreFault {
+    fn from(fault: ScriptFault) -> ExploreFault {
+        ExploreFault::Script(fault)
+    }
+}
+
+impl From<ExpectationError> for ExploreFault {
+    fn from(error: ExpectationError) -> ExploreFault {
+        match error {
+            ExpectationError::Memory => ExploreFault::Memory,
+            ExpectationError::Misread(fault) => ExploreFault::Misread(fault),
+        }
+    }
+}
+
+/// What a search of the histories of a script says, of which at most `limit` are kept, to the expectations of these words and of the
+/// script's comments, and perhaps that no root ends with a fault. How far it is, it says on standard error now and then.
+pub fn explored(
+    rt: &HostRuntime,
+    text: &[u8],
+    limit: u32,
+    words: &[&str],
+    without_fault: bool,
+) -> Result<Explored, ExploreFault>
+    ensures { IfOk result (λ x. IsExplored text.now limit (map (λ w. w.now) words.now) without_fault x.answer x.text.items) }
 {
     let alloc = rt.alloc();
     let script = Arc::new(alloc, read(alloc, text)?)?;
+    let asked = ask(alloc, &script, text, words, without_fault)?;
     let found = search_all(rt, &script, limit as usize)?;
-    let said = found_text(alloc, &script, &found)?;
-    Ok(said)
+    let answer = answered(alloc, &script, &asked, &found)?;
+    let text = answer_text(alloc, &script, &asked, &found)?;
+    Ok(Explored { answer, text })
 }
 
 /// The run of an outcome's schedule.
@@ -89,7 +147,7 @@ fn place_of(many: usize, number: u32) -> Option<usize>
     Some(number as usize - 1)
 }
 
-/// Searches as `outcomes_text` does, and runs the schedule of one of the outcomes again, by its number from 1. Its report is followed by
+/// Searches as `explored` does, and runs the schedule of one of the outcomes again, by its number from 1. Its report is followed by
 /// `legal` before it is printed.
 pub fn rerun_text(
     rt: &HostRuntime,

@@ -2,9 +2,9 @@
 //!
 //! Its first argument is a command: `run`, `why`, `check`, `explain`, `print`, `show`, `swift` or `explore`; `--help` and `--version` are
 //! taken too.
-//! Status 0 stands for a run whose tasks all ended with a value, a script that is accepted, and for help; 1 for a run with a task that ended
-//! with a fault, 2 for words that were refused, 3 for a script that was refused, 4 for a run that was refused, or a file or device that
-//! failed.
+//! Status 0 stands for a run whose tasks all ended with a value, a script that is accepted, outcomes that are as expected, and for help; 1 for
+//! a run with a task that ended with a fault, or an outcome that is not as expected, 2 for words that were refused, 3 for a script that was
+//! refused, 4 for a run that was refused, or a file or device that failed, 5 for a search that decides nothing.
 #![tactic(auto)]
 
 // Outcomes of orders of turns.
@@ -14,9 +14,10 @@ mod show;
 // Runs whose turns are explained.
 mod values;
 
-use crate::explore::{Rerun, outcomes_text, rerun_text};
+use crate::explore::{ExploreFault, Explored, Rerun, explored, rerun_text};
 use crate::show::show_run;
 use crate::values::{Said, explained_turn, report_of};
+use expectations::{Answer, Misread};
 use nuchapay_runs::Explained;
 use nuchapay_tool::{
     Checked, Request, Source, Topic, TurnName, check, explain, page_of, pretty, print, read_input,
@@ -32,7 +33,7 @@ use std::thread::Threads;
 use std::{env, io};
 use swift_report::write_all;
 use swift_tool::{ToolFault, run_json, run_text, status};
-use swift_workers::Open;
+use swift_workers::{Open, RunFault};
 
 fn main(rt: HostRuntime) -> ExitCode {
     let alloc = rt.alloc();
@@ -113,8 +114,16 @@ where
             Ok(text) => tell(host, write_swift(host, &text)),
             Err(error) => unread(host, source, error),
         },
-        Request::Explore(source, limit) => match script(host, source) {
-            Ok(text) => tell(host, write_outcomes(host, &text, limit)),
+        Request::Explore {
+            source,
+            limit,
+            expected,
+            without_fault,
+        } => match script(host, source) {
+            Ok(text) => {
+                let found = explored(host, &text, limit, &expected, without_fault);
+                say_explored(host, found)
+            }
             Err(error) => unread(host, source, error),
         },
         Request::Rerun {
@@ -215,9 +224,38 @@ fn write_swift(rt: &HostRuntime, text: &[u8]) -> Result<bool, ToolFault> {
     write_out(rt, &said)
 }
 
-fn write_outcomes(rt: &HostRuntime, text: &[u8], limit: u32) -> Result<bool, ToolFault> {
-    let said = outcomes_text(rt, text, limit)?;
-    write_out(rt, &said)
+// Writes what a search says. The status to end with: that of the answer, 2 or 3 for an expectation that is none, of the command line or of a
+// comment, and 5 where no memory was left.
+fn say_explored(rt: &HostRuntime, found: Result<Explored, ExploreFault>) -> u8 {
+    match found {
+        Ok(Explored { answer, text }) => match write_all(&mut rt.stdout(), &text) {
+            Ok(()) => answer.status(),
+            Err(device) => tell(rt, Err(ToolFault::from(device))),
+        },
+        Err(ExploreFault::Script(fault)) => tell(rt, Err(ToolFault::from(fault))),
+        Err(ExploreFault::Misread(fault)) => say_misread(rt, fault),
+        Err(ExploreFault::Memory) => {
+            let _ = tell(rt, Err(ToolFault::Run(RunFault::Memory)));
+            Answer::Undecided.status()
+        }
+    }
+}
+
+// Says what is wrong with an expectation. The status to end with.
+fn say_misread(rt: &HostRuntime, fault: Misread) -> u8 {
+    let Misread {
+        number,
+        line,
+        byte,
+        kind,
+    } = fault;
+    if line == 0 {
+        let _ = eprintln!(rt; "nuchapay: expectation {number} at byte {byte}: {kind}");
+        2
+    } else {
+        let _ = eprintln!(rt; "nuchapay: line {line}: expectation {number} at byte {byte} of its line: {kind}");
+        3
+    }
 }
 
 // Writes the run of an outcome's schedule. The status to end with.

@@ -15,5 +15,5 @@ HasCrew (Explain topic) = Unit {0}
 HasCrew (Print source pretty) = Unit {0}
 HasCrew (Show source workers format) = (1 ≤ workers) × (workers ≤ WORKERS)
 HasCrew (Swift source) = Unit {0}
-HasCrew (Explore source limit) = Unit {0}
+HasCrew (Explore source limit expected without_fault) = Unit {0}
 HasCrew (Rerun source limit outcome) = Unit {0}

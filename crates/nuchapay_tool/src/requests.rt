@@ -22,7 +22,7 @@ pub enum PictureFormat {
 }
 
 /// What a command line asks for (our own).
-#[derive(Clone, Copy)]
+#[derive(Drop)]
 pub enum Request<'a> {
     /// To run a script, on how many threads (1 to 8 where `request` made it), and whether without its journals.
     Run(Source<'a>, u32, bool),
@@ -42,8 +42,14 @@ pub enum Request<'a> {
     Show(Source<'a>, u32, PictureFormat),
     /// To print the Swift program of a script.
     Swift(Source<'a>),
-    /// To search the histories of a script for outcomes, and to keep at most so many histories.
-    Explore(Source<'a>, u32),
+    /// To search the histories of a script for outcomes, and to keep at most so many histories; and whether each of them is as these
+    /// expectations say, and perhaps without a root that ends with a fault.
+    Explore {
+        source: Source<'a>,
+        limit: u32,
+        expected: Vec<&'a str>,
+        without_fault: bool,
+    },
     /// To search as `Explore` does, and to run the schedule of one of the outcomes again, by its number from 1.
     Rerun {
         source: Source<'a>,

@@ -190,8 +190,8 @@ fn explore_command<'a>(alloc: Global) -> Result<Command<'a>, AllocError> {
     let words = named(
         alloc,
         "explore",
-        "Lists outcomes that some order of turns leads to, each with its schedule",
-        "Example: nuchapay explore examples/races/early_read.actors",
+        "Lists outcomes that some order of turns leads to, each with its schedule, and says whether each is as expected",
+        "Example: nuchapay explore --expect 'Account.balance == 0' examples/account.actors",
     );
     let words = with_arg(Ok(words), file(alloc));
     let limit = "Keeps at most N states, from 1 to 10000000";
@@ -200,7 +200,14 @@ fn explore_command<'a>(alloc: Global) -> Result<Command<'a>, AllocError> {
         number(alloc, "limit", "N", limit).default_value("100000"),
     );
     let schedule = "Runs the schedule of outcome K again, and prints the whole report";
-    with_arg(words, number(alloc, "schedule", "K", schedule))
+    let words = with_arg(words, number(alloc, "schedule", "K", schedule));
+    let expect = "Fails where EXPR, over Actor.field and the values of roots, is 0 in an outcome";
+    let words = with_arg(
+        words,
+        option(alloc, "expect", "EXPR", expect).action(ArgAction::Append),
+    );
+    let no_fault = "Fails where a root ends with a fault in an outcome";
+    with_arg(words, flag(alloc, "no-fault", no_fault))
 }
 
 // The words that the program takes, with one command more, as `with_arg`.
@@ -345,7 +352,7 @@ fn explain_request<'a>(word: Option<&'a str>) -> Result<Request<'a>, Refused>
 }
 
 // What the words of a command line ask for.
-fn requested<'a>(matches: &ArgMatches<'a>) -> Result<Request<'a>, Refused>
+fn requested<'a>(alloc: Global, matches: &ArgMatches<'a>) -> Result<Request<'a>, Refused>
     ensures { IfOk result HasCrew }
 {
     if let Some(found) = matches.subcommand_matches("run") {
@@ -367,7 +374,7 @@ fn requested<'a>(matches: &ArgMatches<'a>) -> Result<Request<'a>, Refused>
         return Ok(Request::Swift(source(found)));
     }
     if let Some(found) = matches.subcommand_matches("explore") {
-        return Ok(explore_request(found));
+        return explore_request(alloc, found);
     }
     match matches.subcommand_matches("explain") {
         Some(found) => explain_request(found.get_str("topic")),
@@ -375,18 +382,37 @@ fn requested<'a>(matches: &ArgMatches<'a>) -> Result<Request<'a>, Refused>
     }
 }
 
+// What is expected of outcomes.
+fn expected<'a>(alloc: Global, found: &ArgMatches<'a>) -> Result<Vec<&'a str>, AllocError> {
+    match found.get_strs("expect") {
+        Some(words) => Vec::from_slice(alloc, words),
+        None => Ok(Vec::new(alloc)),
+    }
+}
+
 // The search that is asked for.
-fn explore_request<'a>(found: &ArgMatches<'a>) -> Request<'a>
-    ensures { HasCrew result }
+fn explore_request<'a>(alloc: Global, found: &ArgMatches<'a>) -> Result<Request<'a>, Refused>
+    ensures { IfOk result HasCrew }
 {
     let limit = found.get_one::<u32>("limit").unwrap_or(100_000);
-    match found.get_one::<u32>("schedule") {
-        Some(outcome) => Request::Rerun {
+    if let Some(outcome) = found.get_one::<u32>("schedule") {
+        return Ok(Request::Rerun {
             source: source(found),
             limit,
             outcome,
-        },
-        None => Request::Explore(source(found), limit),
+        });
+    }
+    match expected(alloc, found) {
+        Ok(expected) => Ok(Request::Explore {
+            source: source(found),
+            limit,
+            expected,
+            without_fault: found.get_flag("no-fault"),
+        }),
+        Err(AllocError) => Err(Refused {
+            kind: ErrorKind::Io,
+            said: "no memory for the words",
+        }),
     }
 }
 
@@ -406,7 +432,8 @@ fn is_second(matches: &ArgMatches<'_>, argument: &str, first: &str, second: &str
 ///   is not given, and `--values`, for which there is no place where `--quiet` is given, and which is refused beside `json`;
 /// - `why`, with a file, the name of a turn, and `--workers N`;
 /// - `swift`, with a file;
-/// - `explore`, with a file, `--limit N` from 1 to 10,000,000, 100,000 where it is not given, and `--schedule K` from 1 to 10,000,000;
+/// - `explore`, with a file, `--limit N` from 1 to 10,000,000, 100,000 where it is not given, `--schedule K` from 1 to 10,000,000,
+///   `--expect EXPR`, also more than once, and `--no-fault`;
 /// - `show`, with a file, `--workers N`, and `--format` with `svg` or `trace`, `svg` where it is not given;
 /// - `check`, with a file and `--color always` or `never`, which is meant where it is not given;
 /// - `print`, with a file and `--pretty`;
@@ -423,15 +450,19 @@ pub fn request<'a>(alloc: Global, words: &'a [String]) -> Result<Request<'a>, Er
     ensures { IfOk result HasCrew }
 {
     let mut command = command(alloc)?;
-    request_of(&mut command, words)
+    request_of(alloc, &mut command, words)
 }
 
 // What a command line asks for, by the words that the program takes.
-fn request_of<'a>(command: &mut Command<'a>, words: &'a [String]) -> Result<Request<'a>, Error>
+fn request_of<'a>(
+    alloc: Global,
+    command: &mut Command<'a>,
+    words: &'a [String],
+) -> Result<Request<'a>, Error>
     ensures { IfOk result HasCrew }
 {
     let matches = command.try_get_matches_from_mut(words)?;
-    let found = requested(&matches);
+    let found = requested(alloc, &matches);
     drop(matches);
     match found {
         Ok(request) => Ok(request),

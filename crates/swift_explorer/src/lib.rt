@@ -29,4 +29,4 @@ pub use keys::laws;
 pub use moves::Move;
 pub use outcome::RunOutcome;
 pub use schedule::schedule_report;
-pub use text::found_text;
+pub use text::{found_text, put_schedule};

@@ -144,9 +144,13 @@ fn put_steps(out: &mut Vec<u8>, path: &[Move]) -> Result<(), AllocError>
     Ok(())
 }
 
-// The line of a schedule. A turn during which others begin or end stands twice: as it begins, with two dots after it, and as it ends,
-// with two dots before it.
-fn put_schedule(out: &mut Vec<u8>, path: &[Move]) -> Result<(), AllocError>
+/// Appends the line of a schedule (our own): its turns, by task and number. A turn during which others begin or end stands twice: as it
+/// begins, with two dots after it, and as it ends, with two dots before it.
+///
+/// # Errors
+///
+/// `AllocError` where no memory is left for the line, of which a part may be there.
+pub fn put_schedule(out: &mut Vec<u8>, path: &[Move]) -> Result<(), AllocError>
     ensures { OnOk result (out.new.items ≡ out.old.items ++ schedule_text path.now) }
 {
     out.extend_from_slice(b"schedule")?;

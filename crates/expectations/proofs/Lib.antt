@@ -1,0 +1,6 @@
+pub mod Holding
+pub mod NamesOf
+pub mod Asking
+pub mod Joining
+pub mod Commenting
+pub mod Resolving

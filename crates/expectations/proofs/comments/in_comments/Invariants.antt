@@ -1,0 +1,6 @@
+use Rattle.std.proofs.Common.{◌≡◌, ◌++◌, true, drop, map}
+use Rattle.expectations.specs.Comments.{expected_from}
+use Rattle.expectations.proofs.comments.in_comments.Given as goal
+
+abbrev pub invariant-loop-at : goal.invariant-loop-at
+invariant-loop-at l = map (λ c. c.text.now) l.found.items ++ expected_from l.begins (drop l.at l.text) ≡ expected_from true l.text

@@ -1,0 +1,6 @@
+use Rattle.std.proofs.Common.{◌≡◌}
+use Rattle.expectations.specs.Meaning.{first_have_values}
+use Rattle.expectations.proofs.judging.first_have_values.Given as goal
+
+abbrev pub invariant-loop-root : goal.invariant-loop-root
+invariant-loop-root l = l.all ≡ first_have_values l.endings l.root

@@ -1,0 +1,6 @@
+use Rattle.std.proofs.Common.{◌≡◌, map, take}
+use Rattle.expectations.specs.Meaning.{number_in}
+use Rattle.expectations.proofs.judging.numbers.Given as goal
+
+abbrev pub invariant-loop-ended : goal.invariant-loop-ended
+invariant-loop-ended l = l.numbers.items ≡ map number_in (take l.ended-index l.endings)

@@ -1,0 +1,7 @@
+use Rattle.std.proofs.Common.{◌≡◌, map}
+use Rattle.script_code.specs.Seen.{rows_of}
+use Rattle.expectations.specs.Meaning.{first_rows}
+use Rattle.expectations.proofs.judging.rows.Given as goal
+
+abbrev pub invariant-loop-actor : goal.invariant-loop-actor
+invariant-loop-actor l = rows_of l.all.items ≡ first_rows l.script (map (λ rows. rows_of rows.items) l.fields) l.actor

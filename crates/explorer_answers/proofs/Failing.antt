@@ -1,0 +1,29 @@
+-- The first outcome in which an expectation fails.
+use Rattle.std.proofs.Common.{◌≡◌, ℕ, ◌+◌, ◌<◌, Bool, true, false, List, [], ◌∷◌, length, drop, refl, sym, ap, ◌∙◌, arith}
+use Rattle.std.specs.Prelude.{get_or, if◌then◌else◌}
+use Rattle.std.proofs.lemmas.List.{at_drop_more}
+use Rattle.swift_script.specs.Scripts.{ScriptView}
+use Rattle.swift_explorer.specs.declared.outcome.RunOutcome.{RunOutcome}
+use Rattle.expectations.specs.declared.expectation.Expectation.{Expectation}
+use Rattle.expectations.specs.Answers.{is_so}
+use Rattle.explorer_answers.specs.AnswerText.{fails_text, first_text, or_else, verdict_at}
+
+-- it does not fail in this one
+pub first_later : (p : ScriptView) (e : Expectation) (os : List RunOutcome) (k : ℕ) (d : RunOutcome) → k < length os → is_so (verdict_at p e (get_or os k d)) ≡ true
+    → first_text p e (k + 1) (drop (k + 1) os) ≡ first_text p e k (drop k os)
+first_later p e os k d within so =
+    sym (at_drop_more (first_text p e k) os k d within ∙ ap (λ (b : Bool). if b then first_text p e (k + 1) (drop (k + 1) os) else fails_text p e k (get_or os k d)) so)
+
+-- it fails in this one
+pub first_here : (p : ScriptView) (e : Expectation) (os : List RunOutcome) (k : ℕ) (d : RunOutcome) → k < length os → is_so (verdict_at p e (get_or os k d)) ≡ false
+    → fails_text p e k (get_or os k d) ≡ first_text p e k (drop k os)
+first_here p e os k d within so =
+    sym (at_drop_more (first_text p e k) os k d within ∙ ap (λ (b : Bool). if b then first_text p e (k + 1) (drop (k + 1) os) else fails_text p e k (get_or os k d)) so)
+
+pub or_else_empty : (xs ys : List ℕ) → length xs ≡ 0 → ys ≡ or_else xs ys
+or_else_empty [] ys is = refl
+or_else_empty (x ∷ xs) ys is = absurd (omega (arith, is))
+
+pub or_else_some : (xs ys : List ℕ) → 0 < length xs → xs ≡ or_else xs ys
+or_else_some [] ys some = absurd (omega (arith, some))
+or_else_some (x ∷ xs) ys some = refl
