@@ -39,6 +39,14 @@ class Program(NamedTuple):
 
 WORKERS = Option("workers", "Runs the tasks on N threads, from 1 to 8", "N", tuple("12345678"))
 QUIET = Option("quiet", "Leaves the journals out of the report")
+LIMIT = Option("limit", "Keeps at most N states, from 1 to 10000000", "N")
+# By which schedule a run is made.
+SCHEDULES = (
+    Option("outcome", "Takes the schedule of outcome K, as explore lists it", "K"),
+    Option("schedule", "Takes this schedule, as explore prints it: 't0.0 t1.0 t0.1'", "TURNS"),
+    Option("broken", "Takes a schedule to a turn that an invariant undoes, as explore finds it"),
+    LIMIT,
+)
 # Refusals of scripts and of runs, and the words of faults.
 TOPICS = (
     *(f"S{number}" for number in range(1, 15)),
@@ -54,11 +62,12 @@ NUCHAPAY = (
             QUIET,
             Option("values", "Says below each turn which fields it changed"),
             Option("format", "Prints the report as text, or as JSON", "FORMAT", ("text", "json")),
+            *SCHEDULES,
         ),
     ),
     Command(
         "why", "Runs a script, and explains one of its turns: what it began with, what it did to the fields, and who changed them meanwhile",
-        ("<FILE>", "<TURN>"), (WORKERS,),
+        ("<FILE>", "[TURN]"), (WORKERS, *SCHEDULES),
     ),
     Command(
         "check", "Says whether a script is accepted; else why not, where, and what to do", ("[FILE]",),
@@ -71,14 +80,15 @@ NUCHAPAY = (
     ),
     Command(
         "show", "Runs a script, and shows the run as a picture", ("[FILE]",),
-        (WORKERS, Option("format", "A picture, or a trace for Perfetto and chrome://tracing", "FORMAT", ("svg", "trace"))),
+        (WORKERS, Option("format", "A picture, or a trace for Perfetto and chrome://tracing", "FORMAT", ("svg", "trace")), *SCHEDULES),
     ),
     Command("swift", "Prints a script as a Swift program, for Swift's own runtime", ("[FILE]",)),
     Command(
         "explore",
         "Lists outcomes that some order of turns leads to, each with its schedule, and says whether each is as expected", ("[FILE]",),
         (
-            Option("limit", "Keeps at most N states, from 1 to 10000000", "N"),
+            LIMIT,
+            Option("broken", "Prints the schedule to a turn that an invariant undoes, and nothing else"),
             Option("schedule", "Runs the schedule of outcome K again, and prints the whole report", "K"),
             Option("expect", "Fails where EXPR, over Actor.field and the values of roots, is 0 in an outcome", "EXPR"),
             Option("no-fault", "Fails where a root ends with a fault in an outcome"),

@@ -7,11 +7,12 @@ An example is examples/NAME.actors, or NAME.actors in a folder there, which swif
 nuchapay are for that program: each NAME.args there is one, and NAME.actors need not be there. The others are run by `nuchapay run` too,
 with the script's name as an argument: it has to do the same, under its own name. A program runs in the folder of the example.
 
-NAME.out is its standard output, NAME.err its standard error (nothing, where they are missing), NAME.args its arguments (none),
-NAME.status its status (0), and NAME.to a file that its standard output goes to. Where NAME.has stands in place of NAME.out, each of
+NAME.out is its standard output, NAME.err its standard error (nothing, where they are missing), NAME.args its arguments (none; what stands
+between two marks is one, as 't0.0 t1.0'), NAME.status its status (0), and NAME.to a file that its standard output goes to. Where NAME.has stands in place of NAME.out, each of
 its lines has to stand in what is printed on either stream. Status 0 where all is as it has to be.
 """
 import os
+import re
 import subprocess
 import sys
 
@@ -19,6 +20,8 @@ TOP = os.path.dirname(os.path.dirname(os.path.abspath(__file__)))
 FOLDER = os.path.join(TOP, "examples")
 # The folder of the examples of the second program.
 SECOND = "nuchapay"
+# An argument; what stands between two marks is one, though it has spaces.
+ARGUMENT = re.compile(rb"'[^']*'|\S+")
 
 
 def content(name, ending):
@@ -44,7 +47,7 @@ def is_second(name):
 
 
 def arguments(name):
-    return (content(name, ".args") or b"").split()
+    return [word.strip(b"'") for word in ARGUMENT.findall(content(name, ".args") or b"")]
 
 
 def faults(words, given, name):

@@ -213,6 +213,10 @@ class Examples(Folder):
         self.assertEqual(self.faults("echo a; echo b >&2; exit 3", {".out": "a\n", ".err": "b\n", ".status": "3"}), [])
         self.assertEqual(self.faults("echo a; echo b >&2", {".has": "b\na\n"}), [])
 
+    def test_arguments(self):
+        write(self.folder, {"it.args": "run --schedule 't0.0 t1.0' it.actors\n"})
+        self.assertEqual(examples.arguments(os.path.join(self.folder, "it")), [b"run", b"--schedule", b"t0.0 t1.0", b"it.actors"])
+
     def test_otherwise(self):
         self.assertEqual(self.faults("exit 1", {}), ["status 1 and not 0"])
         self.assertEqual(self.faults("echo a", {}), ["other output"])

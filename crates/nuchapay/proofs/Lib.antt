@@ -1,1 +1,2 @@
 mod OfRun
+mod Chosen

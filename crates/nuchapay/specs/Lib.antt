@@ -1,2 +1,4 @@
 pub mod Runs
+pub mod Scheduled
+pub mod Schedules
 pub mod Searches

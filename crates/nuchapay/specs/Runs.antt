@@ -9,6 +9,13 @@ use Rattle.swift_report.specs.declared.report.Report.{Report}
 use Rattle.swift_workers.specs.Leaves.{AreEndings, AreReplayed}
 use Rattle.swift_tool.specs.Run.{HoldInvariants, IsRunOf, end_well}
 use Rattle.nuchapay_runs.specs.Notes.{IsAnnotated}
+use Rattle.nuchapay_runs.specs.Explains.{Explains}
+use Rattle.nuchapay_runs.specs.TaskNames.{task_name}
+use Rattle.nuchapay_tool.specs.declared.turn_names.TurnName.{TurnName}
+use Rattle.nuchapay_tool.specs.declared.turn_names.TurnWord.{TurnWord}
+use Rattle.nuchapay_tool.specs.declared.turn_names.TurnWord.TheVariants.{Numbered, Named}
+use Rattle.nuchapay.specs.declared.values.AskedTurn.{AskedTurn}
+use Rattle.nuchapay.specs.declared.values.AskedTurn.TheVariants.{Turn, NoTask}
 
 -- A report is that of a run of the script that these bytes spell: what `IsRunOf` says of the report of a text, of this one.
 pub record IsReportOf (bytes : List ℕ) (script : ScriptView) (report : Report) : Type 0 where
@@ -38,3 +45,13 @@ pub record IsOfRun (bytes : List ℕ) (P : ScriptView → Report → Type 0) : T
 -- whether each task of a report has ended with a value
 abbrev pub HasEndedWell : Bool → ScriptView → Report → Type 0
 HasEndedWell well script report = well ≡ end_well report.endings.items
+
+-- A word means this turn: the one that it numbers, or the one with its number of a task that has its name.
+abbrev pub IsTurnMeant : ScriptView → Report → TurnWord → TurnName → Type 0
+IsTurnMeant script report (Numbered name) turn = name ≡ turn
+IsTurnMeant script report (Named name number) turn = (task_name script report.endings.items turn.task ≡ name.now) × (number ≡ turn.number)
+
+-- What is said of the turn that a word means: it is that one, and stands where it is said to stand.
+abbrev pub IsAsked : TurnWord → ScriptView → Report → AskedTurn → Type 0
+IsAsked word script report (Turn turn found) = IsTurnMeant script report word turn × Explains report turn.task turn.number found
+IsAsked word script report NoTask = Unit {0}

@@ -5,16 +5,15 @@ ghost use Rattle.std.specs.Arc.{arc_value};
 ghost use Rattle.explorer_answers.specs.Found.{IsFound};
 ghost use Rattle.nuchapay.specs.Searches.{IsExplored, IsRerun, IsScheduleText};
 
+use crate::scheduled::scheduled_report;
 use expectations::{Answer, ExpectationError, Misread, ask};
 use explorer_answers::{answer_text, answered};
 use std::alloc::{AllocError, AllocFailed, Global};
 use std::sync::Arc;
-use swift_certificate::legal;
-use swift_explorer::{Exploration, FoundOutcomes, Move, schedule_report};
+use swift_explorer::{Exploration, FoundOutcomes, Move};
 use swift_report::report_text;
 use swift_script::{Script, ScriptFault, read};
 use swift_tool::ToolFault;
-use swift_workers::RunFault;
 
 // Each time that a search has gone on from this many histories more, it says how far it is: a small script takes a second for them.
 const PART: usize = 8_192;
@@ -31,7 +30,7 @@ fn say_progress(rt: &HostRuntime, search: &Exploration) {
 }
 
 // What `explore` finds, and how far it is now and then.
-fn search_all(
+pub(crate) fn search_all(
     rt: &HostRuntime,
     script: &Arc<Script>,
     limit: usize,
@@ -126,18 +125,13 @@ pub enum Rerun {
 fn legal_text(alloc: Global, script: &Arc<Script>, schedule: &[Move]) -> Result<Vec<u8>, ToolFault>
     ensures { IfOk result (λ said. IsScheduleText (arc_value script.now) schedule.now said.items) }
 {
-    let Some(report) = schedule_report(alloc, script, schedule)? else {
-        return Err(ToolFault::Run(RunFault::Unfinished));
-    };
-    if !legal(alloc, script, &report)? {
-        return Err(ToolFault::Run(RunFault::Illegal));
-    }
+    let report = scheduled_report(alloc, script, schedule)?;
     let said = report_text(alloc, script, &report, false)?;
     Ok(said)
 }
 
 // The place of the outcome with this number, from 1, where there are so many.
-fn place_of(many: usize, number: u32) -> Option<usize>
+pub(crate) fn place_of(many: usize, number: u32) -> Option<usize>
     ensures some { IfSome result (λ place. (place < many) × (place + 1 ≡ number)) }
     ensures none { result ≡ None → (number ≡ 0) ⊎ (many < number) }
 {

@@ -9,19 +9,27 @@
 
 // Outcomes of orders of turns.
 mod explore;
+// Runs by a schedule.
+mod scheduled;
+// Schedules that were written down.
+mod schedules;
 // Runs as pictures.
 mod show;
+// What standard error is told of a schedule.
+mod told;
 // Runs whose turns are explained.
 mod values;
 
 use crate::explore::{ExploreFault, Explored, Rerun, explored, rerun_text};
-use crate::show::show_run;
-use crate::values::{Said, explained_turn, report_of};
+use crate::scheduled::{BrokenLine, ChosenRun, NoRun, ScheduledRun, broken_line, chosen_run};
+use crate::show::{show_report, show_run};
+use crate::told::{chosen_text, no_run_text};
+use crate::values::{AskedTurn, Said, explained_turn, report_of};
 use expectations::{Answer, Misread};
 use nuchapay_runs::Explained;
 use nuchapay_tool::{
-    Checked, Request, Source, Topic, TurnName, check, explain, page_of, pretty, print, read_input,
-    request, translate,
+    Checked, Request, RunForm, ScheduleChoice, Source, Topic, TurnName, TurnWord, check, explain,
+    page_of, pretty, print, read_input, request, translate,
 };
 use std::alloc::{AllocError, AllocGlobal};
 use std::fs::File;
@@ -89,7 +97,10 @@ where
             Err(error) => unread(host, source, error),
         },
         Request::Why(source, name, workers) => match script(host, source) {
-            Ok(text) => say_turn(host, name, explained_turn(rt, &text, name, workers)),
+            Ok(text) => match explained_turn(rt, &text, name, workers) {
+                Ok(found) => say_turn(host, name, found),
+                Err(fault) => tell(host, Err(fault)),
+            },
             Err(error) => unread(host, source, error),
         },
         Request::Check(source, colour) => match script(host, source) {
@@ -110,6 +121,14 @@ where
             }
             Err(error) => unread(host, source, error),
         },
+        Request::Scheduled {
+            source,
+            schedule,
+            form,
+        } => match script(host, source) {
+            Ok(text) => say_scheduled(host, name_of(source), &text, schedule, form),
+            Err(error) => unread(host, source, error),
+        },
         Request::Swift(source) => match script(host, source) {
             Ok(text) => tell(host, write_swift(host, &text)),
             Err(error) => unread(host, source, error),
@@ -124,6 +143,10 @@ where
                 let found = explored(host, &text, limit, &expected, without_fault);
                 say_explored(host, found)
             }
+            Err(error) => unread(host, source, error),
+        },
+        Request::ExploreBroken(source, limit) => match script(host, source) {
+            Ok(text) => say_broken(host, limit, broken_line(host, &text, limit)),
             Err(error) => unread(host, source, error),
         },
         Request::Rerun {
@@ -192,21 +215,126 @@ fn write_said(rt: &HostRuntime, said: Result<Said, ToolFault>) -> Result<bool, T
 }
 
 // Says what is known of a turn. The status to end with.
-fn say_turn(rt: &HostRuntime, name: TurnName, found: Result<Explained, ToolFault>) -> u8 {
+fn say_turn(rt: &HostRuntime, word: TurnWord<'_>, found: AskedTurn) -> u8 {
+    match found {
+        AskedTurn::Turn(name, found) => say_explained(rt, name, found),
+        AskedTurn::NoTask => say_no_task(rt, Some(word)),
+    }
+}
+
+// Says that there is no such task. The status to end with.
+fn say_no_task(rt: &HostRuntime, word: Option<TurnWord<'_>>) -> u8 {
+    if let Some(TurnWord::Named(name, _)) = word {
+        let _ = eprintln!(rt; "nuchapay: the run has no task {name}");
+    }
+    2
+}
+
+// The same of the turn that was meant.
+fn say_explained(rt: &HostRuntime, name: TurnName, found: Explained) -> u8 {
     let TurnName { task, number } = name;
     match found {
-        Ok(Explained::Found(said)) => tell(rt, write_out(rt, &said)),
-        Ok(Explained::Folded) => {
+        Explained::Found(said) => tell(rt, write_out(rt, &said)),
+        Explained::Folded => {
             let _ = eprintln!(rt;
                 "nuchapay: t{task}.{number} was folded into a checkpoint, which keeps no fields of it"
             );
             2
         }
-        Ok(Explained::Nowhere) => {
+        Explained::Nowhere => {
             let _ = eprintln!(rt; "nuchapay: the run has no turn t{task}.{number}");
             2
         }
+    }
+}
+
+// Says this of a run by a schedule. The status to end with.
+fn say_scheduled(
+    rt: &HostRuntime,
+    path: &str,
+    text: &[u8],
+    schedule: ScheduleChoice<'_>,
+    form: RunForm<'_>,
+) -> u8 {
+    match chosen_run(rt, text, schedule) {
+        Ok(ChosenRun::Run(run)) => {
+            if let Ok(Some(said)) = chosen_text(rt.alloc(), &run) {
+                let _ = eprintln!(rt; "nuchapay: {said}");
+            }
+            say_form(rt, path, &run, form)
+        }
+        Ok(ChosenRun::None(why)) => say_no_run(rt, schedule, why),
         Err(fault) => tell(rt, Err(fault)),
+    }
+}
+
+// Says why there is no run by a schedule. The status to end with.
+fn say_no_run(rt: &HostRuntime, schedule: ScheduleChoice<'_>, why: NoRun) -> u8 {
+    if let Ok(said) = no_run_text(rt.alloc(), schedule, why) {
+        let _ = eprintln!(rt; "nuchapay: {said}");
+    }
+    2
+}
+
+// Says this of a run. The status to end with.
+fn say_form(rt: &HostRuntime, path: &str, run: &ScheduledRun, form: RunForm<'_>) -> u8 {
+    let alloc = rt.alloc();
+    match form {
+        RunForm::Report(quiet) => say_run(rt, run, run.text(alloc, quiet)),
+        RunForm::Json(quiet) => say_run(rt, run, run.json(alloc, quiet)),
+        RunForm::Values => say_run(rt, run, run.values(alloc)),
+        RunForm::Why(word) => say_why(rt, run, word),
+        RunForm::Picture(format) => {
+            let shown = show_report(
+                alloc,
+                &run.script,
+                &run.report,
+                path,
+                1,
+                format,
+                &mut rt.stdout(),
+            );
+            tell(rt, shown.map(|()| run.is_well()))
+        }
+    }
+}
+
+// Says what is known of a turn of a run, after the line of its schedule. The status to end with.
+fn say_why(rt: &HostRuntime, run: &ScheduledRun, word: Option<TurnWord<'_>>) -> u8 {
+    let alloc = rt.alloc();
+    match run.why(alloc, word) {
+        Ok(AskedTurn::Turn(name, Explained::Found(said))) => {
+            let line = run.given_line(alloc);
+            let wrote = write_after(rt, line, &said);
+            tell(rt, wrote)
+        }
+        Ok(AskedTurn::Turn(name, found)) => say_explained(rt, name, found),
+        Ok(AskedTurn::NoTask) => say_no_task(rt, word),
+        Err(fault) => tell(rt, Err(ToolFault::from(fault))),
+    }
+}
+
+// Writes a text after a line.
+fn write_after(
+    rt: &HostRuntime,
+    line: Result<Vec<u8>, AllocError>,
+    text: &[u8],
+) -> Result<bool, ToolFault> {
+    write_all(&mut rt.stdout(), &line?)?;
+    write_out(rt, text)
+}
+
+// Says this text of a run. The status to end with.
+fn say_run(rt: &HostRuntime, run: &ScheduledRun, said: Result<Vec<u8>, AllocError>) -> u8 {
+    match said {
+        Ok(text) => {
+            let written = write_all(&mut rt.stdout(), &text);
+            match written {
+                Ok(()) => tell(rt, Ok(run.is_well())),
+                Err(fault) => tell(rt, Err(ToolFault::from(fault))),
+            }
+        }
+        Err(fault) => tell(rt, Err(ToolFault::from(fault))),
     }
 }
 
@@ -265,6 +393,17 @@ fn say_rerun(rt: &HostRuntime, outcome: u32, found: Result<Rerun, ToolFault>) ->
         Ok(Rerun::Nowhere(many)) => {
             let _ = eprintln!(rt; "nuchapay: there is no outcome {outcome}: {many} were found");
             2
+        }
+        Err(fault) => tell(rt, Err(fault)),
+    }
+}
+
+// Writes the schedule to a turn that is undone by an invariant. The status to end with.
+fn say_broken(rt: &HostRuntime, limit: u32, found: Result<BrokenLine, ToolFault>) -> u8 {
+    match found {
+        Ok(BrokenLine::Line(line)) => tell(rt, write_out(rt, &line)),
+        Ok(BrokenLine::None(all)) => {
+            say_no_run(rt, ScheduleChoice::Broken { limit }, NoRun::NoneBroken(all))
         }
         Err(fault) => tell(rt, Err(fault)),
     }

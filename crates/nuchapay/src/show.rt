@@ -6,12 +6,13 @@ ghost use Rattle.nuchapay.specs.Runs.{HasEndedWell, IsOfRun};
 use crate::values::{all_ended_well, run_text};
 use nuchapay_runs::picture::{PictureFault, picture_of, svg_text, write_trace};
 use nuchapay_tool::PictureFormat;
-use std::alloc::{AllocError, AllocGlobal};
+use std::alloc::{AllocError, AllocGlobal, Global};
 use std::io::Write;
 use std::random::RandomSource;
-use std::sync::Wait;
+use std::sync::{Arc, Wait};
 use std::thread::Threads;
-use swift_report::write_all;
+use swift_report::{Report, write_all};
+use swift_script::Script;
 use swift_tool::ToolFault;
 
 /// Runs a script, and writes the run as a picture in this format. `name` is the script's path. Whether each task ended with a value.
@@ -28,17 +29,30 @@ where
     W: Write,
     ensures { IfOk result (λ well. IsOfRun text.now (HasEndedWell well)) }
 {
-    let alloc = rt.alloc();
     let (script, report) = run_text(rt, text, workers)?;
-    let picture = picture_of(alloc, &report)?;
+    show_report(rt.alloc(), &script, &report, name, workers, format, out)?;
+    Ok(all_ended_well(&report.endings))
+}
+
+/// Writes the run of a report as a picture in this format.
+pub fn show_report<W: Write>(
+    alloc: Global,
+    script: &Arc<Script>,
+    report: &Report,
+    name: &str,
+    workers: u32,
+    format: PictureFormat,
+    out: &mut W,
+) -> Result<(), ToolFault> {
+    let picture = picture_of(alloc, report)?;
     match format {
         PictureFormat::Svg => {
-            let text = svg_text(alloc, &script, &report, &picture, name, workers)?;
+            let text = svg_text(alloc, script, report, &picture, name, workers)?;
             write_all(out, &text)?;
         }
-        PictureFormat::Trace => traced(write_trace(alloc, &script, &picture, out))?,
+        PictureFormat::Trace => traced(write_trace(alloc, script, &picture, out))?,
     }
-    Ok(all_ended_well(&report.endings))
+    Ok(())
 }
 
 // What came of writing a trace, as the fault of a tool.

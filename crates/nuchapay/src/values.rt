@@ -1,14 +1,13 @@
 //! Runs whose turns are explained.
 
-ghost use Rattle.std.specs.Prelude.{◌≡◌, IfOk};
+ghost use Rattle.std.specs.Prelude.{◌≡◌, IfOk, IfSome};
 ghost use Rattle.std.specs.Arc.{arc_value};
 ghost use Rattle.swift_tool.specs.Run.{end_well};
-ghost use Rattle.nuchapay.specs.Runs.{IsNotedRunOf, IsOfRun, IsReportOf};
-ghost use Rattle.nuchapay_runs.specs.Explains.{Explains};
+ghost use Rattle.nuchapay.specs.Runs.{IsAsked, IsNotedRunOf, IsOfRun, IsReportOf, IsTurnMeant};
 
-use nuchapay_runs::{Explained, explain_turn, report_with_values};
-use nuchapay_tool::TurnName;
-use std::alloc::AllocGlobal;
+use nuchapay_runs::{Explained, explain_turn, find_task, report_with_values};
+use nuchapay_tool::{TurnName, TurnWord};
+use std::alloc::{AllocError, AllocGlobal, Global};
 use std::random::RandomSource;
 use std::sync::{Arc, Wait};
 use std::thread::Threads;
@@ -66,18 +65,69 @@ where
     Ok(Said { text, is_well })
 }
 
+/// A turn that was asked for.
+#[derive(Drop)]
+pub enum AskedTurn {
+    /// This one, and what is known of it.
+    Turn(TurnName, Explained),
+    /// The run has no task of this name.
+    NoTask,
+}
+
+// The turn that is meant, if there is a task of its name.
+fn turn_meant(
+    alloc: Global,
+    script: &Script,
+    report: &Report,
+    word: TurnWord<'_>,
+) -> Result<Option<TurnName>, AllocError>
+    ensures { IfOk result (λ o. IfSome o (IsTurnMeant script.now report.now word)) }
+{
+    match word {
+        TurnWord::Numbered(name) => Ok(Some(name)),
+        TurnWord::Named(name, number) => {
+            let found = find_task(alloc, script, &report.endings, name.as_bytes())?;
+            match found {
+                Some(task) => Ok(Some(TurnName {
+                    task: task.0,
+                    number,
+                })),
+                None => Ok(None),
+            }
+        }
+    }
+}
+
+/// Explains a turn of a report.
+pub fn asked_turn(
+    alloc: Global,
+    script: &Script,
+    report: &Report,
+    word: TurnWord<'_>,
+) -> Result<AskedTurn, AllocError>
+    ensures { IfOk result (IsAsked word script.now report.now) }
+{
+    match turn_meant(alloc, script, report, word)? {
+        Some(name) => {
+            let found = explain_turn(alloc, script, report, TaskId(name.task), name.number)?;
+            Ok(AskedTurn::Turn(name, found))
+        }
+        None => Ok(AskedTurn::NoTask),
+    }
+}
+
 /// Runs a script, and explains a turn.
 pub fn explained_turn<R>(
     rt: &R,
     text: &[u8],
-    name: TurnName,
+    word: TurnWord<'_>,
     workers: u32,
-) -> Result<Explained, ToolFault>
+) -> Result<AskedTurn, ToolFault>
 where
     R: RandomSource + AllocGlobal + Threads + Wait + Sync,
-    ensures { IfOk result (λ found. IsOfRun text.now (λ script report. Explains report name.task name.number found)) }
+    ensures { IfOk result (λ found. IsOfRun text.now (λ script report. IsAsked word script report found)) }
 {
     let (script, report) = run_text(rt, text, workers)?;
-    let found = explain_turn(rt.alloc(), &script, &report, TaskId(name.task), name.number)?;
+    let found = asked_turn(rt.alloc(), &script, &report, word)?;
     Ok(found)
 }

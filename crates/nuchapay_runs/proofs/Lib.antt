@@ -4,3 +4,4 @@ pub mod Past
 pub mod Rows
 pub mod More
 pub mod Standing
+mod TaskNaming

@@ -4,3 +4,4 @@ pub mod Notes
 pub mod Values
 pub mod Boxes
 pub mod Explains
+pub mod TaskNames

@@ -24,6 +24,8 @@ mod printed;
 mod report;
 // Statements in words.
 mod statement;
+// Names of tasks.
+mod task_names;
 // Texts that are being written.
 mod text;
 // What turns did to the fields.
@@ -34,4 +36,5 @@ mod words;
 pub use explained::{Explained, explain_turn};
 pub use notes::write_change;
 pub use report::report_with_values;
+pub use task_names::{find_task, task_name};
 pub use values::{Change, Outcome, TurnValues, last_turn, turn_values};

@@ -29,6 +29,8 @@ mod refused;
 mod requests;
 // The pages of the refusals of a run.
 mod run_refusals;
+// The words that name the schedule of a run.
+mod schedule_words;
 // The lines of a text.
 mod source;
 // What can be explained.
@@ -50,8 +52,8 @@ pub use laid::pretty;
 pub use page::{Page, ScriptPair, explain};
 pub use pages::page_of;
 pub use printed::print;
-pub use requests::{PictureFormat, Request, Source};
+pub use requests::{PictureFormat, Request, RunForm, ScheduleChoice, Source};
 pub use topic::{RunRefusal, Topic, TurnFault, find_topic};
 pub use translated::translate;
-pub use turn_names::{TurnName, turn_name};
+pub use turn_names::{TurnName, TurnWord, turn_name, turn_word};
 pub use words::request;

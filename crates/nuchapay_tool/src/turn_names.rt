@@ -18,3 +18,24 @@ pub fn turn_name(word: &str) -> Option<TurnName> {
         number: number.parse::<u32>().ok()?,
     })
 }
+
+/// A turn as people name it (our own).
+#[derive(Clone, Copy)]
+pub enum TurnWord<'a> {
+    /// By the number of its task, as a report names it.
+    Numbered(TurnName),
+    /// By the name of its task, as `second` or `first/1`, and its number among that task's turns, from 0.
+    Named(&'a str, u32),
+}
+
+/// The turn that a word names: `t1.0`, or `second.0` by the name of a task. A task that could be either is taken by its number (our own).
+pub fn turn_word(word: &str) -> Option<TurnWord<'_>> {
+    if let Some(name) = turn_name(word) {
+        return Some(TurnWord::Numbered(name));
+    }
+    let (task, number) = word.rsplit_once('.')?;
+    if task.is_empty() {
+        return None;
+    }
+    Some(TurnWord::Named(task, number.parse::<u32>().ok()?))
+}

@@ -5,9 +5,10 @@ ghost use Rattle.swift_types.specs.declared.limits.TheConstants.{WORKERS};
 ghost use Rattle.nuchapay_tool.specs.Requests.{HasCrew};
 ghost use Rattle.nuchapay_tool.specs.declared.requests.Source.TheVariants.{File, Stdin};
 
-use crate::requests::{PictureFormat, Request, Source};
+use crate::requests::{PictureFormat, Request, RunForm, ScheduleChoice, Source};
+use crate::schedule_words::chosen_schedule;
 use crate::topic::find_topic;
-use crate::turn_names::turn_name;
+use crate::turn_names::{TurnWord, turn_word};
 use clap::error::ErrorKind;
 use clap::{Arg, ArgAction, ArgMatches, Command, Error, value_parser};
 use std::alloc::{AllocError, Global};
@@ -70,6 +71,26 @@ fn picture_format<'a>(alloc: Global) -> Arg<'a> {
         .default_value("svg")
 }
 
+// A command that may make a run by a schedule.
+fn with_schedules<'a>(
+    words: Result<Command<'a>, AllocError>,
+    alloc: Global,
+) -> Result<Command<'a>, AllocError> {
+    let outcome = "Takes the schedule of outcome K, as explore lists it";
+    let words = with_arg(words, number(alloc, "outcome", "K", outcome));
+    let schedule = "Takes this schedule, as explore prints it: 't0.0 t1.0 t0.1'";
+    let words = with_arg(words, option(alloc, "schedule", "TURNS", schedule));
+    let broken = "Takes a schedule to a turn that an invariant undoes, as explore finds it";
+    let words = with_arg(words, flag(alloc, "broken", broken));
+    with_arg(words, limit(alloc))
+}
+
+// How many states a search keeps.
+fn limit<'a>(alloc: Global) -> Arg<'a> {
+    let help = "Keeps at most N states, from 1 to 10000000";
+    number(alloc, "limit", "N", help).default_value("100000")
+}
+
 // A command with one example.
 fn named<'a>(alloc: Global, name: &'a str, about: &'a str, example: &'a str) -> Command<'a> {
     Command::new(alloc, name).about(about).after_help(example)
@@ -97,7 +118,8 @@ fn run_command<'a>(alloc: Global) -> Result<Command<'a>, AllocError> {
     let words = with_arg(words, flag(alloc, "quiet", quiet));
     let values = "Says below each turn which fields it changed";
     let words = with_arg(words, flag(alloc, "values", values));
-    with_arg(words, report_format(alloc))
+    let words = with_arg(words, report_format(alloc));
+    with_schedules(words, alloc)
 }
 
 fn why_command<'a>(alloc: Global) -> Result<Command<'a>, AllocError> {
@@ -112,9 +134,11 @@ fn why_command<'a>(alloc: Global) -> Result<Command<'a>, AllocError> {
         Ok(words),
         operand(alloc, "file", "FILE", script).required(true),
     );
-    let turn = "The turn, as the journal names it: t1.0 is the first turn of task 1";
-    let words = with_arg(words, operand(alloc, "turn", "TURN", turn).required(true));
-    with_arg(words, workers(alloc))
+    let turn =
+        "The turn, as the journal names it, t1.0, or by its task's name, second.0; by --broken it may be missing";
+    let words = with_arg(words, operand(alloc, "turn", "TURN", turn));
+    let words = with_arg(words, workers(alloc));
+    with_schedules(words, alloc)
 }
 
 fn check_command<'a>(alloc: Global) -> Result<Command<'a>, AllocError> {
@@ -168,7 +192,8 @@ fn show_command<'a>(alloc: Global) -> Result<Command<'a>, AllocError> {
     );
     let words = with_arg(Ok(words), file(alloc));
     let words = with_arg(words, workers(alloc));
-    with_arg(words, picture_format(alloc))
+    let words = with_arg(words, picture_format(alloc));
+    with_schedules(words, alloc)
 }
 
 fn swift_command<'a>(alloc: Global) -> Result<Command<'a>, AllocError> {
@@ -194,11 +219,9 @@ fn explore_command<'a>(alloc: Global) -> Result<Command<'a>, AllocError> {
         "Example: nuchapay explore --expect 'Account.balance == 0' examples/account.actors",
     );
     let words = with_arg(Ok(words), file(alloc));
-    let limit = "Keeps at most N states, from 1 to 10000000";
-    let words = with_arg(
-        words,
-        number(alloc, "limit", "N", limit).default_value("100000"),
-    );
+    let words = with_arg(words, limit(alloc));
+    let broken = "Prints the schedule to a turn that an invariant undoes, and nothing else";
+    let words = with_arg(words, flag(alloc, "broken", broken));
     let schedule = "Runs the schedule of outcome K again, and prints the whole report";
     let words = with_arg(words, number(alloc, "schedule", "K", schedule));
     let expect = "Fails where EXPR, over Actor.field and the values of roots, is 0 in an outcome";
@@ -260,16 +283,30 @@ fn source_of(path: &str) -> Source<'_>
 
 // Words that were read, and that ask for nothing that there is.
 #[derive(Clone, Copy)]
-struct Refused {
-    kind: ErrorKind,
-    said: &'static str,
+pub(crate) struct Refused {
+    pub(crate) kind: ErrorKind,
+    pub(crate) said: &'static str,
 }
 
 // What the words of `run` ask for.
 fn run_request<'a>(matches: &ArgMatches<'a>) -> Result<Request<'a>, Refused>
     ensures { IfOk result HasCrew }
 {
+    let form = report_form(matches)?;
+    if let Some(schedule) = chosen_schedule(matches)? {
+        return Ok(scheduled(matches, schedule, form));
+    }
+    let source = source(matches);
     let workers = workers_of(matches);
+    Ok(match form {
+        RunForm::Json(quiet) => Request::RunJson(source, workers, quiet),
+        RunForm::Values => Request::Values(source, workers),
+        _ => Request::Run(source, workers, matches.get_flag("quiet")),
+    })
+}
+
+// What `run` is to say of a run.
+fn report_form<'a>(matches: &ArgMatches<'a>) -> Result<RunForm<'a>, Refused> {
     let quiet = matches.get_flag("quiet");
     let values = matches.get_flag("values");
     if is_json(matches) {
@@ -279,12 +316,27 @@ fn run_request<'a>(matches: &ArgMatches<'a>) -> Result<Request<'a>, Refused>
                 said: "--values is for text, and not for JSON",
             });
         }
-        return Ok(Request::RunJson(source(matches), workers, quiet));
+        return Ok(RunForm::Json(quiet));
     }
     if values && !quiet {
-        return Ok(Request::Values(source(matches), workers));
+        return Ok(RunForm::Values);
     }
-    Ok(Request::Run(source(matches), workers, quiet))
+    Ok(RunForm::Report(quiet))
+}
+
+// A run by a schedule.
+fn scheduled<'a>(
+    matches: &ArgMatches<'a>,
+    schedule: ScheduleChoice<'a>,
+    form: RunForm<'a>,
+) -> Request<'a>
+    ensures { HasCrew result }
+{
+    Request::Scheduled {
+        source: source(matches),
+        schedule,
+        form,
+    }
 }
 
 // Whether a report is to be JSON.
@@ -302,25 +354,48 @@ fn workers_of(matches: &ArgMatches<'_>) -> u32
 }
 
 // What the words of `show` ask for.
-fn show_request<'a>(matches: &ArgMatches<'a>) -> Request<'a>
-    ensures { HasCrew result }
+fn show_request<'a>(matches: &ArgMatches<'a>) -> Result<Request<'a>, Refused>
+    ensures { IfOk result HasCrew }
 {
     let format = match matches.get_str("format") {
         Some("trace") => PictureFormat::Trace,
         _ => PictureFormat::Svg,
     };
-    Request::Show(source(matches), workers_of(matches), format)
+    if let Some(schedule) = chosen_schedule(matches)? {
+        return Ok(scheduled(matches, schedule, RunForm::Picture(format)));
+    }
+    Ok(Request::Show(source(matches), workers_of(matches), format))
 }
 
-// What the words of `why` ask for, if they name a turn.
+// What the words of `why` ask for, if they name a turn, or a schedule to one.
 fn why_request<'a>(matches: &ArgMatches<'a>) -> Result<Request<'a>, Refused>
     ensures { IfOk result HasCrew }
 {
-    match matches.get_str("turn").and_then(turn_name) {
+    let name = named_turn(matches)?;
+    if let Some(schedule) = chosen_schedule(matches)? {
+        if name.is_some() || matches!(schedule, ScheduleChoice::Broken { .. }) {
+            return Ok(scheduled(matches, schedule, RunForm::Why(name)));
+        }
+    }
+    match name {
         Some(name) => Ok(Request::Why(source(matches), name, workers_of(matches))),
         None => Err(Refused {
+            kind: ErrorKind::MissingRequiredArgument,
+            said: "TURN is missing: t1.0 is the first turn of task 1. It may be missing only beside --broken",
+        }),
+    }
+}
+
+// The turn that is named, if one is.
+fn named_turn<'a>(matches: &ArgMatches<'a>) -> Result<Option<TurnWord<'a>>, Refused> {
+    let Some(word) = matches.get_str("turn") else {
+        return Ok(None);
+    };
+    match turn_word(word) {
+        Some(name) => Ok(Some(name)),
+        None => Err(Refused {
             kind: ErrorKind::InvalidValue,
-            said: "a turn is named as in a journal: t1.0 is the first turn of task 1",
+            said: "a turn is named as in a journal: t1.0 is the first turn of task 1, and second.0 that of the task second",
         }),
     }
 }
@@ -365,7 +440,7 @@ fn requested<'a>(alloc: Global, matches: &ArgMatches<'a>) -> Result<Request<'a>,
         return Ok(Request::Print(source(found), found.get_flag("pretty")));
     }
     if let Some(found) = matches.subcommand_matches("show") {
-        return Ok(show_request(found));
+        return show_request(found);
     }
     if let Some(found) = matches.subcommand_matches("why") {
         return why_request(found);
@@ -395,6 +470,9 @@ fn explore_request<'a>(alloc: Global, found: &ArgMatches<'a>) -> Result<Request<
     ensures { IfOk result HasCrew }
 {
     let limit = found.get_one::<u32>("limit").unwrap_or(100_000);
+    if found.get_flag("broken") {
+        return Ok(Request::ExploreBroken(source(found), limit));
+    }
     if let Some(outcome) = found.get_one::<u32>("schedule") {
         return Ok(Request::Rerun {
             source: source(found),
@@ -430,7 +508,9 @@ fn is_second(matches: &ArgMatches<'_>, argument: &str, first: &str, second: &str
 ///
 /// - `run`, with a file, `--workers N` from 1 to 8 and 1 where it is not given, `--quiet`, `--format` with `text` or `json`, `text` where it
 ///   is not given, and `--values`, for which there is no place where `--quiet` is given, and which is refused beside `json`;
-/// - `why`, with a file, the name of a turn, and `--workers N`;
+/// - `why`, with a file, the name of a turn, and `--workers N`; the turn may be missing beside `--broken`;
+/// - `run`, `why` and `show` with one of `--outcome K`, `--schedule TURNS` and `--broken`, and with `--limit N` as for `explore`, beside the
+///   first and the last of these; `--workers` is refused beside them;
 /// - `swift`, with a file;
 /// - `explore`, with a file, `--limit N` from 1 to 10,000,000, 100,000 where it is not given, `--schedule K` from 1 to 10,000,000,
 ///   `--expect EXPR`, also more than once, and `--no-fault`;

@@ -21,6 +21,7 @@ mod Trying
 mod Noting
 mod KnownEnds
 mod Complete
+mod Completing
 mod Texts
 pub mod Bytes
 pub mod Codes

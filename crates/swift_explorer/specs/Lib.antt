@@ -2,6 +2,7 @@ pub mod Steps
 pub mod Outcomes
 pub mod Explorations
 pub mod FoundText
+pub mod Completions
 pub mod HistoryInside
 pub mod SearchInside
 pub mod KeysInside

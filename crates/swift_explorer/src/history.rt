@@ -282,7 +282,7 @@ impl SearchedHistory {
     }
 
     // The number of the executor of the actor of a task that has a job.
-    fn executor_of(&self, task: TaskId) -> Option<usize>
+    pub(crate) fn executor_of(&self, task: TaskId) -> Option<usize>
         ensures runs { IfSome result (JobRunsAt (arc_value self.now.script) self.now.tasks.items task) }
         ensures seat { AreOf (arc_value self.now.script) self.now.tasks.items → result ≡ seat_of (arc_value self.now.script) self.now.tasks.items task.0 }
     {
@@ -328,7 +328,7 @@ impl SearchedHistory {
 
     // Whether a turn of a task is under way.
     #[tactic(auto, using(crate::proofs::Orderly::has_begun, crate::proofs::Orderly::not_begun))]
-    fn has_begun(&self, task: TaskId) -> bool
+    pub(crate) fn has_begun(&self, task: TaskId) -> bool
         ensures { result ≡ is_begun (life_of task.0 self.now.book.log).stage }
     {
         match self.book.begun(task) {

@@ -1,6 +1,8 @@
 //! Outcomes that some order of turns of a script leads to.
 #![tactic(auto)]
 
+// A schedule that is led to its end.
+mod completion;
 // A search that is made in parts.
 mod exploration;
 // What is left of tasks to do, as numbers.
@@ -24,9 +26,10 @@ mod text;
 // What the next turn of each task begins with.
 mod waiting;
 
+pub use completion::{Completion, StepFault, complete_schedule};
 pub use exploration::{Exploration, FoundOutcomes};
 pub use keys::laws;
 pub use moves::Move;
 pub use outcome::RunOutcome;
 pub use schedule::schedule_report;
-pub use text::{found_text, put_schedule};
+pub use text::{found_text, put_schedule, schedule_text};

@@ -158,6 +158,19 @@ pub fn put_schedule(out: &mut Vec<u8>, path: &[Move]) -> Result<(), AllocError>
     out.extend_from_slice(b"\n")
 }
 
+/// A schedule, as the line of its turns that `found_text` has, with its line feed (our own).
+///
+/// # Errors
+///
+/// `AllocError` where no memory is left for it.
+pub fn schedule_text(alloc: Global, path: &[Move]) -> Result<Vec<u8>, AllocError>
+    ensures { IfOk result (λ text. text.items ≡ schedule_text path.now) }
+{
+    let mut out = Vec::new(alloc);
+    put_schedule(&mut out, path)?;
+    Ok(out)
+}
+
 // A report that has the tasks and the fields of an outcome, and nothing else.
 fn ended_report(alloc: Global, outcome: &RunOutcome) -> Result<Report, AllocError>
     ensures endings { IfOk result (λ report. report.endings.items ≡ outcome.now.endings.items) }

@@ -1,0 +1,10 @@
+use Rattle.std.proofs.Common.{◌≡◌, take}
+use Rattle.std.specs.Arc.{arc_value}
+use Rattle.swift_explorer.specs.HistoryInside.{IsPath}
+use Rattle.swift_explorer.proofs.completion.follow_or_stop.Given as goal
+
+abbrev pub invariant-loop-place : goal.invariant-loop-place
+invariant-loop-place l = record {
+  script : l.history.script ≡ l.fn.history.script;
+  path : IsPath (arc_value l.fn.history.script) (take l.place l.path) l.history;
+}

@@ -1,0 +1,12 @@
+use Rattle.std.proofs.Common.{◌≡◌, List, ◌++◌}
+use Rattle.std.specs.Arc.{arc_value}
+use Rattle.swift_explorer.specs.declared.moves.Move.{Move}
+use Rattle.swift_explorer.specs.HistoryInside.{IsPath}
+use Rattle.swift_explorer.proofs.completion.go_to_the_end.Given as goal
+
+abbrev pub invariant-loop : goal.invariant-loop
+invariant-loop l = record {
+  script : l.history.script ≡ l.fn.history.script;
+  path : IsPath (arc_value l.fn.history.script) l.path.items l.history;
+  after : (rest : List Move) × (l.path.items ≡ l.fn.path.items ++ rest);
+}
