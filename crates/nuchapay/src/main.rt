@@ -381,7 +381,9 @@ fn say_misread(rt: &HostRuntime, fault: Misread) -> u8 {
         let _ = eprintln!(rt; "nuchapay: expectation {number} at byte {byte}: {kind}");
         2
     } else {
-        let _ = eprintln!(rt; "nuchapay: line {line}: expectation {number} at byte {byte} of its line: {kind}");
+        let _ = eprintln!(rt;
+            "nuchapay: line {line}: expectation {number} at byte {byte} of its line: {kind}"
+        );
         3
     }
 }

@@ -24,13 +24,14 @@ returns c = λ bytes text quiet well run limit words without_fault answer is zer
     let outcomes = found.outcomes.items in
     let same = one_script bytes is.script p is.of.accepted run.accepted in
     let held = answer_holds found.is_complete (is_some found.broken) (verdicts_in p is.asked outcomes)
-        (subst (λ (s : ScriptView). status_of (answer_of s is.asked found) ≡ 0) same (subst (λ (a : Answer). status_of a ≡ 0) is.answered zero)) in
+    (subst (λ (s : ScriptView). status_of (answer_of s is.asked found) ≡ 0) same (subst (λ (a : Answer). status_of a ≡ 0) is.answered zero)) in
     let complete = subst IsTrue (sym held.complete) tt in
     let there = listed bytes text quiet well run outcomes (subst (λ (s : ScriptView). HasEachOutcome s outcomes) same (is.of.is.all complete)) in
     let o = there.0 in
     let fields = map (λ rows. rows_of rows.items) o.fields.items in
     let so = all_mapped (verdicts_at p is.asked) (list_all is_so) outcomes o held.so there.1 in
-    let holds = each_holds (verdict_of p o.endings.items fields) is.asked so in
-    (subst (λ (fs : List (List (List ℤ))). All (λ e. verdict_of p report.endings fs e ≡ verdict.Holds) is.asked) (sym there.2.1)
-        (subst (λ (es : List (Origin × Ending)). All (λ e. verdict_of p es fields e ≡ verdict.Holds) is.asked) (sym there.2.0) holds),
-        unbroken bytes text quiet well run (subst NeverBreaks same (is.of.is.unbroken complete (is_none found.broken held.unbroken))))
+    let holds = each_holds (verdict_of p o.endings.items fields) is.asked so in (
+      subst (λ (fs : List (List (List ℤ))). All (λ e. verdict_of p report.endings fs e ≡ verdict.Holds) is.asked) (sym there.2.1)
+          (subst (λ (es : List (Origin × Ending)). All (λ e. verdict_of p es fields e ≡ verdict.Holds) is.asked) (sym there.2.0) holds),
+      unbroken bytes text quiet well run (subst NeverBreaks same (is.of.is.unbroken complete (is_none found.broken held.unbroken))),
+    )
