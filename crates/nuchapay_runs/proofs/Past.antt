@@ -6,7 +6,7 @@ use Rattle.script_code.specs.Instructions.{FollowsCode, first}
 use Rattle.script_code.specs.Layout.{code_at}
 use Rattle.script_code.specs.Tree.{Code, end}
 use Rattle.script_compiler.specs.Compiled.{MethodView}
-use Rattle.swift_script.specs.Scripts.{ScriptView, parts_of, no_method, method_actor, method_code, method_count}
+use Rattle.swift_script.specs.Scripts.{ScriptView, parts_of, no_method, method_actor, method_code, method_count, method_name}
 
 past : {X : Type 0} (xs : List X) (none : X) (k : ℕ) → length xs ≤ k → unwrap_or (slice_get xs k) none ≡ none
 past xs none k out = ap (λ (o : Option _). unwrap_or o none) (slice_get_past xs k out)
@@ -32,3 +32,6 @@ empty_follows = record {
 pub no_instructions : (p : ScriptView) (m : ℕ) → method_count p ≤ m → FollowsCode [] (method_code p m) (code_at (method_code p m))
 no_instructions p m out =
     subst (λ (c : Code). FollowsCode [] c (code_at c)) (sym (ap (λ (x : MethodView). x.code) (past (parts_of p).methods no_method m out))) empty_follows
+
+pub no_method_name : (p : ScriptView) (m : ℕ) → method_count p ≤ m → [] ≡ method_name p m
+no_method_name p m out = sym (ap (λ (x : MethodView). x.name) (past (parts_of p).methods no_method m out))

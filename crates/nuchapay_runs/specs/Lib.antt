@@ -5,3 +5,13 @@ pub mod Values
 pub mod Boxes
 pub mod Explains
 pub mod TaskNames
+pub mod False
+pub mod Formulas
+pub mod LinesInside
+pub mod NamedInside
+pub mod Noted
+pub mod OwnedInside
+pub mod SaysInside
+pub mod StatementsInside
+pub mod UndoneInside
+pub mod WhyInside

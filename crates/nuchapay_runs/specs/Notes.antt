@@ -24,6 +24,10 @@ note_line words = codes "    " ++ words ++ codes "\n"
 abbrev pub note_lines : List (List ℕ) → List ℕ
 note_lines = flat_map note_line
 
+-- each change after these words
+abbrev pub change_lines : ScriptView → ℕ → List ℕ → List Change → List (List ℕ)
+change_lines p e front changes = map (λ c. front ++ change_text p e c) changes
+
 -- Only lines of notes are put after a text.
 abbrev pub AppendsNotes : List ℕ → List ℕ → Type 0
 AppendsNotes old new = (lines : List (List ℕ)) × (new ≡ old ++ note_lines lines)

@@ -4,12 +4,14 @@
 
 // One turn explained.
 mod explained;
-// Fields as they are after some turns.
+// Fields as a turn leaves them.
 mod fields;
+// Expressions in words.
+mod formula;
 // The invariants of an executor's actors.
 mod invariants;
-// Lines of a text.
-mod lines;
+// The lines of a report, one by one.
+mod line;
 // Where a turn stands.
 mod names;
 // What is said of one turn in a report.
@@ -30,6 +32,8 @@ mod task_names;
 mod text;
 // What turns did to the fields.
 mod values;
+// What is told of one turn.
+mod why;
 // The words of a text.
 mod words;
 

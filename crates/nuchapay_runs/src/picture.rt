@@ -40,12 +40,13 @@ mod marks;
 // A picture as a trace.
 mod trace;
 // Turns in words.
-mod word;
+pub(crate) mod word;
 
 use crate::picture::boxes::boxes_of;
 use crate::picture::history::history_of;
 use crate::picture::placed::{PlacedTurn, place_boxes};
 pub use boxes::TurnBox;
+pub(crate) use boxes::box_at;
 pub use fault::PictureFault;
 use std::alloc::{AllocError, Global};
 pub use svg::svg_text;

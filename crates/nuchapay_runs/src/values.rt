@@ -17,5 +17,6 @@ mod turns;
 
 pub use change::{Change, Outcome, TurnValues};
 pub use last::last_turn;
-pub(crate) use player::copy_of;
+pub(crate) use player::Player;
+pub(crate) use turns::fields_before;
 pub use turns::turn_values;

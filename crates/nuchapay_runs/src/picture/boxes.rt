@@ -29,8 +29,8 @@ pub struct TurnBox {
     pub exit: BriefExit,
 }
 
-// The box of the turn at a place of a journal.
-fn box_at(journal: &Journal, executor: usize, place: usize) -> TurnBox
+/// The box of the turn at a place of a journal.
+pub(crate) fn box_at(journal: &Journal, executor: usize, place: usize) -> TurnBox
     requires { place < length journal.now }
     ensures { (d : RecordView) → result ≡ box_of executor (slice_index_or journal.now place d) }
 {

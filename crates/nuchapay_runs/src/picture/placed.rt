@@ -1,5 +1,8 @@
 //! When the turn of each box ran, and what made it.
 
+ghost use Rattle.std.specs.Prelude.{◌≡◌};
+ghost use Rattle.nuchapay_runs.specs.UndoneInside.{undoes_its_turn};
+
 use crate::picture::boxes::TurnBox;
 use crate::picture::history::{History, TurnMoment, sum_up};
 use std::alloc::{AllocError, Global};
@@ -20,7 +23,9 @@ pub(crate) struct PlacedTurn {
 }
 
 // Whether a fault undoes the turn in which it comes up.
-fn undoes(fault: Fault) -> bool {
+fn undoes(fault: Fault) -> bool
+    ensures { result ≡ undoes_its_turn fault }
+{
     matches!(
         fault,
         Fault::Invariant | Fault::Overflow | Fault::Steps | Fault::Tasks | Fault::Isolation

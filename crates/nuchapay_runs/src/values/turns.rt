@@ -1,11 +1,12 @@
 //! All turns of a journal.
 
-ghost use Rattle.std.specs.Prelude.{◌≡◌, IfOk};
+ghost use Rattle.std.specs.Prelude.{◌≡◌, ◌≤◌, length, take, IfOk};
 ghost use Rattle.script_code.specs.Seen.{rows_of};
+ghost use Rattle.swift_journal.specs.Replay.{replay};
 ghost use Rattle.nuchapay_runs.specs.Values.{values_from, values_views};
 
 use crate::values::change::TurnValues;
-use crate::values::player::Player;
+use crate::values::player::{Player, copy_of};
 use std::alloc::{AllocError, Global};
 use swift_journal::Journal;
 use swift_script::Script;
@@ -30,4 +31,24 @@ pub fn turn_values(
         turns.push(player.play(alloc, script, found)?)?;
     }
     Ok(turns)
+}
+
+/// The fields from before the turn at a place of a journal, where these are those from before the journal. Each turn before it is played
+/// once more.
+pub(crate) fn fields_before(
+    alloc: Global,
+    script: &Script,
+    start: &[Vec<i64>],
+    journal: &Journal,
+    place: usize,
+) -> Result<Vec<Vec<i64>>, AllocError>
+    requires { place ≤ length journal.now }
+    ensures { IfOk result (λ fields. rows_of fields.items ≡ replay script.now (rows_of start.now) (take place journal.now)) }
+{
+    let mut player = Player::new(alloc, start)?;
+    for earlier in 0..place {
+        let found = journal.read(alloc, earlier)?;
+        let _ = player.play(alloc, script, found)?;
+    }
+    copy_of(alloc, &player.fields)
 }
