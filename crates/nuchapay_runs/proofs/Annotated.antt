@@ -9,7 +9,7 @@ use Rattle.swift_report.specs.Text.{executor_text, executors_text, fields_text, 
 use Rattle.swift_report.specs.declared.report.Report.{Report}
 use Rattle.nuchapay_runs.specs.Noted.{broken_lines, fields_before, front_of, noted_executor, noted_executors, noted_text, noted_turn, noted_turns, notes_text}
 use Rattle.nuchapay_runs.specs.Notes.{IsAnnotated, NotedPart, change_lines, note_line, note_lines, with_notes, without_notes}
-use Rattle.nuchapay_runs.specs.Values.{ValuesView, turn_values}
+use Rattle.run_pictures.specs.Values.{ValuesView, turn_values}
 
 without_append : (ps qs : List NotedPart) → without_notes (ps ++ qs) ≡ without_notes ps ++ without_notes qs
 without_append [] qs = refl

@@ -5,7 +5,7 @@ use Rattle.script_code.specs.Seen.{pair_of, pairs_of}
 use Rattle.script_code.specs.declared.sight.Binding.{Binding}
 use Rattle.swift_script.specs.Scripts.{ScriptView}
 use Rattle.nuchapay_runs.specs.SaysInside.{Says}
-use Rattle.nuchapay_runs.specs.WhyInside.{binding_text, bindings_text}
+use Rattle.nuchapay_runs.specs.Why.{binding_text, bindings_text}
 use Rattle.nuchapay_runs.specs.declared.text.Text.{Text}
 use Rattle.nuchapay_runs.proofs.Joined.{UpTo, more}
 

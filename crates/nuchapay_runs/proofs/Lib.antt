@@ -1,14 +1,10 @@
-pub mod Annotated
-pub mod Answered
-pub mod Bound
-pub mod Holding
-pub mod Joined
-pub mod Keeping
-pub mod Meanwhile
-pub mod Noting
-pub mod Past
-pub mod Playing
-pub mod Rows
-pub mod More
-pub mod Standing
+mod Annotated
+mod Bound
+mod Holding
+mod Joined
+mod Meanwhile
+mod Noting
+mod Past
+mod Playing
+mod Standing
 mod TaskNaming

@@ -5,21 +5,17 @@ use Rattle.swift_script.specs.Scripts.{ScriptView}
 use Rattle.swift_turn.specs.Body.{invariants_at, state_at}
 use Rattle.swift_journal.specs.Records.{RecordView}
 use Rattle.swift_journal.specs.Replay.{fields_after}
-use Rattle.nuchapay_runs.specs.KeepingInside.{fields_of}
+use Rattle.run_pictures.specs.KeepingInside.{fields_of}
 use Rattle.nuchapay_runs.specs.Noted.{noted_turn, noted_turns, notes_text}
-use Rattle.nuchapay_runs.specs.Values.{differences, outcome_of, played_turn, turn_values}
+use Rattle.run_pictures.specs.Values.{differences, outcome_of, played_turn, turn_values}
 use Rattle.nuchapay_runs.specs.declared.text.Text.{Text}
-use Rattle.nuchapay_runs.specs.declared.values.change.Change.{Change}
-use Rattle.nuchapay_runs.specs.declared.values.change.Outcome.{Outcome}
-use Rattle.nuchapay_runs.specs.declared.values.change.Outcome.TheVariants.{Kept, Undone, Broke}
+use Rattle.run_pictures.specs.declared.values.change.Change.{Change}
+use Rattle.run_pictures.specs.declared.values.change.Outcome.{Outcome}
+use Rattle.run_pictures.specs.declared.values.change.Outcome.TheVariants.{Kept, Undone, Broke}
 use Rattle.nuchapay_runs.specs.SaysInside.{Says}
 use Rattle.nuchapay_runs.proofs.Joined.{UpTo, more}
-use Rattle.nuchapay_runs.proofs.Keeping.{kept_fields}
-
--- an element of a list that has one
-first_of : {X : Type 0} (xs : List X) (k : ℕ) → k < length xs → X
-first_of [] k lt = absurd (omega (arith, lt))
-first_of (x ∷ xs) k lt = x
+use Rattle.run_pictures.proofs.Keeping.{kept_fields}
+use Rattle.run_pictures.proofs.Ranges.{first_of}
 
 by_outcome : (p : ScriptView) (e : ℕ) (before left : List (List ℤ)) (changes : List Change) (o : Outcome)
     → notes_text p e (fields_of o before left) (record { outcome = o; changes = changes }) ≡ notes_text p e before (record { outcome = o; changes = changes })

@@ -7,7 +7,7 @@ use Rattle.script_code.specs.declared.formula.FieldPlace.{FieldPlace}
 use Rattle.swift_script.specs.Scripts.{ScriptView, actor_invariant, actor_name, field_name}
 use Rattle.nuchapay_runs.specs.Notes.{actor_at}
 use Rattle.nuchapay_runs.specs.Formulas.{NamesView, formula_text}
-use Rattle.nuchapay_runs.specs.declared.values.change.Change.{Change}
+use Rattle.run_pictures.specs.declared.values.change.Change.{Change}
 
 -- an actor and its invariant, if it has one
 abbrev pub with_owner : ℕ → Option Term → List (ℕ × Term)

@@ -1,6 +1,6 @@
 -- What the line of a turn says, by its box.
 use Rattle.swift_report.specs.declared.line.Line.{Line}
-use Rattle.nuchapay_runs.specs.declared.picture.boxes.TurnBox.{TurnBox}
+use Rattle.run_pictures.specs.declared.picture.boxes.TurnBox.{TurnBox}
 
 -- the line of the turn of a box
 abbrev pub line_in : TurnBox → Line

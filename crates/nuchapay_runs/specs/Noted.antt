@@ -8,10 +8,10 @@ use Rattle.swift_report.specs.Text.{folded_count, folded_text, heading_text, lin
 use Rattle.swift_report.specs.declared.report.Report.{Report}
 use Rattle.nuchapay_runs.specs.False.{false_lines, invariants_among}
 use Rattle.nuchapay_runs.specs.Notes.{change_lines, note_lines}
-use Rattle.nuchapay_runs.specs.Values.{ValuesView, turn_values}
-use Rattle.nuchapay_runs.specs.declared.values.change.Change.{Change}
-use Rattle.nuchapay_runs.specs.declared.values.change.Outcome.{Outcome}
-use Rattle.nuchapay_runs.specs.declared.values.change.Outcome.TheVariants.{Kept, Undone, Broke}
+use Rattle.run_pictures.specs.Values.{ValuesView, turn_values}
+use Rattle.run_pictures.specs.declared.values.change.Change.{Change}
+use Rattle.run_pictures.specs.declared.values.change.Outcome.{Outcome}
+use Rattle.run_pictures.specs.declared.values.change.Outcome.TheVariants.{Kept, Undone, Broke}
 
 -- The line of the invariant that a turn would have left false, if it is one.
 abbrev pub broken_lines : ScriptView → ℕ → List Change → List (List ℤ) → Outcome → List (List ℕ)

@@ -2,7 +2,7 @@
 use Rattle.std.specs.Prelude.{◌≡◌, ℕ, List, [], ◌∷◌, ◌++◌, codes, flat_map, map, slice_get, slice_range, unwrap_or}
 use Rattle.std.specs.Fmt.{signed_decimal}
 use Rattle.swift_script.specs.Scripts.{ScriptView, actor_name, executor_actors, field_name}
-use Rattle.nuchapay_runs.specs.declared.values.change.Change.{Change}
+use Rattle.run_pictures.specs.declared.values.change.Change.{Change}
 
 -- the actor at a place of an executor; the first one where there is none
 abbrev pub actor_at : ScriptView → ℕ → ℕ → ℕ

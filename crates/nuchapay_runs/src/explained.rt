@@ -1,21 +1,26 @@
 //! One turn explained.
 
-ghost use Rattle.std.specs.Prelude.{◌<◌, min, length, IfOk, IfSome};
+ghost use Rattle.std.specs.Prelude.{◌≡◌, ◌<◌, ◌≤◌, ◌^◌, length, map, slice_index_or, IfOk, IfSome};
+ghost use Rattle.script_compiler.specs.IsCompiled.{actor_number};
 ghost use Rattle.swift_script.specs.Scripts.{method_count};
-ghost use Rattle.nuchapay_runs.specs.Explains.{Explains, IsNotFolded};
+ghost use Rattle.swift_journal.specs.Records.{RecordView, owned_view};
+ghost use Rattle.swift_report.specs.Text.{line_of};
+ghost use Rattle.nuchapay_runs.specs.Explains.{Explains, IsNotFolded, IsWhyAt, Tells};
+ghost use Rattle.nuchapay_runs.specs.KnownInside.{TellsAt, known_of};
+ghost use Rattle.nuchapay_runs.specs.LinesInside.{line_in};
 ghost use Rattle.nuchapay_runs.specs.SaysInside.{Says};
-ghost use Rattle.nuchapay_runs.specs.Values.{values_views};
-ghost use Rattle.nuchapay_runs.specs.WhyInside.{since_text};
+ghost use Rattle.nuchapay_runs.specs.NamedInside.{names_view};
+ghost use Rattle.nuchapay_runs.specs.Why.{head_text, meantime_text, own_place, place_among, why_text};
 
 use crate::formula::NamesAt;
 use crate::line::write_turn;
 use crate::names::{Found, find_turn};
-use crate::picture::box_at;
 use crate::printed::{method_text, method_word, parameters_of};
 use crate::text::Text;
-use crate::values::{TurnValues, fields_before, last_turn, turn_values};
 use crate::why::{write_ends, write_fields, write_found, write_meanwhile};
 use crate::words::Words;
+use run_pictures::picture::{TurnBox, box_at};
+use run_pictures::{TurnValues, fields_before, last_turn, turn_values};
 use script_code::Instruction;
 use std::alloc::{AllocError, Global};
 use swift_journal::{Checkpoint, Journal, OwnedRecord};
@@ -52,7 +57,8 @@ pub fn explain_turn(
     task: TaskId,
     number: u32,
 ) -> Result<Explained, AllocError>
-    ensures { IfOk result (Explains report.now task.0 number) }
+    ensures stands { IfOk result (Explains report.now task.0 number) }
+    ensures told { IfOk result (Tells script.now report.now task.0 number) }
 {
     match find_turn(report, task, number) {
         Found::Folded => Ok(Explained::Folded),
@@ -69,7 +75,8 @@ fn explain_at(
     executor: usize,
     place: usize,
 ) -> Result<Explained, AllocError>
-    ensures { IfOk result IsNotFolded }
+    ensures folded { IfOk result IsNotFolded }
+    ensures told { IfOk result (TellsAt script.now report.now executor place) }
 {
     let Some(journal) = report.journals.get(executor) else {
         return Ok(Explained::Nowhere);
@@ -93,7 +100,9 @@ fn explain_at(
 }
 
 // The place of an actor among those of its executor.
-fn place_among(actors: &[ActorId], actor: ActorId) -> usize {
+fn place_among(actors: &[ActorId], actor: ActorId) -> usize
+    ensures { result ≡ place_among (map actor_number actors.now) actor.0 }
+{
     for place in 0..actors.len() {
         if actors[place] == actor {
             return place;
@@ -109,14 +118,19 @@ struct ExplainedTurn<'a> {
     // The text of its method, and the instructions.
     method: &'a [u8],
     instructions: &'a [Instruction],
-    // From where the turns of its executor's journal are played, these, and its place among them.
-    start: &'a Checkpoint,
+    // How many turns of its executor were folded, those of the journal after them, and its place among these.
+    folded: usize,
     journal: &'a Journal,
     place: usize,
-    // What it was, the fields from before it, and what each turn of the journal did.
+    // What the report's line says of it, and what it was.
+    line: TurnBox,
     found: &'a OwnedRecord,
+    // The fields from before it, what it did to them, and what each turn of the journal did.
     before: &'a [Vec<i64>],
+    own: &'a TurnValues,
     values: &'a [TurnValues],
+    // The place of the last turn of its task.
+    last: Option<usize>,
 }
 
 // The text of the turn at a place of a journal, which is one of this method.
@@ -131,6 +145,8 @@ fn turn_text(
 ) -> Result<Vec<u8>, AllocError>
     requires place { place < length journal.now }
     requires method { method.0 < method_count script.now }
+    requires of_method { (d : RecordView) → method.0 ≡ (slice_index_or journal.now place d).frame.method }
+    ensures { IfOk result (λ text. IsWhyAt script.now executor.0 start.now journal.now place text.items) }
 {
     let found = journal.read(alloc, place)?;
     let actor = script.method_actor(method);
@@ -149,25 +165,44 @@ fn turn_text(
         },
         method: method_text(&printed, word),
         instructions: script.instructions(method),
-        start,
+        folded: start.len(),
         journal,
         place,
+        line: box_at(journal, executor.0 as usize, place),
         found: &found,
         before: &before,
+        own: &values[place],
         values: &values,
+        last: last_turn(journal, place),
     };
-    let last = last_turn(journal, place);
     let mut out = Text::new(alloc);
-    write_why(&mut out, alloc, &turn, last);
+    write_why(&mut out, alloc, &turn);
     out.into_bytes()
 }
 
-// The changes of fields of the turn's actor, which stands at this place of its executor, since the last turn of its task there.
-fn write_since(out: &mut Text, turn: &ExplainedTurn<'_>, actor: usize, last: Option<usize>)
-    requires { IfSome last (λ last. last < turn.now.place) }
-    ensures { Says out.old out.new (since_text turn.now.names.script.now turn.now.names.executor.0 actor turn.now.found.now.task.0 turn.now.journal.now (values_views turn.now.values.now) last (min (min turn.now.place (length turn.now.values.now)) (length turn.now.journal.now))) }
+// The line of the report, the method, and where in it the turn began and its frame goes on.
+fn write_head(out: &mut Text, turn: &ExplainedTurn<'_>)
+    requires folded { turn.now.folded < 2 ^ 63 }
+    requires place { turn.now.place < 2 ^ 63 }
+    requires line { line_in turn.now.line ≡ line_of (owned_view turn.now.found.now) }
+    ensures { Says out.old out.new (head_text (known_of turn.now)) }
 {
-    if let Some(last) = last {
+    let place = turn.folded + turn.place;
+    write_turn(out, turn.names.script, place, &turn.line);
+    out.say(b"method\n    ");
+    out.say(turn.method);
+    write_ends(out, &turn.names, turn.instructions, turn.found)
+}
+
+// The changes of fields of the turn's actor, which stands at this place of its executor, since the last turn of its task there.
+fn write_since(out: &mut Text, turn: &ExplainedTurn<'_>, actor: usize)
+    requires last { IfSome turn.now.last (λ last. last < turn.now.place) }
+    requires turns { turn.now.place ≤ length turn.now.journal.now }
+    requires values { turn.now.place ≤ length turn.now.values.now }
+    requires actor { actor ≡ own_place (names_view turn.now.names) }
+    ensures { Says out.old out.new (meantime_text (known_of turn.now)) }
+{
+    if let Some(last) = turn.last {
         write_meanwhile(
             out,
             turn.names.script,
@@ -177,14 +212,20 @@ fn write_since(out: &mut Text, turn: &ExplainedTurn<'_>, actor: usize, last: Opt
             turn.journal,
             turn.values,
             last + 1,
-            turn.place.min(turn.values.len()).min(turn.journal.len()),
+            turn.place,
         )
     }
 }
 
 // The whole text.
-fn write_why(out: &mut Text, alloc: Global, turn: &ExplainedTurn<'_>, last: Option<usize>)
-    requires { IfSome last (λ last. last < turn.now.place) }
+fn write_why(out: &mut Text, alloc: Global, turn: &ExplainedTurn<'_>)
+    requires folded { turn.now.folded < 2 ^ 63 }
+    requires place { turn.now.place < 2 ^ 63 }
+    requires line { line_in turn.now.line ≡ line_of (owned_view turn.now.found.now) }
+    requires last { IfSome turn.now.last (λ last. last < turn.now.place) }
+    requires turns { turn.now.place ≤ length turn.now.journal.now }
+    requires values { turn.now.place ≤ length turn.now.values.now }
+    ensures { Says out.old out.new (why_text (known_of turn.now)) }
 {
     let NamesAt {
         script,
@@ -193,17 +234,8 @@ fn write_why(out: &mut Text, alloc: Global, turn: &ExplainedTurn<'_>, last: Opti
         ..
     } = turn.names;
     let actor = place_among(script.executor_actors(executor), actor);
-    let place = turn.start.len().saturating_add(turn.place);
-    if turn.place < turn.journal.len() {
-        let line = box_at(turn.journal, executor.0 as usize, turn.place);
-        write_turn(out, script, place, &line);
-    }
-    out.say(b"method\n    ");
-    out.say(turn.method);
-    write_ends(out, &turn.names, turn.instructions, turn.found);
+    write_head(out, turn);
     write_found(out, &turn.names, turn.found);
-    if let Some(own) = turn.values.get(turn.place) {
-        write_fields(out, alloc, script, executor, actor, turn.before, own);
-    }
-    write_since(out, turn, actor, last)
+    write_fields(out, alloc, script, executor, actor, turn.before, turn.own);
+    write_since(out, turn, actor)
 }

@@ -5,7 +5,7 @@ ghost use Rattle.script_code.specs.Seen.{rows_of};
 ghost use Rattle.script_code.specs.Value.{field_at};
 ghost use Rattle.nuchapay_runs.specs.False.{is_change_of, value_left};
 
-use crate::values::Change;
+use run_pictures::Change;
 use script_code::FieldPlace;
 
 // The value of a field; 0 where it is not there.

@@ -13,7 +13,7 @@ use crate::fields::value_left;
 use crate::formula::{NamesAt, write_formula};
 use crate::notes::actor_at;
 use crate::text::Text;
-use crate::values::Change;
+use run_pictures::Change;
 use script_code::{FieldPlace, Formula};
 use std::alloc::{AllocError, Global};
 use swift_script::Script;

@@ -5,8 +5,8 @@ ghost use Rattle.swift_report.specs.Text.{env_text, flag_text, folded_text, head
 ghost use Rattle.nuchapay_runs.specs.LinesInside.{line_in};
 ghost use Rattle.nuchapay_runs.specs.SaysInside.{Says};
 
-use crate::picture::TurnBox;
 use crate::text::Text;
+use run_pictures::picture::TurnBox;
 use swift_script::Script;
 use swift_types::{Env, ExecId, ExecutorKind};
 

@@ -7,12 +7,12 @@ ghost use Rattle.nuchapay_runs.specs.Noted.{broken_lines, front_of, notes_text};
 ghost use Rattle.nuchapay_runs.specs.Notes.{actor_at as actor_among, change_lines, change_text, note_line, note_lines, place_text};
 ghost use Rattle.nuchapay_runs.specs.OwnedInside.{owned_if, owned_of};
 ghost use Rattle.nuchapay_runs.specs.SaysInside.{Says};
-ghost use Rattle.nuchapay_runs.specs.Values.{values_view};
+ghost use Rattle.run_pictures.specs.Values.{values_view};
 
 use crate::invariants::{OwnedInvariant, invariant_among, write_false};
 use crate::number::number;
 use crate::text::Text;
-use crate::values::{Change, Outcome, TurnValues};
+use run_pictures::{Change, Outcome, TurnValues};
 use std::alloc::{AllocError, Global};
 use swift_script::Script;
 use swift_types::{ActorId, ExecId};

@@ -11,9 +11,9 @@ ghost use Rattle.nuchapay_runs.specs.SaysInside.{Says};
 
 use crate::line::{write_folded, write_heading, write_turn};
 use crate::notes::write_notes;
-use crate::picture::box_at;
 use crate::text::Text;
-use crate::values::Player;
+use run_pictures::Player;
+use run_pictures::picture::box_at;
 use std::alloc::{AllocError, Global};
 use swift_journal::{Checkpoint, Journal};
 use swift_report::{Report, report_text};

@@ -6,7 +6,7 @@ ghost use Rattle.swift_script.specs.Scripts.{method_name};
 ghost use Rattle.nuchapay_runs.specs.Formulas.{formula_text};
 ghost use Rattle.nuchapay_runs.specs.NamedInside.{names_view, wanted_if_lent};
 ghost use Rattle.nuchapay_runs.specs.SaysInside.{Says};
-ghost use Rattle.nuchapay_runs.specs.StatementsInside.{act_text, awaited_at, awaited_by, awaited_text, call_text, called_text, cancel_text, kept_text, listed_text, open_text, receiver_text, statement_text};
+ghost use Rattle.nuchapay_runs.specs.Statements.{act_text, awaited_at, awaited_by, awaited_text, call_text, called_text, cancel_text, kept_text, listed_text, open_text, receiver_text, statement_text};
 
 use crate::formula::{NamesAt, write_field, write_formula, write_variable};
 use crate::text::Text;

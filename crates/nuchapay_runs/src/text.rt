@@ -7,9 +7,9 @@ ghost use Rattle.nuchapay_runs.specs.SaysInside.{Says};
 
 use crate::notes::{write_change, write_place};
 use crate::number::number;
-use crate::picture::word;
-use crate::values::Change;
 use itoa::Integer;
+use run_pictures::Change;
+use run_pictures::picture::word;
 use std::alloc::{AllocError, Global};
 use swift_journal::BriefExit;
 use swift_script::Script;

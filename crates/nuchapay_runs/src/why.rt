@@ -6,14 +6,14 @@ ghost use Rattle.swift_interpreter.specs.Frames.{frame_if};
 ghost use Rattle.swift_journal.specs.Records.{owned_view};
 ghost use Rattle.nuchapay_runs.specs.NamedInside.{names_view};
 ghost use Rattle.nuchapay_runs.specs.SaysInside.{Says};
-ghost use Rattle.nuchapay_runs.specs.Values.{values_view, values_views};
-ghost use Rattle.nuchapay_runs.specs.WhyInside.{arrow_text, binding_text, bindings_text, blame_text, blamed_text, by_text, cancelled_text, changed_to, ends_text, field_line, fields_text, found_text, given_text, goes_on_text, is_change_at, kept_changes, left_by_text, meanwhile_text, other_text, row_text, undone_text, variable_line, variables_text};
+ghost use Rattle.run_pictures.specs.Values.{values_view, values_views};
+ghost use Rattle.nuchapay_runs.specs.Why.{arrow_text, binding_text, bindings_text, blame_text, blamed_text, by_text, cancelled_text, changed_to, ends_text, field_line, fields_text, found_text, given_text, goes_on_text, is_change_at, kept_changes, left_by_text, meanwhile_text, other_text, row_text, undone_text, variable_line, variables_text};
 
 use crate::formula::{NamesAt, write_variable};
 use crate::notes::{write_broken, write_change_line, write_lines};
 use crate::statement::write_statement;
 use crate::text::Text;
-use crate::values::{Change, Outcome, TurnValues};
+use run_pictures::{Change, Outcome, TurnValues};
 use script_code::{Binding, Instruction};
 use std::alloc::Global;
 use swift_interpreter::Frame;

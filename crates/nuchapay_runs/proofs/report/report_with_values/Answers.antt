@@ -3,7 +3,7 @@ use Rattle.std.specs.Prelude.{false}
 use Rattle.swift_report.specs.Text.{report_text}
 use Rattle.nuchapay_runs.specs.Notes.{IsAnnotated}
 use Rattle.nuchapay_runs.proofs.Annotated.{noted_is_annotated}
-use Rattle.nuchapay_runs.proofs.Answered.{if_ok}
+use Rattle.run_pictures.proofs.Answered.{if_ok}
 use Rattle.nuchapay_runs.proofs.report.report_with_values.Goals as goal
 
 pub returns-clause-annotated : goal.returns-clause-annotated

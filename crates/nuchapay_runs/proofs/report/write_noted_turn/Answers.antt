@@ -6,8 +6,8 @@ use Rattle.swift_journal.specs.Records.{RecordView, owned_view}
 use Rattle.swift_report.specs.Text.{turn_text}
 use Rattle.nuchapay_runs.specs.LinesInside.{line_in}
 use Rattle.nuchapay_runs.specs.Noted.{notes_text}
-use Rattle.nuchapay_runs.specs.Values.{ValuesView, turn_values, values_view}
-use Rattle.nuchapay_runs.specs.declared.picture.boxes.TurnBox.{TurnBox}
+use Rattle.run_pictures.specs.Values.{ValuesView, turn_values, values_view}
+use Rattle.run_pictures.specs.declared.picture.boxes.TurnBox.{TurnBox}
 use Rattle.nuchapay_runs.proofs.Joined.{both, same}
 use Rattle.nuchapay_runs.proofs.Noting.{notes_after}
 use Rattle.nuchapay_runs.proofs.report.write_noted_turn.Goals as goal

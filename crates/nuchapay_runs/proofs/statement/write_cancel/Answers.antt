@@ -2,7 +2,7 @@ use Rattle.std.proofs.Common.{sym, subst}
 use Rattle.script_code.specs.declared.instruction.Cancelled.{Cancelled}
 use Rattle.nuchapay_runs.specs.NamedInside.{names_view}
 use Rattle.nuchapay_runs.specs.SaysInside.{Says}
-use Rattle.nuchapay_runs.specs.StatementsInside.{cancel_text}
+use Rattle.nuchapay_runs.specs.Statements.{cancel_text}
 use Rattle.nuchapay_runs.proofs.Joined.{both, same}
 use Rattle.nuchapay_runs.proofs.statement.write_cancel.Goals as goal
 

@@ -28,7 +28,7 @@ returns-in_ok-extend_from_slice-in-Some t c =
     let numbered : told ≡ name ++ (codes "/" ++ decimal c.made_of.result) = ap (λ (n : ℕ). name ++ (codes "/" ++ decimal n)) (sym many) in
     subst (λ (l : List ℕ). OnOk c.number.result (c.number.new.out.items ≡ c.args.out.now.items ++ l)) (sym (named ∙ numbered))
     (on_ok_weaker c.number.result
-        (λ (last : c.number.new.out.items ≡ c.extend_from_slice-in-Some.new.self.items ++ decimal c.made_of.result).
-            put_name c.args.out.now.items c.write_within.new.out.items _ c.number.new.out.items name (codes "/") (decimal c.made_of.result)
-            c.in_ok-write_within-in-Some.ensures c.in_ok-extend_from_slice-in-Some.ensures.items last)
-        c.number.ensures)
+    (λ (last : c.number.new.out.items ≡ c.extend_from_slice-in-Some.new.self.items ++ decimal c.made_of.result).
+    put_name c.args.out.now.items c.write_within.new.out.items _ c.number.new.out.items name (codes "/") (decimal c.made_of.result)
+    c.in_ok-write_within-in-Some.ensures c.in_ok-extend_from_slice-in-Some.ensures.items last)
+    c.number.ensures)

@@ -1,6 +1,6 @@
 use Rattle.std.proofs.Common.{◌<◌, ◌≤◌, length, reverse, arith}
 use Rattle.std.proofs.lemmas.List.{at_drop_all, length-reverse}
-use Rattle.nuchapay_runs.specs.WhyInside.{bindings_text}
+use Rattle.nuchapay_runs.specs.Why.{bindings_text}
 use Rattle.nuchapay_runs.proofs.Bound.{bound_more}
 use Rattle.nuchapay_runs.proofs.Joined.{ended}
 use Rattle.nuchapay_runs.proofs.why.write_outer.Goals as goal

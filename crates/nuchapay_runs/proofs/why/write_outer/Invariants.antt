@@ -1,5 +1,5 @@
 use Rattle.std.proofs.Common.{◌≡◌, drop, length, reverse}
-use Rattle.nuchapay_runs.specs.WhyInside.{bindings_text}
+use Rattle.nuchapay_runs.specs.Why.{bindings_text}
 use Rattle.nuchapay_runs.proofs.Joined.{UpTo}
 use Rattle.nuchapay_runs.proofs.why.write_outer.Given as goal
 

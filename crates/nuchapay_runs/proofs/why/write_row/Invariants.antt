@@ -1,5 +1,5 @@
 use Rattle.std.proofs.Common.{drop}
-use Rattle.nuchapay_runs.specs.WhyInside.{row_text}
+use Rattle.nuchapay_runs.specs.Why.{row_text}
 use Rattle.nuchapay_runs.proofs.Joined.{UpTo}
 use Rattle.nuchapay_runs.proofs.why.write_row.Given as goal
 

@@ -1,6 +1,6 @@
 use Rattle.std.proofs.Common.{drop}
 use Rattle.nuchapay_runs.specs.NamedInside.{names_view}
-use Rattle.nuchapay_runs.specs.WhyInside.{variables_text}
+use Rattle.nuchapay_runs.specs.Why.{variables_text}
 use Rattle.nuchapay_runs.proofs.Joined.{UpTo}
 use Rattle.nuchapay_runs.proofs.why.write_variables.Given as goal
 
