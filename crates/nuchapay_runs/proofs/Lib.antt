@@ -1,5 +1,6 @@
 mod Annotated
 mod Bound
+mod Explaining
 mod Holding
 mod Joined
 mod Meanwhile

@@ -1,5 +1,5 @@
 -- Where a turn stands of which something is said.
-use Rattle.std.specs.Prelude.{◌≡◌, ℕ, ◌<◌, Option, Some, None, List, Contains, length, slice_get, slice_index_or, take}
+use Rattle.std.specs.Prelude.{◌≡◌, ℕ, ◌+◌, ◌<◌, Option, Some, None, List, Contains, length, slice_get, slice_index_or, take}
 use Rattle.script_code.specs.Instructions.{FollowsCode}
 use Rattle.script_code.specs.Layout.{code_at}
 use Rattle.swift_script.specs.Scripts.{ScriptView, method_actor, method_code}
@@ -72,7 +72,7 @@ pub record IsKnown (p : ScriptView) (e : ℕ) (c : CheckpointRoomView) (journal 
   pub executor : k.names.executor ≡ e
   pub actor : k.names.actor ≡ method_actor p k.turn.frame.method
   pub instructions : FollowsCode k.instructions (method_code p k.turn.frame.method) (code_at (method_code p k.turn.frame.method))
-  pub folded : k.folded ≡ length c.view.folded
+  pub position : k.position ≡ length c.view.folded + place
   pub journal_is : k.journal ≡ journal
   pub place_is : k.place ≡ place
   pub turn : (d : RecordView) → k.turn ≡ slice_index_or journal place d

@@ -135,14 +135,14 @@ abbrev pub place_among : List ℕ → ℕ → ℕ
 place_among [] a = 0
 place_among (b ∷ bs) a = if b == a then 0 else place_among bs a + 1
 
--- A turn that is explained, and what is known of it: how things are called; the text of its method, and the instructions; how many turns of
--- its executor were folded, those of the journal, and its place there; what it was; the fields before it, and what it did to them; what each
--- turn of the journal did; and the place of the last turn of its task, if it is there.
+-- A turn that is explained, and what is known of it: how things are called; the text of its method, and the instructions; its place among
+-- all turns of its executor, those of the journal, and its place among these; what it was; the fields before it, and what it did to them; what
+-- each turn of the journal did; and the place there of the last turn of its task, if it has one.
 pub record KnownTurn : Type 0 where
   pub names : NamesView
   pub method : List ℕ
   pub instructions : List Instruction
-  pub folded : ℕ
+  pub position : ℕ
   pub journal : List RecordView
   pub place : ℕ
   pub turn : RecordView
@@ -157,7 +157,7 @@ own_place ns = place_among (executor_actors ns.script ns.executor) ns.actor
 
 -- the line of the report, the method, and where in it the turn began
 abbrev pub head_text : KnownTurn → List ℕ
-head_text k = turn_text k.names.script (k.folded + k.place) (line_of k.turn) ++ codes "method\n    " ++ k.method ++ ends_text k.names k.instructions k.turn
+head_text k = turn_text k.names.script k.position (line_of k.turn) ++ codes "method\n    " ++ k.method ++ ends_text k.names k.instructions k.turn
 
 -- who changed fields of its actor since the last turn of its task
 abbrev pub meantime_text : KnownTurn → List ℕ

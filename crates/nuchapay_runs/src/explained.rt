@@ -1,10 +1,15 @@
 //! One turn explained.
 
-ghost use Rattle.std.specs.Prelude.{◌≡◌, ◌<◌, ◌≤◌, ◌^◌, length, map, slice_index_or, IfOk, IfSome};
+ghost use Rattle.std.specs.Prelude.{◌≡◌, ◌+◌, ◌<◌, ◌≤◌, length, map, slice_index_or, take, IfOk, IfSome};
+ghost use Rattle.script_code.specs.Instructions.{FollowsCode};
+ghost use Rattle.script_code.specs.Layout.{code_at};
+ghost use Rattle.script_code.specs.Seen.{rows_of};
 ghost use Rattle.script_compiler.specs.IsCompiled.{actor_number};
-ghost use Rattle.swift_script.specs.Scripts.{method_count};
+ghost use Rattle.swift_script.specs.Scripts.{method_actor, method_code, method_count};
 ghost use Rattle.swift_journal.specs.Records.{RecordView, owned_view};
+ghost use Rattle.swift_journal.specs.Replay.{replay};
 ghost use Rattle.swift_report.specs.Text.{line_of};
+ghost use Rattle.run_pictures.specs.Values.{values_from, values_views};
 ghost use Rattle.nuchapay_runs.specs.Explains.{Explains, IsNotFolded, IsWhyAt, Tells};
 ghost use Rattle.nuchapay_runs.specs.KnownInside.{TellsAt, known_of};
 ghost use Rattle.nuchapay_runs.specs.LinesInside.{line_in};
@@ -95,7 +100,10 @@ fn explain_at(
         return Ok(Explained::Nowhere);
     }
     let executor = ExecId(executor);
-    let said = turn_text(alloc, script, executor, checkpoint, journal, place, method)?;
+    let position = checkpoint.len() + place;
+    let said = turn_text(
+        alloc, script, executor, checkpoint, position, journal, place, method,
+    )?;
     Ok(Explained::Found(said))
 }
 
@@ -118,8 +126,8 @@ struct ExplainedTurn<'a> {
     // The text of its method, and the instructions.
     method: &'a [u8],
     instructions: &'a [Instruction],
-    // How many turns of its executor were folded, those of the journal after them, and its place among these.
-    folded: usize,
+    // Its place among all turns of its executor, those of the journal, and its place among these.
+    position: usize,
     journal: &'a Journal,
     place: usize,
     // What the report's line says of it, and what it was.
@@ -139,11 +147,13 @@ fn turn_text(
     script: &Script,
     executor: ExecId,
     start: &Checkpoint,
+    position: usize,
     journal: &Journal,
     place: usize,
     method: MethodId,
 ) -> Result<Vec<u8>, AllocError>
     requires place { place < length journal.now }
+    requires position { position ≡ length start.now.view.folded + place }
     requires method { method.0 < method_count script.now }
     requires of_method { (d : RecordView) → method.0 ≡ (slice_index_or journal.now place d).frame.method }
     ensures { IfOk result (λ text. IsWhyAt script.now executor.0 start.now journal.now place text.items) }
@@ -156,23 +166,64 @@ fn turn_text(
     let variables = parameters_of(alloc, &printed, word, params)?;
     let before = fields_before(alloc, script, start.fields(), journal, place)?;
     let values = turn_values(alloc, script, start.fields(), journal)?;
-    let turn = ExplainedTurn {
-        names: NamesAt {
-            script,
-            executor,
-            actor,
-            variables: &variables,
-        },
-        method: method_text(&printed, word),
-        instructions: script.instructions(method),
-        folded: start.len(),
+    let names = NamesAt {
+        script,
+        executor,
+        actor,
+        variables: &variables,
+    };
+    let body = method_text(&printed, word);
+    let instructions = script.instructions(method);
+    why_text(
+        alloc,
+        names,
+        body,
+        instructions,
+        start,
+        position,
         journal,
         place,
-        line: box_at(journal, executor.0 as usize, place),
-        found: &found,
-        before: &before,
+        &found,
+        &before,
+        &values,
+    )
+}
+
+// The text of the turn at a place of a journal, of which this is known.
+fn why_text(
+    alloc: Global,
+    names: NamesAt<'_>,
+    method: &[u8],
+    instructions: &[Instruction],
+    start: &Checkpoint,
+    position: usize,
+    journal: &Journal,
+    place: usize,
+    found: &OwnedRecord,
+    before: &[Vec<i64>],
+    values: &[TurnValues],
+) -> Result<Vec<u8>, AllocError>
+    requires place { place < length journal.now }
+    requires position { position ≡ length start.now.view.folded + place }
+    requires actor { names.actor.0 ≡ method_actor names.script.now found.now.frame.method.0 }
+    requires instructions { FollowsCode instructions.now (method_code names.script.now found.now.frame.method.0) (code_at (method_code names.script.now found.now.frame.method.0)) }
+    requires found { (d : RecordView) → owned_view found.now ≡ slice_index_or journal.now place d }
+    requires before { rows_of before.now ≡ replay names.script.now start.now.view.fields (take place journal.now) }
+    requires values { values_views values.now ≡ values_from names.script.now start.now.view.fields journal.now }
+    ensures { IfOk result (λ text. IsWhyAt names.entry.script.now names.entry.executor.0 start.now journal.now place text.items) }
+{
+    let turn = ExplainedTurn {
+        names,
+        method,
+        instructions,
+        position,
+        journal,
+        place,
+        line: box_at(journal, names.executor.0 as usize, place),
+        found,
+        before,
         own: &values[place],
-        values: &values,
+        values,
         last: last_turn(journal, place),
     };
     let mut out = Text::new(alloc);
@@ -182,13 +233,10 @@ fn turn_text(
 
 // The line of the report, the method, and where in it the turn began and its frame goes on.
 fn write_head(out: &mut Text, turn: &ExplainedTurn<'_>)
-    requires folded { turn.now.folded < 2 ^ 63 }
-    requires place { turn.now.place < 2 ^ 63 }
     requires line { line_in turn.now.line ≡ line_of (owned_view turn.now.found.now) }
     ensures { Says out.old out.new (head_text (known_of turn.now)) }
 {
-    let place = turn.folded + turn.place;
-    write_turn(out, turn.names.script, place, &turn.line);
+    write_turn(out, turn.names.script, turn.position, &turn.line);
     out.say(b"method\n    ");
     out.say(turn.method);
     write_ends(out, &turn.names, turn.instructions, turn.found)
@@ -219,8 +267,6 @@ fn write_since(out: &mut Text, turn: &ExplainedTurn<'_>, actor: usize)
 
 // The whole text.
 fn write_why(out: &mut Text, alloc: Global, turn: &ExplainedTurn<'_>)
-    requires folded { turn.now.folded < 2 ^ 63 }
-    requires place { turn.now.place < 2 ^ 63 }
     requires line { line_in turn.now.line ≡ line_of (owned_view turn.now.found.now) }
     requires last { IfSome turn.now.last (λ last. last < turn.now.place) }
     requires turns { turn.now.place ≤ length turn.now.journal.now }

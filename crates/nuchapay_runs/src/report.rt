@@ -20,27 +20,26 @@ use swift_report::{Report, report_text};
 use swift_script::Script;
 use swift_types::ExecId;
 
-// Goes on with the line of the turn at a place of a journal, after `folded` turns that were folded, and what is said of it. The turn is
-// played.
+// Goes on with the line of the turn at a place of a journal, which is that of this number among all turns of its executor, and what is said
+// of it. The turn is played.
 fn write_noted_turn(
     out: &mut Text,
     alloc: Global,
     script: &Script,
     executor: ExecId,
-    folded: usize,
+    line: usize,
     journal: &Journal,
     place: usize,
     player: &mut Player,
 ) -> Result<(), AllocError>
     requires turn { place < length journal.now }
-    requires folded { folded < 2 ^ 63 }
     requires same { rows_of player.old.turn.fields.items ≡ rows_of player.old.fields.items }
-    ensures noted { OnOk result ((d : RecordView) → Says out.old out.new (noted_turn script.now executor.0 (folded + place) (rows_of player.old.fields.items) (slice_index_or journal.now place d))) }
+    ensures noted { OnOk result ((d : RecordView) → Says out.old out.new (noted_turn script.now executor.0 line (rows_of player.old.fields.items) (slice_index_or journal.now place d))) }
     ensures fields { OnOk result ((d : RecordView) → rows_of player.new.fields.items ≡ fields_after script.now (rows_of player.old.fields.items) (slice_index_or journal.now place d)) }
     ensures same { OnOk result (rows_of player.new.turn.fields.items ≡ rows_of player.new.fields.items) }
 {
     let turn = box_at(journal, executor.0 as usize, place);
-    write_turn(out, script, folded + place, &turn);
+    write_turn(out, script, line, &turn);
     let found = journal.read(alloc, place)?;
     let values = player.play(alloc, script, found)?;
     write_notes(out, alloc, script, executor, &player.fields, &values);
@@ -90,7 +89,7 @@ fn write_noted_turns(
             alloc,
             script,
             executor,
-            start.folded,
+            start.folded + place,
             journal,
             place,
             &mut player,

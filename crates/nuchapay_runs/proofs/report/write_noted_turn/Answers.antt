@@ -1,4 +1,4 @@
-use Rattle.std.proofs.Common.{ℤ, ◌+◌, List, ap, ap₂, ◌∙◌}
+use Rattle.std.proofs.Common.{ℤ, List, ap, ap₂, ◌∙◌}
 use Rattle.std.specs.Global.{Vec}
 use Rattle.std.specs.Prelude.{slice_index_or}
 use Rattle.script_code.specs.Seen.{rows_of}
@@ -19,7 +19,7 @@ returns-clause-noted c = λ d.
     let before = rows_of c.args.player.now.fields.items in
     let found = owned_view c.in_ok-found.found in
     let v = values_view c.in_ok-values.values in
-    let line = ap (λ (b : TurnBox). turn_text p (c.args.folded + c.args.place) (line_in b)) (c.box_at-turn.ensures d) in
+    let line = ap (λ (b : TurnBox). turn_text p c.args.line (line_in b)) (c.box_at-turn.ensures d) in
     let notes =
     ap (λ (rows : List (Vec ℤ)). notes_text p e (rows_of rows) v) c.deref.ensures.value
     ∙ ap₂ (λ (f : List (List ℤ)) (w : ValuesView). notes_text p e f w) c.in_ok-values.ensures.fields c.in_ok-values.ensures.values
