@@ -11,7 +11,7 @@ use Rattle.nuchapay_runs.specs.Notes.{change_lines, note_lines}
 use Rattle.run_pictures.specs.Values.{ValuesView, turn_values}
 use Rattle.run_pictures.specs.declared.values.change.Change.{Change}
 use Rattle.run_pictures.specs.declared.values.change.Outcome.{Outcome}
-use Rattle.run_pictures.specs.declared.values.change.Outcome.TheVariants.{Kept, Undone, Broke}
+use Rattle.run_pictures.specs.declared.values.change.Outcome.TheVariants.{Kept, Broke}
 
 -- The line of the invariant that a turn would have left false, if it is one.
 abbrev pub broken_lines : ScriptView → ℕ → List Change → List (List ℤ) → Outcome → List (List ℕ)

@@ -1,6 +1,6 @@
 -- Statements in words, as bytes, by the instructions that they were compiled to (our own).
 use Rattle.std.specs.Prelude.{ℕ, ◌==◌, List, [], ◌∷◌, ◌++◌, codes, if◌then◌else◌, slice_get, Option, Some, None}
-use Rattle.script_code.specs.Tree.{Term, CallTarget, Wanted, call, root, task, next, term_of, target_of, wanted_of, terms_of}
+use Rattle.script_code.specs.Tree.{Term, CallTarget, Wanted, call, root, task, next, term_of, target_of, wanted_of}
 use Rattle.script_code.specs.declared.instruction.Act.{Act}
 use Rattle.script_code.specs.declared.instruction.Act.TheVariants as acts
 use Rattle.script_code.specs.declared.instruction.Cancelled.{Cancelled}

@@ -1,5 +1,4 @@
 -- What follows where an answer is Ok.
-use Rattle.std.proofs.Common.{◌≡◌, List, ℕ}
 use Rattle.std.specs.Prelude.{IfOk, OnOk, Result, Ok, Err}
 
 pub on_ok : {A B P Q : Type 0} (r : Result A B) → (P → Q) → OnOk r P → OnOk r Q

@@ -1,4 +1,4 @@
-use Rattle.std.proofs.Common.{◌≡◌, ◌<◌, length, refl, sym, ap, ◌∙◌, arith, rules}
+use Rattle.std.proofs.Common.{◌<◌, length, refl, sym, ap, ◌∙◌, arith, rules}
 use Rattle.script_code.specs.Seen.{rows_of}
 use Rattle.swift_journal.specs.Records.{owned_view}
 use Rattle.swift_report.specs.Text.{line_of}

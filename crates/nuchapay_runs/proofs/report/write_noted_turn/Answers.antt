@@ -1,6 +1,5 @@
 use Rattle.std.proofs.Common.{ℤ, List, ap, ap₂, ◌∙◌}
 use Rattle.std.specs.Global.{Vec}
-use Rattle.std.specs.Prelude.{slice_index_or}
 use Rattle.script_code.specs.Seen.{rows_of}
 use Rattle.swift_journal.specs.Records.{RecordView, owned_view}
 use Rattle.swift_report.specs.Text.{turn_text}
