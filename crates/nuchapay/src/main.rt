@@ -31,6 +31,7 @@ use nuchapay_tool::{
     Checked, Request, RunForm, ScheduleChoice, Source, Topic, TurnName, TurnWord, check, explain,
     page_of, pretty, print, read_input, request, translate,
 };
+use run_page::Heading;
 use std::alloc::{AllocError, AllocGlobal};
 use std::fs::File;
 use std::io::ErrorKind;
@@ -261,7 +262,12 @@ fn say_scheduled(
             if let Ok(Some(said)) = chosen_text(rt.alloc(), &run) {
                 let _ = eprintln!(rt; "nuchapay: {said}");
             }
-            say_form(rt, path, &run, form)
+            let heading = Heading {
+                name: path,
+                workers: 1,
+                source: text,
+            };
+            say_form(rt, heading, &run, form)
         }
         Ok(ChosenRun::None(why)) => say_no_run(rt, schedule, why),
         Err(fault) => tell(rt, Err(fault)),
@@ -277,7 +283,7 @@ fn say_no_run(rt: &HostRuntime, schedule: ScheduleChoice<'_>, why: NoRun) -> u8 
 }
 
 // Says this of a run. The status to end with.
-fn say_form(rt: &HostRuntime, path: &str, run: &ScheduledRun, form: RunForm<'_>) -> u8 {
+fn say_form(rt: &HostRuntime, heading: Heading<'_>, run: &ScheduledRun, form: RunForm<'_>) -> u8 {
     let alloc = rt.alloc();
     match form {
         RunForm::Report(quiet) => say_run(rt, run, run.text(alloc, quiet)),
@@ -289,8 +295,7 @@ fn say_form(rt: &HostRuntime, path: &str, run: &ScheduledRun, form: RunForm<'_>)
                 alloc,
                 &run.script,
                 &run.report,
-                path,
-                1,
+                heading,
                 format,
                 &mut rt.stdout(),
             );
@@ -381,7 +386,9 @@ fn say_misread(rt: &HostRuntime, fault: Misread) -> u8 {
         let _ = eprintln!(rt; "nuchapay: expectation {number} at byte {byte}: {kind}");
         2
     } else {
-        let _ = eprintln!(rt; "nuchapay: line {line}: expectation {number} at byte {byte} of its line: {kind}");
+        let _ = eprintln!(rt;
+            "nuchapay: line {line}: expectation {number} at byte {byte} of its line: {kind}"
+        );
         3
     }
 }
