@@ -4,7 +4,9 @@
     tools/run_page_test.py
 """
 import os
+import re
 import sys
+import tempfile
 import unittest
 
 sys.dont_write_bytecode = True
@@ -17,24 +19,24 @@ class Files(unittest.TestCase):
     def test_what_may_not_stand_there(self):
         for line in ('element.innerHTML = name;', 'fetch("x")', 'console.log(1);', '<img src="x.png">', 'background: url(x.png)', '@import "x";',
                      'open("https://example.org")', 'document.write(name)', 'eval(name)'):
-            self.assertEqual(len(list(run_page.faults("page.js", line + "\n"))), 1, line)
+            self.assertEqual(len(list(run_page.faults("run.js", line + "\n"))), 1, line)
 
     def test_what_may(self):
-        self.assertEqual(list(run_page.faults("page.js", 'document.createElementNS("http://www.w3.org/2000/svg", name);\n')), [])
+        self.assertEqual(list(run_page.faults("run.js", 'document.createElementNS("http://www.w3.org/2000/svg", name);\n')), [])
 
     def test_length(self):
-        self.assertEqual(list(run_page.faults("page.js", ";\n" * (run_page.LINES - 1))), [])
-        self.assertEqual(len(list(run_page.faults("page.js", ";\n" * run_page.LINES))), 1)
+        self.assertEqual(list(run_page.faults("run.js", ";\n" * run_page.LINES)), [])
+        self.assertEqual(len(list(run_page.faults("run.js", ";\n" * (run_page.LINES + 1)))), 1)
 
     def test_end_of_its_element(self):
-        self.assertEqual(len(list(run_page.faults("page.js", 'const end = "</SCRIPT>";\n'))), 1)
+        self.assertEqual(len(list(run_page.faults("run.js", 'const end = "</SCRIPT>";\n'))), 1)
 
     def test_own_files(self):
-        for name in ("page.html", "page.css", "page.js"):
+        for name in run_page.FILES:
             self.assertEqual(list(run_page.faults(name, run_page.content(name))), [])
 
     def test_sums(self):
-        front, middle, end = run_page.parts(script="one", style="two")
+        front, middle, end = run_page.parts(code="one", style="two")
         self.assertIn("default-src 'none'", front)
         for text, place in (("one", "script-src"), ("two", "style-src")):
             self.assertIn(f"{place} '{run_page.sum_of(text)}'", front)
@@ -42,6 +44,40 @@ class Files(unittest.TestCase):
 
     def test_literals(self):
         self.assertEqual(run_page.literal('a "b" \\u2192\n'), '"a \\"b\\" \\\\u2192\n"')
+
+
+    def test_layout(self):
+        line = "x" * (run_page.WIDE - len('pub(crate) static A: &str = "'))
+        self.assertEqual(run_page.static("A", "One.", line + "\ny\n"), f'/// One.\npub(crate) static A: &str = "{line}\ny\n";\n')
+        self.assertEqual(run_page.static("A", "One.", line + "x\ny\n"), f'/// One.\npub(crate) static A: &str =\n    "{line}x\ny\n";\n')
+
+    def test_pieces_of_the_page(self):
+        front, middle, end = run_page.parts()
+        page = front + middle + end
+        for name in run_page.FILES[1:]:
+            self.assertEqual(page.count(run_page.content(name)), 1, name)
+        self.assertNotRegex(page, "@[A-Za-z.]+@")
+
+    def test_statics(self):
+        # What stands in the files of statics, without what Rust wants of them, is the page.
+        found = {}
+        for text in run_page.sources().values():
+            for name, value in re.findall(r'static ([A-Z]+): &str =\s+"((?:[^"\\]|\\.)*)";\n', text):
+                found[name] = re.sub(r"\\(.)", r"\1", value)
+        names = ("HEAD", "STYLE", "BODY", "MIDDLE", "BELOW", "RUN", "WORDS", "METHOD", "LANES", "CHOSEN", "READER", "END")
+        self.assertEqual(sorted(found), sorted(names))
+        self.assertEqual("".join(found[name] for name in names), "".join(run_page.parts()))
+
+    def test_other_statics(self):
+        with tempfile.TemporaryDirectory() as folder:
+            for name, text in run_page.sources().items():
+                with open(os.path.join(folder, name), "w", encoding="ascii") as file:
+                    file.write(text)
+            self.assertEqual(list(run_page.other_files(folder, run_page.sources())), [])
+            with open(os.path.join(folder, "words.rt"), "a", encoding="ascii") as file:
+                file.write("\n")
+            os.rename(os.path.join(folder, "run.rt"), os.path.join(folder, "old.rt"))
+            self.assertEqual(list(run_page.other_files(folder, run_page.sources())), ["run.rt", "words.rt", "old.rt"])
 
 
 class Data(unittest.TestCase):

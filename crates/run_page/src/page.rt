@@ -9,7 +9,7 @@ ghost use Rattle.run_page.specs.RunJson.{AppendsExplained, more_json};
 use crate::append::say;
 use crate::escape::escape;
 use crate::more::{Heading, more};
-use crate::texts::{END, FRONT, MIDDLE};
+use crate::texts::{MIDDLE, back, front};
 use std::alloc::{AllocError, Global};
 use swift_report::Report;
 use swift_script::Script;
@@ -51,11 +51,11 @@ fn parts(
 ) -> Result<(), AllocError>
     ensures { OnOk result (AppendsExplained report.now (page_bytes script.now report.now heading.entry) out.old.items out.new.items) }
 {
-    say(out, FRONT.as_bytes())?;
+    front(out)?;
     report_part(alloc, out, script, report)?;
     say(out, MIDDLE.as_bytes())?;
     more_part(alloc, out, script, report, heading)?;
-    say(out, END.as_bytes())
+    back(out)
 }
 
 /// A run of a script as a page for a browser (the form is our own): the bytes of one file of HTML, which loads nothing. It shows the lanes
