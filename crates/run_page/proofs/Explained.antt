@@ -11,11 +11,16 @@ pub none : (r : Report) (old : List ℕ) → AppendsExplained r all_explained_js
 none r old = ([], All-nil (IsExplained r), sym (append-nil old))
 
 -- what explains one turn is appended
-pub one : {A E : Type 0} (result : Result A E) (r : Report) (turn : ExplainedTurn) (old new : List ℕ) → IsExplained r turn →
-    OnOk result (new ≡ old ++ explained_json turn.task turn.number turn.text.items) → OnOk result (AppendsExplained r all_explained_json old new)
-one (Ok u) r turn old new is appended =
-    (turn ∷ [], All-cons (IsExplained r) turn [] is (All-nil (IsExplained r)), appended ∙ ap (λ (xs : List ℕ). old ++ xs) (sym (append-nil (explained_json turn.task turn.number turn.text.items))))
-one (Err u) r turn old new is appended = tt
+pub one : {A E : Type 0} (result : Result A E) (r : Report) (turn : ExplainedTurn) (old new said : List ℕ) → IsExplained r turn → said ≡ turn.text.items →
+    OnOk result (new ≡ old ++ explained_json turn.task turn.number said) → OnOk result (AppendsExplained r all_explained_json old new)
+one (Ok u) r turn old new said is text appended =
+    let json = explained_json turn.task turn.number in
+    (
+      turn ∷ [],
+      All-cons (IsExplained r) turn [] is (All-nil (IsExplained r)),
+      appended ∙ ap (λ (xs : List ℕ). old ++ json xs) text ∙ ap (λ (xs : List ℕ). old ++ xs) (sym (append-nil (json turn.text.items))),
+    )
+one (Err u) r turn old new said is text appended = tt
 
 -- after some turns, others
 pub joined : (r : Report) (old mid new : List ℕ) → AppendsExplained r all_explained_json old mid → AppendsExplained r all_explained_json mid new → AppendsExplained r all_explained_json old new

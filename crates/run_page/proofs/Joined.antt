@@ -15,3 +15,9 @@ between (Ok u) r text x0 x1 x2 x3 front end h1 h2 h3 =
     let turns = h2.0 in
     (turns, h2.1, onto x0 x2 x3 (front ++ text turns) end (onto x0 x1 x2 front (text turns) h1 h2.2) h3)
 between (Err u) r text x0 x1 x2 x3 front end h1 h2 h3 = tt
+
+-- the last piece, where it is appended or memory ran out
+pub onto_last : {A E : Type 0} (result : Result A E) (x0 x1 x2 text piece : List ℕ) →
+    x1 ≡ x0 ++ text → OnOk result (x2 ≡ x1 ++ piece) → OnOk result (x2 ≡ x0 ++ (text ++ piece))
+onto_last (Ok u) x0 x1 x2 text piece before e = onto x0 x1 x2 text piece before e
+onto_last (Err u) x0 x1 x2 text piece before e = tt

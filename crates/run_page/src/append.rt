@@ -13,6 +13,13 @@ pub(crate) fn say(out: &mut Vec<u8>, text: &[u8]) -> Result<(), AllocError>
     out.extend_from_slice(text)
 }
 
+/// Appends a text that is UTF-8.
+pub(crate) fn say_text(out: &mut Vec<u8>, text: &str) -> Result<(), AllocError>
+    ensures { OnOk result (out.new.items ≡ out.old.items ++ text.now) }
+{
+    say(out, text.as_bytes())
+}
+
 // Appends a number in decimal.
 fn number<I: Integer>(out: &mut Vec<u8>, value: I) -> Result<(), AllocError>
     ensures { OnOk result (out.new.items ≡ out.old.items ++ I.text value) }

@@ -6,7 +6,7 @@ ghost use Rattle.run_page.specs.Escapes.{escaped};
 ghost use Rattle.run_page.specs.Pages.{IsPage, page_bytes};
 ghost use Rattle.run_page.specs.RunJson.{AppendsExplained, more_json};
 
-use crate::append::say;
+use crate::append::say_text;
 use crate::escape::escape;
 use crate::more::{Heading, more};
 use crate::texts::{MIDDLE, back, front};
@@ -53,7 +53,7 @@ fn parts(
 {
     front(out)?;
     report_part(alloc, out, script, report)?;
-    say(out, MIDDLE.as_bytes())?;
+    say_text(out, MIDDLE)?;
     more_part(alloc, out, script, report, heading)?;
     back(out)
 }

@@ -20,7 +20,7 @@ mod words;
 ghost use Rattle.std.specs.Prelude.{◌≡◌, ◌++◌, OnOk};
 ghost use Rattle.run_page.specs.Pages.{back_text, front_text, script_text};
 
-use crate::append::say;
+use crate::append::say_text;
 use chosen::CHOSEN;
 pub(crate) use frame::MIDDLE;
 use frame::{BELOW, BODY, END, HEAD};
@@ -36,28 +36,28 @@ use words::WORDS;
 pub(crate) fn front(out: &mut Vec<u8>) -> Result<(), AllocError>
     ensures { OnOk result (out.new.items ≡ out.old.items ++ front_text) }
 {
-    say(out, HEAD.as_bytes())?;
-    say(out, STYLE.as_bytes())?;
-    say(out, BODY.as_bytes())
+    say_text(out, HEAD)?;
+    say_text(out, STYLE)?;
+    say_text(out, BODY)
 }
 
 // Appends the script.
 fn script(out: &mut Vec<u8>) -> Result<(), AllocError>
     ensures { OnOk result (out.new.items ≡ out.old.items ++ script_text) }
 {
-    say(out, RUN.as_bytes())?;
-    say(out, WORDS.as_bytes())?;
-    say(out, METHOD.as_bytes())?;
-    say(out, LANES.as_bytes())?;
-    say(out, CHOSEN.as_bytes())?;
-    say(out, READER.as_bytes())
+    say_text(out, RUN)?;
+    say_text(out, WORDS)?;
+    say_text(out, METHOD)?;
+    say_text(out, LANES)?;
+    say_text(out, CHOSEN)?;
+    say_text(out, READER)
 }
 
 /// Appends what stands after the data.
 pub(crate) fn back(out: &mut Vec<u8>) -> Result<(), AllocError>
     ensures { OnOk result (out.new.items ≡ out.old.items ++ back_text) }
 {
-    say(out, BELOW.as_bytes())?;
+    say_text(out, BELOW)?;
     script(out)?;
-    say(out, END.as_bytes())
+    say_text(out, END)
 }
