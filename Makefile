@@ -79,6 +79,10 @@ marks: $(DAILY)
 reports: $(DAILY)
 	@tools/reports.py $(DAILY)
 
+# Whether the pages of the examples are as they have to be, in a browser too where Chromium is on the PATH: make page ARGS="--pictures FOLDER"
+page: $(DAILY)
+	@tools/run_page_check.py $(ARGS) $(DAILY)
+
 # Puts both programs, the examples, the manual page, the completions and what editors have into PREFIX: make install PREFIX=~/.local
 PREFIX = /usr/local
 install: $(PROGRAM) $(DAILY)
@@ -101,7 +105,8 @@ believe:
 tools:
 	@tools/tools_test.py
 	@tools/outcomes_test.py
-	@cd tools && python3 -B -m unittest -q try_test editors_test completions_test
+	@tools/run_page.py && echo "the statics of run_page are what its page's files give"
+	@cd tools && python3 -B -m unittest -q try_test editors_test completions_test run_page_test
 
 # Whether the input of test_cases and what it has to write are what the cases of its areas are joined to.
 cases:
@@ -111,4 +116,4 @@ cases:
 bench: $(PROGRAM) $(CASES)
 	@python3 bench/run.py
 
-.PHONY: try run nuchapay test prove planted mutants examples limits one_core pages marks reports swift install refusals links believe cases tools bench
+.PHONY: try run nuchapay test prove planted mutants examples limits one_core page pages marks reports swift install refusals links believe cases tools bench

@@ -23,7 +23,7 @@ _nuchapay() {
         why:--limit) words='' ;;
         check:--color) words='always never' ;;
         show:--workers) words='1 2 3 4 5 6 7 8' ;;
-        show:--format) words='svg trace' ;;
+        show:--format) words='svg html trace' ;;
         show:--outcome) words='' ;;
         show:--schedule) words='' ;;
         show:--limit) words='' ;;

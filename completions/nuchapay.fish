@@ -37,7 +37,7 @@ complete -c nuchapay -n '__fish_seen_subcommand_from print' -l pretty -d 'Lays t
 complete -c nuchapay -n '__fish_seen_subcommand_from print' -l help -d 'Print help'
 complete -c nuchapay -n '__fish_seen_subcommand_from print' -k -a '(__fish_complete_suffix .actors)'
 complete -c nuchapay -n '__fish_seen_subcommand_from show' -l workers -x -a '1 2 3 4 5 6 7 8' -d 'Runs the tasks on N threads, from 1 to 8'
-complete -c nuchapay -n '__fish_seen_subcommand_from show' -l format -x -a 'svg trace' -d 'A picture, or a trace for Perfetto and chrome://tracing'
+complete -c nuchapay -n '__fish_seen_subcommand_from show' -l format -x -a 'svg html trace' -d 'A picture, a page for a browser, or a trace for Perfetto and chrome://tracing'
 complete -c nuchapay -n '__fish_seen_subcommand_from show' -l outcome -x -d 'Takes the schedule of outcome K, as explore lists it'
 complete -c nuchapay -n '__fish_seen_subcommand_from show' -l schedule -x -d 'Takes this schedule, as explore prints it: '\''t0.0 t1.0 t0.1'\'''
 complete -c nuchapay -n '__fish_seen_subcommand_from show' -l broken -d 'Takes a schedule to a turn that an invariant undoes, as explore finds it'

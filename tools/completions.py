@@ -80,7 +80,7 @@ NUCHAPAY = (
     ),
     Command(
         "show", "Runs a script, and shows the run as a picture", ("[FILE]",),
-        (WORKERS, Option("format", "A picture, or a trace for Perfetto and chrome://tracing", "FORMAT", ("svg", "trace")), *SCHEDULES),
+        (WORKERS, Option("format", "A picture, a page for a browser, or a trace for Perfetto and chrome://tracing", "FORMAT", ("svg", "html", "trace")), *SCHEDULES),
     ),
     Command("swift", "Prints a script as a Swift program, for Swift's own runtime", ("[FILE]",)),
     Command(

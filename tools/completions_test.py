@@ -136,7 +136,7 @@ class Completions(unittest.TestCase):
         self.assertEqual(self.complete("nuchapay", "explain", "S1"), ["S1", "S10", "S11", "S12", "S13", "S14"])
         self.assertEqual(self.complete("nuchapay", "explain", "S1", ""), [])
         self.assertEqual(self.complete("nuchapay", "run", "--format", "=", "j"), ["json"])
-        self.assertEqual(self.complete("nuchapay", "show", "--format", "="), ["svg", "trace"])
+        self.assertEqual(self.complete("nuchapay", "show", "--format", "="), ["svg", "html", "trace"])
         self.assertEqual(self.complete("nuchapay", "show", "--format", "=", "svg", "--w"), ["--workers"])
         self.assertEqual(sorted(self.complete("nuchapay", "run", "--workers", "2", "account")), ["account.actors", "account_fixed.actors"])
         self.assertEqual(self.complete("nuchapay", "why", "races/late"), ["races/late_cancel.actors"])

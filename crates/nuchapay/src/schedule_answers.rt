@@ -8,6 +8,7 @@ use crate::turn_answers::{say_explained, say_no_task};
 use crate::values::AskedTurn;
 use nuchapay_runs::Explained;
 use nuchapay_tool::{RunForm, ScheduleChoice, TurnWord};
+use run_page::Heading;
 use std::alloc::AllocError;
 use swift_report::write_all;
 use swift_tool::ToolFault;
@@ -25,7 +26,12 @@ pub fn say_scheduled(
             if let Ok(Some(said)) = chosen_text(rt.alloc(), &run) {
                 let _ = eprintln!(rt; "nuchapay: {said}");
             }
-            say_form(rt, path, &run, form)
+            let heading = Heading {
+                name: path,
+                workers: 1,
+                source: text,
+            };
+            say_form(rt, heading, &run, form)
         }
         Ok(ChosenRun::None(why)) => say_no_run(rt, schedule, why),
         Err(fault) => tell(rt, Err(fault)),
@@ -41,7 +47,7 @@ fn say_no_run(rt: &HostRuntime, schedule: ScheduleChoice<'_>, why: NoRun) -> u8 
 }
 
 // Says this of a run. The status to end with.
-fn say_form(rt: &HostRuntime, path: &str, run: &ScheduledRun, form: RunForm<'_>) -> u8 {
+fn say_form(rt: &HostRuntime, heading: Heading<'_>, run: &ScheduledRun, form: RunForm<'_>) -> u8 {
     let alloc = rt.alloc();
     match form {
         RunForm::Report(quiet) => tell(rt, write_run(rt, run, run.text(alloc, quiet))),
@@ -53,8 +59,7 @@ fn say_form(rt: &HostRuntime, path: &str, run: &ScheduledRun, form: RunForm<'_>)
                 alloc,
                 &run.script,
                 &run.report,
-                path,
-                1,
+                heading,
                 format,
                 &mut rt.stdout(),
             );

@@ -5,6 +5,7 @@ ghost use Rattle.nuchapay.specs.Runs.{HasEndedWell, IsOfRun};
 
 use crate::values::{all_ended_well, run_text};
 use nuchapay_tool::PictureFormat;
+use run_page::{Heading, page_text};
 use run_pictures::picture::{PictureFault, picture_of, svg_text, write_trace};
 use std::alloc::{AllocError, AllocGlobal, Global};
 use std::io::Write;
@@ -30,25 +31,40 @@ where
     ensures { IfOk result (λ well. IsOfRun text.now (HasEndedWell well)) }
 {
     let (script, report) = run_text(rt, text, workers)?;
-    show_report(rt.alloc(), &script, &report, name, workers, format, out)?;
+    let heading = Heading {
+        name,
+        workers,
+        source: text,
+    };
+    show_report(rt.alloc(), &script, &report, heading, format, out)?;
     Ok(all_ended_well(&report.endings))
 }
 
-/// Writes the run of a report as a picture in this format.
+/// Writes the run of a report as a picture in this format, under this heading.
 pub fn show_report<W: Write>(
     alloc: Global,
     script: &Arc<Script>,
     report: &Report,
-    name: &str,
-    workers: u32,
+    heading: Heading<'_>,
     format: PictureFormat,
     out: &mut W,
 ) -> Result<(), ToolFault> {
     let picture = picture_of(alloc, report)?;
     match format {
         PictureFormat::Svg => {
-            let text = svg_text(alloc, script, report, &picture, name, workers)?;
+            let text = svg_text(
+                alloc,
+                script,
+                report,
+                &picture,
+                heading.name,
+                heading.workers,
+            )?;
             write_all(out, &text)?;
+        }
+        PictureFormat::Html => {
+            let page = page_text(alloc, script, report, heading)?;
+            write_all(out, &page)?;
         }
         PictureFormat::Trace => traced(write_trace(alloc, script, &picture, out))?,
     }

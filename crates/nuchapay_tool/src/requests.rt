@@ -17,6 +17,8 @@ pub enum Source<'a> {
 pub enum PictureFormat {
     /// As SVG, for people.
     Svg,
+    /// As a page of HTML, for a browser.
+    Html,
     /// As JSON in the Trace Event Format, for Perfetto and chrome://tracing.
     Trace,
 }

@@ -65,9 +65,9 @@ fn report_format<'a>(alloc: Global) -> Arg<'a> {
 }
 
 fn picture_format<'a>(alloc: Global) -> Arg<'a> {
-    let help = "A picture, or a trace for Perfetto and chrome://tracing";
+    let help = "A picture, a page for a browser, or a trace for Perfetto and chrome://tracing";
     option(alloc, "format", "FORMAT", help)
-        .value_parser(["svg", "trace"].as_slice())
+        .value_parser(["svg", "html", "trace"].as_slice())
         .default_value("svg")
 }
 
@@ -354,6 +354,7 @@ fn show_request<'a>(matches: &ArgMatches<'a>) -> Result<Request<'a>, Refused>
     ensures { IfOk result HasCrew }
 {
     let format = match matches.get_str("format") {
+        Some("html") => PictureFormat::Html,
         Some("trace") => PictureFormat::Trace,
         _ => PictureFormat::Svg,
     };
@@ -549,7 +550,7 @@ fn is_second(matches: &ArgMatches<'_>, argument: &str, first: &str, second: &str
 /// - `swift`, with a file;
 /// - `explore`, with a file, `--limit N` from 1 to 10,000,000, 100,000 where it is not given, and either one of `--schedule K`, from 1 to
 ///   10,000,000, and `--broken`, or `--expect EXPR`, also more than once, and `--no-fault`;
-/// - `show`, with a file, `--workers N`, and `--format` with `svg` or `trace`, `svg` where it is not given;
+/// - `show`, with a file, `--workers N`, and `--format` with `svg`, `html` or `trace`, `svg` where it is not given;
 /// - `check`, with a file and `--color always` or `never`, which is meant where it is not given;
 /// - `print`, with a file and `--pretty`;
 /// - `explain`, with the word of a topic.

@@ -1,0 +1,5 @@
+mod Events
+mod Executors
+mod Explained
+mod Joined
+mod Plain

@@ -1,0 +1,20 @@
+use Rattle.std.proofs.Common.{ℕ, List, ◌++◌, ap, ◌∙◌, false}
+use Rattle.swift_tool.specs.ReportJson.{report_json}
+use Rattle.run_page.specs.Pages.{page_bytes}
+use Rattle.run_page.specs.RunJson.{more_json}
+use Rattle.run_page.proofs.Plain.{plain}
+use Rattle.run_page.proofs.page.page_text.Goals as goal
+
+pub returns : goal.returns
+returns c =
+    let p = c.args.script.now in
+    let r = c.args.report.now in
+    let h = c.args.heading in
+    let said = c.in_ok-parts.ensures in
+    record {
+      turns = said.0;
+      explained = said.1;
+      is = said.2 ∙ ap (λ (xs : List ℕ). xs ++ page_bytes p r h said.0) c.new-out.ensures.items;
+      plain_report = plain (report_json p r false);
+      plain_more = plain (more_json p r h said.0);
+    }

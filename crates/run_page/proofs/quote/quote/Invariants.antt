@@ -1,0 +1,6 @@
+use Rattle.std.proofs.Common.{◌≡◌, ◌++◌, drop}
+use Rattle.run_page.specs.Escapes.{quoted}
+use Rattle.run_page.proofs.quote.quote.Given as goal
+
+abbrev pub invariant-loop-byte : goal.invariant-loop-byte
+invariant-loop-byte l = l.out.items ++ quoted (drop l.byte-index l.text) ≡ l.initial.out.items ++ quoted l.text

@@ -1,0 +1,7 @@
+use Rattle.std.proofs.Common.{◌≡◌, ◌++◌, ◌-◌}
+use Rattle.swift_script.specs.Scripts.{executor_count}
+use Rattle.run_page.specs.RunJson.{all_values_json}
+use Rattle.run_page.proofs.values.all_values.Given as goal
+
+abbrev pub invariant-loop-place : goal.invariant-loop-place
+invariant-loop-place l = l.out.items ++ all_values_json l.script l.report l.place (executor_count l.script - l.place) ≡ l.initial.out.items ++ all_values_json l.script l.report 0 (executor_count l.script)

@@ -1,0 +1,3 @@
+pub mod Escapes
+pub mod RunJson
+pub mod Pages
