@@ -122,7 +122,11 @@ where
             limit,
             expected,
             without_fault,
-        } => say_explored(host, explored(host, text, limit, &expected, without_fault)),
+            json,
+        } => say_explored(
+            host,
+            explored(host, text, limit, &expected, without_fault, json),
+        ),
         Question::ExploreBroken(limit) => say_broken(host, limit, broken_line(host, text, limit)),
         Question::Rerun { limit, outcome } => {
             say_rerun(host, outcome, rerun_text(host, text, limit, outcome))
