@@ -41,6 +41,7 @@ use std::thread::Threads;
 use std::{env, io};
 use swift_report::write_all;
 use swift_tool::{ToolFault, run_json, run_text, status};
+use swift_translation::{Translation, refusal_text, translate as translate_swift};
 use swift_workers::{Open, RunFault};
 
 fn main(rt: HostRuntime) -> ExitCode {
@@ -108,6 +109,8 @@ where
             Err(error) => unread(host, source, error),
         },
         Request::Print(source, is_pretty) => match script(host, source) {
+            // What a Swift file becomes is laid out, and says from which lines each method is.
+            Ok(text) if is_swift(source) => tell(host, write_out(host, &text)),
             Ok(text) => tell(host, write_printed(host, &text, is_pretty)),
             Err(error) => unread(host, source, error),
         },
@@ -169,8 +172,43 @@ fn name_of(source: Source<'_>) -> &str {
     }
 }
 
-// The text of a script.
-fn script(rt: &HostRuntime, source: Source<'_>) -> io::Result<Vec<u8>> {
+// Why there is no script.
+enum NoScript {
+    // It could not be read.
+    Unread(io::Error),
+    // It is a Swift file that is refused, which was said; or that could not be said.
+    Refused(u8),
+}
+
+impl From<io::Error> for NoScript {
+    fn from(error: io::Error) -> NoScript {
+        NoScript::Unread(error)
+    }
+}
+
+// Whether a script is given as a Swift file.
+fn is_swift(source: Source<'_>) -> bool {
+    name_of(source).ends_with(".swift")
+}
+
+// The text of a script; of a Swift file that of the script that it becomes.
+fn script(rt: &HostRuntime, source: Source<'_>) -> Result<Vec<u8>, NoScript> {
+    let text = text_of(rt, source)?;
+    if !is_swift(source) {
+        return Ok(text);
+    }
+    match translate_swift(rt.alloc(), &text) {
+        Ok(Translation::Script(script)) => Ok(script),
+        Ok(Translation::Refused(refusal)) => {
+            let said = refusal_text(rt.alloc(), name_of(source), &text, refusal);
+            Err(NoScript::Refused(say_refused(rt, said)))
+        }
+        Err(error) => Err(NoScript::Refused(say_refused(rt, Err(error)))),
+    }
+}
+
+// The text of a file, or of standard input.
+fn text_of(rt: &HostRuntime, source: Source<'_>) -> io::Result<Vec<u8>> {
     match source {
         Source::Stdin => read_input(rt.alloc(), &mut rt.stdin()),
         Source::File(path) => {
@@ -180,11 +218,27 @@ fn script(rt: &HostRuntime, source: Source<'_>) -> io::Result<Vec<u8>> {
     }
 }
 
+// Says why a Swift file is refused. The status to end with.
+fn say_refused(rt: &HostRuntime, said: Result<Vec<u8>, AllocError>) -> u8 {
+    match said {
+        Ok(said) => match write_all(&mut rt.stderr(), &said) {
+            Ok(()) => 3,
+            Err(_) => 4,
+        },
+        Err(fault) => tell(rt, Err(ToolFault::from(fault))),
+    }
+}
+
 // Says why a script could not be read, with the system's word. The status to end with.
-fn unread(rt: &HostRuntime, source: Source<'_>, error: io::Error) -> u8 {
-    let name = name_of(source);
-    let _ = eprintln!(rt; "nuchapay: {name}: {error}");
-    4
+fn unread(rt: &HostRuntime, source: Source<'_>, why: NoScript) -> u8 {
+    match why {
+        NoScript::Unread(error) => {
+            let name = name_of(source);
+            let _ = eprintln!(rt; "nuchapay: {name}: {error}");
+            4
+        }
+        NoScript::Refused(status) => status,
+    }
 }
 
 // Says what went wrong, if anything did. The status to end with.

@@ -1,0 +1,106 @@
+//! From text to text.
+
+use crate::actor::{literal, write_actors, write_main, write_pool};
+use crate::naming::{write_instance, write_name};
+use crate::writing::Writing;
+use std::alloc::{AllocError, Global};
+use swift_lowering::{Code, lower};
+use swift_syntax::{ExecutorKindDecl, Refusal, Rule, Token, Tree, read_file};
+use swift_types::limits::BYTES;
+
+/// What becomes of a Swift file.
+#[derive(Drop)]
+pub enum Translation {
+    /// The text of a script.
+    Script(Vec<u8>),
+    /// The first rule of the subset that the file breaks.
+    Refused(Refusal),
+}
+
+fn write_kind(writing: &mut Writing<'_>, kind: ExecutorKindDecl) {
+    match kind {
+        ExecutorKindDecl::Fifo => writing.say(" fifo;\n"),
+        ExecutorKindDecl::Priority => writing.say(" priority;\n"),
+        ExecutorKindDecl::Pinned(number) => {
+            let alloc = writing.alloc;
+            writing.say(" pinned ");
+            writing.out.number(alloc, number);
+            writing.say(";\n");
+        }
+    }
+}
+
+// The kind of the executor class that a token names, if it names one.
+fn kind_of(writing: &Writing<'_>, of: usize) -> Option<ExecutorKindDecl> {
+    writing
+        .tree
+        .executors
+        .iter()
+        .find(|e| writing.are_same(e.name, of))
+        .map(|e| e.kind)
+}
+
+fn write_executors(writing: &mut Writing<'_>) {
+    for place in 0..writing.tree.instances.len() {
+        let Some(declared) = writing.tree.instances.get(place).copied() else {
+            return;
+        };
+        if let Some(kind) = kind_of(writing, declared.of) {
+            writing.say("executor ");
+            write_instance(writing, place);
+            write_kind(writing, kind);
+        }
+    }
+}
+
+fn write_locals(writing: &mut Writing<'_>) {
+    for place in 0..writing.tree.locals.len() {
+        let Some(declared) = writing.tree.locals.get(place).copied() else {
+            return;
+        };
+        writing.say("local ");
+        write_name(writing, declared.name);
+        writing.say(" = ");
+        let number = literal(writing.tree, declared.value).unwrap_or(0);
+        let alloc = writing.alloc;
+        writing.out.number(alloc, number);
+        writing.say(";\n");
+    }
+}
+
+// The script of instructions.
+fn written(alloc: Global, text: &[u8], tokens: &[Token], tree: &Tree, code: &Code) -> Translation {
+    let mut writing = Writing::new(alloc, text, tokens, tree, code);
+    write_executors(&mut writing);
+    write_locals(&mut writing);
+    write_actors(&mut writing);
+    write_pool(&mut writing);
+    write_main(&mut writing);
+    if writing.out.lacks_memory {
+        writing.refuse(Rule::Memory, 0);
+    }
+    if writing.out.text.len() > BYTES {
+        writing.refuse(Rule::TooLarge, 0);
+    }
+    match writing.refused {
+        Some(refused) => Translation::Refused(refused),
+        None => Translation::Script(writing.out.text),
+    }
+}
+
+/// The script that a Swift file becomes: its text, or the first rule that the file breaks.
+///
+/// # Errors
+///
+/// `AllocError` where there is no memory for the tokens.
+pub fn translate(alloc: Global, text: &[u8]) -> Result<Translation, AllocError> {
+    let file = read_file(alloc, text)?;
+    if let Some(refused) = file.refused {
+        return Ok(Translation::Refused(refused));
+    }
+    let lowered = lower(alloc, text, &file.tokens, &file.tree);
+    if let Some(refused) = lowered.refused {
+        return Ok(Translation::Refused(refused));
+    }
+    Ok(written(alloc, text, &file.tokens, &file.tree, &lowered.code))
+}
