@@ -3,11 +3,11 @@
 //! A value that nothing else gives tells of a fault: 2 of a Bool or of nothing. An Int comes from a method of its own, which adds one unless
 //! it is below 0, so that 0 is free to tell.
 
-use crate::code::{Instruction, NONE, Target, UnitKind, Value, Wait};
-use crate::lowering::{Fallback, Kind, Lowering, Typed};
-use crate::statement::expression;
-use crate::value::{typed, want_wait};
-use crate::waits::count_up;
+use crate::closure::{begin_unit, end_unit};
+use swift_expressions::{
+    Fallback, Instruction, Kind, Lowering, NONE, Target, Typed, Value, Wait, count_down, count_up,
+    expression, want_wait, with_kind,
+};
 use swift_syntax::{Assigning, ExprForm, Into, Rule, Stmt, StmtForm};
 use swift_types::Operator;
 
@@ -61,12 +61,12 @@ fn hand_over(lowering: &mut Lowering<'_>, first: usize) -> usize {
     let mut begin = NONE;
     let mut last = NONE;
     for _ in 0..lowering.code.operands.len() {
-        let Some(operand) = lowering.code.operands.get(place).copied() else {
+        let Some(operand) = lowering.operand_at(place) else {
             return begin;
         };
         let variable = lowering.variable(0, true);
-        let value = lowering.value(Value::Variable(variable));
-        last = lowering.operand(value, last);
+        let given = with_kind(lowering, Value::Variable(variable), operand.kind);
+        last = lowering.operand(given, last);
         if begin == NONE {
             begin = last;
         }
@@ -110,26 +110,15 @@ fn free_zero(lowering: &mut Lowering<'_>, variable: usize) {
 // A method that waits and leaves 0 free, in the place of a wait.
 fn wrap(lowering: &mut Lowering<'_>, place: usize, target: Target, what: Wait, token: usize) {
     let outer = lowering.setting.unit;
-    let actor = match lowering.code.units.get(outer) {
-        Some(unit) => unit.actor,
-        None => NONE,
-    };
-    let unit = lowering.unit(UnitKind::Closure, actor, token);
-    let skip = lowering.here();
-    lowering.put(Instruction::Skip(0));
+    let begun = begin_unit(lowering, token);
+    let unit = begun.unit;
     lowering.setting.unit = unit;
     let (inner, first) = rewired(lowering, what, token);
     let variable = lowering.temporary();
     lowering.put(Instruction::Wait(Target::Declare(variable), inner, NONE));
     free_zero(lowering, variable);
     lowering.setting.unit = outer;
-    let to = lowering.here();
-    if let Some(made) = lowering.code.units.get_mut(unit) {
-        made.from = skip.saturating_add(1);
-        made.to = to;
-        made.has_value = true;
-    }
-    replace(lowering, skip, Instruction::Skip(to));
+    end_unit(lowering, begun, token);
     let zero = lowering.number(0);
     replace(
         lowering,
@@ -186,7 +175,7 @@ pub(crate) fn begin_caught(lowering: &mut Lowering<'_>, body: usize, token: usiz
         return None;
     };
     let (variable, number) = told(lowering, target, what, found.kind, token);
-    let found = typed(lowering, Value::Variable(variable), found.kind);
+    let found = with_kind(lowering, Value::Variable(variable), found.kind);
     let sign = lowering.number(number);
     let test = lowering.value(Value::Binary(Operator::Equal, found.value, sign));
     lowering.put(Instruction::If(test));
@@ -203,7 +192,7 @@ pub(crate) fn begin_held(lowering: &mut Lowering<'_>, held: Held) {
         let zero = lowering.number(0);
         let test = lowering.value(Value::Binary(Operator::Greater, held.found.value, zero));
         lowering.put(Instruction::If(test));
-        crate::waits::count_down(lowering, variable);
+        count_down(lowering, variable);
         lowering.put(Instruction::End);
     }
 }

@@ -1,13 +1,13 @@
-//! What closures capture, and the methods that they become.
+//! Closures, and the methods that they become.
 
-use crate::call::want_arguments;
-use crate::code::{Callee, Instruction, NONE, UnitKind, Value};
-use crate::effect::DEPTH;
-use crate::lowering::{Kind, Lowering, Setting, kind_of, setting_of};
-use crate::naming::{actor_of, constant_named, instance_named, method_at, method_named};
-use crate::scope::{Standing, declare, standing_at};
-use crate::value::lower_operands;
-use swift_syntax::{ExprForm, Into, Receiver, Rule, Sign, StmtForm, TokenKind};
+use crate::capture::capture_all;
+use crate::returns::exits;
+use swift_expressions::{
+    Callee, Instruction, Kind, Lowering, NONE, Setting, Standing, UnitKind, actor_of,
+    call_operands, constant_named, expression, instance_named, kind_of, leave, method_at,
+    method_named, setting_of, standing_at, want_arguments,
+};
+use swift_syntax::{Access, ExprForm, Into, MethodDecl, Receiver, Rule, StmtForm};
 
 /// What a closure says.
 #[derive(Clone, Copy)]
@@ -135,31 +135,59 @@ fn called_instance(lowering: &Lowering<'_>, place: usize) -> Option<usize> {
     }
 }
 
+// A call of a method of an instance, with the first of its arguments and the token of its name.
+#[derive(Clone, Copy)]
+struct InstanceCall {
+    instance: usize,
+    method: usize,
+    declared: MethodDecl,
+    first: usize,
+    token: usize,
+}
+
+// What a closure calls, if that is all that it does.
+fn called(lowering: &Lowering<'_>, place: usize) -> Option<InstanceCall> {
+    let instance = called_instance(lowering, place)?;
+    let expr = lowering.tree.expr(place);
+    let ExprForm::Call(_, first) = expr.form else {
+        return None;
+    };
+    let token = expr.token;
+    let method = method_named(lowering, actor_of(lowering, instance), token)?;
+    let declared = method_at(lowering, method)?;
+    Some(InstanceCall {
+        instance,
+        method,
+        declared,
+        first,
+        token,
+    })
+}
+
 /// A closure that only calls a method of an instance is that method.
 pub(crate) fn direct(lowering: &mut Lowering<'_>, body: ClosureBody) -> Option<MadeClosure> {
     if body.is_among_others {
         return None;
     }
     let (place, is_awaited, is_tried) = uncovered(lowering, body.value);
-    let Some(instance) = called_instance(lowering, place) else {
-        return None;
-    };
-    let expr = lowering.tree.expr(place);
-    let ExprForm::Call(_, first) = expr.form else {
-        return None;
-    };
-    let actor = actor_of(lowering, instance);
-    let Some(method) = method_named(lowering, actor, expr.token) else {
-        return None;
-    };
-    let Some(declared) = method_at(lowering, method) else {
-        return None;
-    };
+    let call = called(lowering, place)?;
     let is_tried = is_tried && body.may_throw;
-    if !body.is_implicit && (!is_awaited || (declared.is_throwing && !is_tried)) {
+    if !body.is_implicit && (!is_awaited || (call.declared.is_throwing && !is_tried)) {
         return None;
     }
-    let given = lower_operands(lowering, first, DEPTH);
+    Some(hand_over(lowering, call))
+}
+
+// The method of an instance as what a task runs.
+fn hand_over(lowering: &mut Lowering<'_>, call: InstanceCall) -> MadeClosure {
+    let InstanceCall {
+        instance,
+        method,
+        declared,
+        first,
+        token,
+    } = call;
+    let given = call_operands(lowering, first);
     let first_param = declared.first_param;
     want_arguments(
         lowering,
@@ -167,113 +195,20 @@ pub(crate) fn direct(lowering: &mut Lowering<'_>, body: ClosureBody) -> Option<M
         declared.params_end,
         first,
         given,
-        expr.token,
+        token,
     );
-    if declared.access == swift_syntax::Access::Private {
-        lowering.refuse(Rule::Private, expr.token);
+    if declared.access == Access::Private {
+        lowering.refuse(Rule::Private, token);
     }
-    Some(MadeClosure {
+    MadeClosure {
         callee: Callee::Method(instance, method, given.first),
         kind: kind_of(declared.result),
         is_throwing: declared.is_throwing,
-    })
-}
-
-// Whether a name stands at a token that may be captured.
-fn may_be_captured(lowering: &Lowering<'_>, token: usize) -> bool {
-    if !lowering.is_name(token) {
-        return false;
-    }
-    !is_sign(lowering, token.saturating_sub(1), Sign::Dot)
-        && !is_sign(lowering, token.saturating_add(1), Sign::Colon)
-}
-
-fn is_sign(lowering: &Lowering<'_>, place: usize, sign: Sign) -> bool {
-    match lowering.tokens.get(place) {
-        Some(token) => match token.kind {
-            TokenKind::Sign(found) => found == sign,
-            _ => false,
-        },
-        None => false,
     }
 }
 
-// Whether a closure's list has the name of a token.
-fn is_listed(lowering: &Lowering<'_>, captures: usize, token: usize) -> bool {
-    let mut place = captures;
-    for _ in 0..lowering.tree.arguments.len() {
-        match lowering.tree.argument(place) {
-            Some(argument) => {
-                if lowering.are_same(argument.label, token) {
-                    return true;
-                }
-                place = argument.next;
-            }
-            None => return false,
-        }
-    }
-    false
-}
-
-// Whether a name is captured already.
-fn is_captured(lowering: &Lowering<'_>, from: usize, token: usize) -> bool {
-    lowering
-        .scope
-        .iter()
-        .skip(from)
-        .any(|b| lowering.are_same(b.token, token))
-}
-
-// Captures what a name in scope stands for, as a parameter of the unit. The place of the last operand.
-fn capture(
-    lowering: &mut Lowering<'_>,
-    unit: usize,
-    captures: usize,
-    token: usize,
-    last: usize,
-) -> usize {
-    let Some(found) = standing_at(lowering, token) else {
-        return last;
-    };
-    let is_value = match found.standing {
-        Standing::Constant => true,
-        Standing::Variable => is_listed(lowering, captures, token),
-        Standing::Task | Standing::Group | Standing::Child => false,
-    };
-    if !is_value {
-        lowering.refuse(Rule::Captured, token);
-        return last;
-    }
-    let value = lowering.value(Value::Variable(found.variable));
-    let operand = lowering.operand(value, last);
-    let outer = lowering.setting.unit;
-    lowering.setting.unit = unit;
-    let variable = lowering.variable(found.token, true);
-    lowering.setting.unit = outer;
-    declare(lowering, token, variable, found.kind, false);
-    operand
-}
-
-/// Captures what the names in a closure stand for. The place of the first operand.
-pub(crate) fn capture_all(lowering: &mut Lowering<'_>, unit: usize, body: ClosureBody) -> usize {
-    let from = lowering.scope.len();
-    let mut first = NONE;
-    let mut last = NONE;
-    for token in body.from..body.to {
-        if !may_be_captured(lowering, token) || is_captured(lowering, from, token) {
-            continue;
-        }
-        let next = capture(lowering, unit, body.captures, token, last);
-        if first == NONE {
-            first = next;
-        }
-        last = next;
-    }
-    first
-}
-
-/// How a closure begins, in which what was captured stands from a place of the scope on.
-pub(crate) fn closure_setting(unit: usize, boundary: usize, body: ClosureBody) -> Setting {
+// How a closure begins, in which what was captured stands from a place of the scope on.
+fn closure_setting(unit: usize, boundary: usize, body: ClosureBody) -> Setting {
     let mut setting = setting_of(unit, NONE);
     setting.boundary = boundary;
     setting.block_start = boundary;
@@ -285,37 +220,102 @@ pub(crate) fn closure_setting(unit: usize, boundary: usize, body: ClosureBody) -
     setting
 }
 
-/// A unit that a closure becomes begins here: its place, and that of the instruction that goes over it.
-pub(crate) fn begin_unit(lowering: &mut Lowering<'_>, body: ClosureBody) -> (usize, usize) {
-    let actor = parent_actor(lowering);
-    let unit = lowering.unit(UnitKind::Closure, actor, body.from);
+/// A unit whose instructions stand among those of another one.
+#[derive(Clone, Copy)]
+pub(crate) struct OpenUnit {
+    /// Its place.
+    pub unit: usize,
+    // The place of the instruction that goes over it.
+    skip: usize,
+}
+
+/// A unit that a closure becomes begins here, at a token.
+pub(crate) fn begin_unit(lowering: &mut Lowering<'_>, token: usize) -> OpenUnit {
+    let actor = match lowering.code.units.get(lowering.setting.unit) {
+        Some(outer) => outer.actor,
+        None => NONE,
+    };
+    let unit = lowering.unit(UnitKind::Closure, actor, token);
     let skip = lowering.here();
     lowering.put(Instruction::Skip(0));
-    (unit, skip)
+    OpenUnit { unit, skip }
 }
 
-// The actor of the unit that is lowered.
-fn parent_actor(lowering: &Lowering<'_>) -> usize {
-    match lowering.code.units.get(lowering.setting.unit) {
-        Some(unit) => unit.actor,
-        None => NONE,
-    }
-}
-
-/// A unit that a closure became ends here.
-pub(crate) fn end_unit(lowering: &mut Lowering<'_>, unit: usize, skip: usize, body: ClosureBody) {
+/// A unit that a closure becomes ends here, before a token.
+pub(crate) fn end_unit(lowering: &mut Lowering<'_>, begun: OpenUnit, end: usize) {
     let here = lowering.here();
-    let has_value = match lowering.setting.result {
-        Some(kind) => kind != Kind::Void,
-        None => false,
-    };
-    if let Some(made) = lowering.code.units.get_mut(unit) {
-        made.from = skip.saturating_add(1);
+    if let Some(made) = lowering.code.units.get_mut(begun.unit) {
+        made.from = begun.skip.saturating_add(1);
         made.to = here;
-        made.has_value = has_value;
-        made.end = body.to;
+        made.end = end;
     }
-    if let Some(instruction) = lowering.code.instructions.get_mut(skip) {
+    if let Some(instruction) = lowering.code.instructions.get_mut(begun.skip) {
         *instruction = Instruction::Skip(here);
+    }
+}
+
+/// A closure that is lowered, as a unit of its own.
+#[derive(Clone, Copy)]
+pub(crate) struct OpenClosure {
+    // Its unit.
+    begun: OpenUnit,
+    // The first of the operands that it captures, or `NONE`.
+    operand: usize,
+    // What holds around it.
+    outer: Setting,
+    // How many names are in scope around it.
+    boundary: usize,
+}
+
+/// A closure begins here, as a unit with what it captures.
+pub(crate) fn begin_closure(lowering: &mut Lowering<'_>, body: ClosureBody) -> OpenClosure {
+    let outer = lowering.setting;
+    let boundary = lowering.scope.len();
+    let begun = begin_unit(lowering, body.from);
+    let operand = capture_all(lowering, begun.unit, body);
+    lowering.setting = closure_setting(begun.unit, boundary, body);
+    OpenClosure {
+        begun,
+        operand,
+        outer,
+        boundary,
+    }
+}
+
+/// A value that is all that a closure says is what it gives.
+pub(crate) fn give_lone(lowering: &mut Lowering<'_>, value: usize) {
+    let found = expression(lowering, value);
+    lowering.setting.result = Some(found.kind);
+    let value = if found.kind == Kind::Void {
+        NONE
+    } else {
+        found.value
+    };
+    lowering.put(Instruction::Return(value));
+}
+
+/// Refuses a closure with a value that may end without one.
+pub(crate) fn want_end(lowering: &mut Lowering<'_>, body: ClosureBody) {
+    let kind = lowering.setting.result.unwrap_or(Kind::Void);
+    if kind != Kind::Void && !exits(lowering, body.first) {
+        lowering.refuse(Rule::NoReturn, body.to.saturating_sub(1));
+    }
+}
+
+/// A closure ends here. What became of it.
+pub(crate) fn end_closure(
+    lowering: &mut Lowering<'_>,
+    closure: OpenClosure,
+    body: ClosureBody,
+) -> MadeClosure {
+    let kind = lowering.setting.result.unwrap_or(Kind::Void);
+    let is_throwing = lowering.setting.has_thrown;
+    end_unit(lowering, closure.begun, body.to);
+    leave(lowering, closure.boundary);
+    lowering.setting = closure.outer;
+    MadeClosure {
+        callee: Callee::Unit(closure.begun.unit, closure.operand),
+        kind,
+        is_throwing,
     }
 }

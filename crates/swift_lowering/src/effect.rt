@@ -1,69 +1,50 @@
-//! Which expressions do something, or may change what is read beside them.
+//! Statements without a block.
 
-use crate::lowering::Lowering;
-use swift_syntax::{ExprForm, Tree};
+use crate::assignment::{assign, give, give_back, throw, toggle};
+use crate::closure::is_said;
+use crate::print::{print, require};
+use swift_expressions::{Fallback, Lowering, expression, want_wait};
+use swift_syntax::{ExprForm, Into, Stmt, StmtForm};
 
-// Whether an argument of a list does something.
-fn arguments_act(tree: &Tree, first: usize) -> bool {
-    let mut place = first;
-    for _ in 0..tree.arguments.len() {
-        match tree.argument(place) {
-            Some(argument) => {
-                if acts_at(tree, argument.value, DEPTH) {
-                    return true;
-                }
-                place = argument.next;
+// `try? e`, whose value is let go.
+fn ignore_fault(lowering: &mut Lowering<'_>, inner: usize) {
+    want_wait(lowering, inner);
+    let zero = lowering.number(0);
+    lowering.setting.fallback = Fallback::Fault(zero);
+    expression(lowering, inner);
+    lowering.setting.fallback = Fallback::None;
+}
+
+// An expression whose value is let go.
+fn effect(lowering: &mut Lowering<'_>, place: usize) {
+    let expr = lowering.tree.expr(place);
+    match expr.form {
+        ExprForm::TryOptional(inner) => ignore_fault(lowering, inner),
+        ExprForm::Call(_, first) if is_said(lowering, place) => {
+            if lowering.spells(expr.token, "print") {
+                print(lowering, first);
+            } else {
+                require(lowering, first, expr.token);
             }
-            None => return false,
+        }
+        _ => {
+            expression(lowering, place);
         }
     }
-    false
 }
 
-// Whether an expression does something.
-fn acts_at(tree: &Tree, place: usize, depth: u32) -> bool {
-    if depth == 0 {
-        return true;
-    }
-    match tree.expr(place).form {
-        ExprForm::Call(..) | ExprForm::Await(_) | ExprForm::TryOptional(_) => true,
-        ExprForm::Negate(inner) | ExprForm::Not(inner) | ExprForm::Try(inner) => {
-            acts_at(tree, inner, depth - 1)
+/// A statement without a block.
+pub(crate) fn simple(lowering: &mut Lowering<'_>, stmt: Stmt) {
+    match stmt.form {
+        StmtForm::Value(Into::Nothing, place) => effect(lowering, place),
+        StmtForm::Value(into, place) => {
+            let found = expression(lowering, place);
+            give(lowering, into, found, stmt);
         }
-        ExprForm::Binary(_, left, right)
-        | ExprForm::Both(left, right)
-        | ExprForm::Otherwise(left, right) => {
-            acts_at(tree, left, depth - 1) || acts_at(tree, right, depth - 1)
-        }
-        // It becomes a statement.
-        ExprForm::Choice(..) => true,
-        // A field of another actor, or the value of a task.
-        ExprForm::Member(_) => true,
-        ExprForm::Missing
-        | ExprForm::Number(_)
-        | ExprForm::Truth(_)
-        | ExprForm::Text
-        | ExprForm::Name
-        | ExprForm::OwnMember
-        | ExprForm::Case => false,
+        StmtForm::Assign(how, is_own, place) => assign(lowering, how, is_own, place, stmt.token),
+        StmtForm::Toggle(is_own) => toggle(lowering, is_own, stmt.token),
+        StmtForm::Return => give_back(lowering, None, stmt),
+        StmtForm::Throw(place) => throw(lowering, place),
+        _ => {}
     }
-}
-
-/// How deep expressions are looked into.
-pub(crate) const DEPTH: u32 = 400;
-
-/// Whether an expression itself becomes more than a value.
-pub(crate) fn is_acting(lowering: &Lowering<'_>, place: usize) -> bool {
-    acts_at(lowering.tree, place, DEPTH)
-}
-
-/// Whether an expression becomes more than a value: a call, a wait, a choice, or a part that is one. `await x` of an `async let` has the
-/// keyword somewhere on its left, so a name under an `await` counts too.
-pub(crate) fn acts(lowering: &Lowering<'_>, place: usize) -> bool {
-    acts_at(lowering.tree, place, DEPTH) || lowering.setting.is_awaited
-}
-
-/// Whether one of these arguments does.
-pub(crate) fn any_acts(lowering: &Lowering<'_>, first: usize) -> bool {
-    arguments_act(lowering.tree, first)
 }

@@ -1,17 +1,18 @@
 //! Whole files.
 
-use crate::call::has_label;
+ghost use Rattle.std.specs.Prelude.{All, IfSome};
+ghost use Rattle.swift_syntax.specs.Places.{IsBlamedIn, IsTokenOf};
+
+use crate::checks::{check_globals, check_members, check_starts, check_whole};
 use crate::closure::lone_value;
-use crate::code::{Code, Instruction, NONE, UnitKind};
-use crate::effect::DEPTH;
-use crate::lowering::{Kind, Lowering, kind_of, setting_of};
-use crate::naming::{actor_of, instance_at};
 use crate::returns::exits;
-use crate::scope::{declare, leave};
-use crate::statement::{expression, statements};
-use crate::value::{literal, want};
+use crate::statement::body_statements;
 use std::alloc::Global;
-use swift_syntax::{MethodDecl, Refusal, Rule, Token, Tree};
+use swift_expressions::{
+    Code, Instruction, Kind, Lowering, NONE, UnitKind, declare, expression, kind_of, leave,
+    setting_of, want,
+};
+use swift_syntax::{Breach, MethodDecl, Refusal, Rule, Token, Tree};
 
 /// What a file becomes.
 #[derive(Drop)]
@@ -20,85 +21,6 @@ pub struct Lowered {
     pub code: Code,
     /// The first rule that it breaks.
     pub refused: Option<Refusal>,
-}
-
-// Refuses a name that a table has twice, by its places.
-fn refuse_same(lowering: &mut Lowering<'_>, left: usize, right: usize) {
-    if left != right && lowering.are_same(left, right) {
-        lowering.refuse(Rule::NameTwice, left.max(right));
-    }
-}
-
-// Refuses methods and fields of one actor with one name.
-fn check_members(lowering: &mut Lowering<'_>) {
-    let tree = lowering.tree;
-    for method in tree.methods.iter() {
-        for other in tree.methods.iter() {
-            if method.actor == other.actor {
-                refuse_same(lowering, method.name, other.name);
-            }
-        }
-        for field in tree.fields.iter() {
-            if method.actor == field.actor {
-                refuse_same(lowering, method.name, field.name);
-            }
-        }
-    }
-    for field in tree.fields.iter() {
-        for other in tree.fields.iter() {
-            if field.actor == other.actor {
-                refuse_same(lowering, field.name, other.name);
-            }
-        }
-    }
-}
-
-// Refuses a global name that is there twice, or is kept.
-fn check_global(lowering: &mut Lowering<'_>, name: usize) {
-    let tree = lowering.tree;
-    for actor in tree.actors.iter() {
-        refuse_same(lowering, name, actor.name);
-    }
-    for instance in tree.instances.iter() {
-        refuse_same(lowering, name, instance.name);
-    }
-    for constant in tree.constants.iter() {
-        refuse_same(lowering, name, constant.name);
-    }
-    for executor in tree.executors.iter() {
-        refuse_same(lowering, name, executor.name);
-    }
-    for main in tree.mains.iter() {
-        refuse_same(lowering, name, main.name);
-    }
-    if lowering.spells(name, "Task") || lowering.spells(name, "print") {
-        lowering.refuse(Rule::NameTwice, name);
-    }
-}
-
-fn check_globals(lowering: &mut Lowering<'_>) {
-    let tree = lowering.tree;
-    for actor in tree.actors.iter() {
-        check_global(lowering, actor.name);
-    }
-    for instance in tree.instances.iter() {
-        check_global(lowering, instance.name);
-    }
-    for constant in tree.constants.iter() {
-        check_global(lowering, constant.name);
-    }
-    for executor in tree.executors.iter() {
-        check_global(lowering, executor.name);
-    }
-    for main in tree.mains.iter() {
-        check_global(lowering, main.name);
-    }
-    for local in tree.locals.iter() {
-        check_global(lowering, local.of);
-        for other in tree.locals.iter() {
-            refuse_same(lowering, local.name, other.name);
-        }
-    }
 }
 
 // Puts the parameters of a method into scope.
@@ -122,7 +44,7 @@ fn method_body(lowering: &mut Lowering<'_>, method: MethodDecl) {
         lowering.put(Instruction::Return(found.value));
         return;
     }
-    statements(lowering, method.body, DEPTH);
+    body_statements(lowering, method.body);
     if wanted != Kind::Void && !exits(lowering, method.body) {
         lowering.refuse(Rule::NoReturn, method.end);
     }
@@ -144,11 +66,11 @@ fn lower_method(lowering: &mut Lowering<'_>, unit: usize, method: MethodDecl) {
     if let Some(made) = lowering.code.units.get_mut(unit) {
         made.from = from;
         made.to = to;
-        made.has_value = kind_of(method.result) != Kind::Void;
         made.end = method.end;
     }
 }
 
+// The instructions of methods, then those of `main`.
 fn lower_methods(lowering: &mut Lowering<'_>) {
     let tree = lowering.tree;
     for (place, method) in tree.methods.iter().enumerate() {
@@ -166,101 +88,63 @@ fn lower_methods(lowering: &mut Lowering<'_>) {
     }
 }
 
+// A value that has to be Bool, for which nothing has to be done.
+fn lower_test(lowering: &mut Lowering<'_>, test: usize) -> usize {
+    let before = lowering.here();
+    let found = expression(lowering, test);
+    let token = lowering.tree.expr(test).token;
+    want(lowering, found, Kind::Bool, token);
+    if lowering.here() != before {
+        lowering.refuse(Rule::NotYet, token);
+    }
+    found.value
+}
+
 // The values of invariants.
 fn lower_invariants(lowering: &mut Lowering<'_>) {
     let tree = lowering.tree;
     for invariant in tree.invariants.iter() {
         lowering.setting = setting_of(NONE, invariant.actor);
-        let before = lowering.here();
-        let found = expression(lowering, invariant.test);
-        let token = tree.expr(invariant.test).token;
-        want(lowering, found, Kind::Bool, token);
-        if lowering.here() != before {
-            lowering.refuse(Rule::NotYet, token);
-        }
-        if lowering.code.invariants.push(found.value).is_err() {
+        let value = lower_test(lowering, invariant.test);
+        if lowering.code.invariants.push(value).is_err() {
             lowering.refuse(Rule::Memory, 0);
         }
     }
 }
 
-// Refuses arguments of an instance other than the init of its actor wants.
-fn check_instance(lowering: &mut Lowering<'_>, instance: usize) {
-    let Some(declared) = instance_at(lowering, instance) else {
-        return;
-    };
-    let actor = actor_of(lowering, instance);
-    let Some(made) = lowering.tree.actors.get(actor).copied() else {
-        check_executor(lowering, declared.of, declared.arguments);
-        return;
-    };
-    let mut place = declared.arguments;
-    for number in made.first_param..made.params_end {
-        let (Some(argument), Some(param)) = (
-            lowering.tree.argument(place),
-            lowering.tree.params.get(number).copied(),
-        ) else {
-            lowering.refuse(Rule::Arguments, declared.of);
-            return;
-        };
-        if !has_label(lowering, argument.label, param.label) {
-            lowering.refuse(Rule::Arguments, declared.of);
-        }
-        let (_, kind) = literal(lowering, argument.value);
-        if kind != kind_of(param.value_type) {
-            lowering.refuse(Rule::WrongType, declared.of);
-        }
-        place = argument.next;
-    }
-    if place != 0 {
-        lowering.refuse(Rule::Arguments, declared.of);
-    }
-}
-
-// Refuses an instance of what is neither an actor nor an executor.
-fn check_executor(lowering: &mut Lowering<'_>, of: usize, arguments: usize) {
-    let is_declared = lowering
-        .tree
-        .executors
-        .iter()
-        .any(|e| lowering.are_same(e.name, of));
-    if !is_declared {
-        lowering.refuse(Rule::UnknownName, of);
-    }
-    if arguments != 0 {
-        lowering.refuse(Rule::Arguments, of);
-    }
-}
-
-// Refuses actors without an instance, and a file without one `main`.
-fn check_whole(lowering: &mut Lowering<'_>) {
+// The values of expectations, which read what instances have at the end.
+fn lower_expectations(lowering: &mut Lowering<'_>) {
     let tree = lowering.tree;
-    for (place, actor) in tree.actors.iter().enumerate() {
-        let is_made = (0..tree.instances.len()).any(|i| actor_of(lowering, i) == place);
-        if !is_made {
-            lowering.refuse(Rule::ActorValue, actor.name);
+    for expectation in tree.expectations.iter() {
+        lowering.setting = setting_of(NONE, NONE);
+        lowering.setting.is_expectation = true;
+        let value = lower_test(lowering, expectation.test);
+        if lowering.code.expectations.push(value).is_err() {
+            lowering.refuse(Rule::Memory, 0);
         }
-    }
-    for instance in 0..tree.instances.len() {
-        check_instance(lowering, instance);
-    }
-    match tree.mains.as_slice() {
-        [_] => {}
-        [_, second, ..] => lowering.refuse(Rule::NameTwice, second.name),
-        [] => lowering.refuse(Rule::Unexpected, lowering.tokens.len()),
     }
 }
 
-/// The instructions of a file, or the first rule that it breaks: by names and types, in the order in which they are looked at.
-pub fn lower(alloc: Global, text: &[u8], tokens: &[Token], tree: &Tree) -> Lowered {
+/// The instructions of a file with these tokens and this tree, or the first rule that it breaks: by names and types, in the order in which
+/// they are looked at.
+pub fn lower(alloc: Global, text: &[u8], tokens: &[Token], tree: &Tree) -> Lowered
+    requires { All (IsTokenOf text.now) tokens.now }
+    ensures blamed { IfSome result.refused (IsBlamedIn text.now) }
+{
+    let (code, breach) = lower_all(alloc, text, tokens, tree);
+    let refused = breach.map(|b| b.refusal(text, tokens));
+    Lowered { code, refused }
+}
+
+// The instructions of a file, and the first rule that it breaks.
+fn lower_all(alloc: Global, text: &[u8], tokens: &[Token], tree: &Tree) -> (Code, Option<Breach>) {
     let mut lowering = Lowering::new(alloc, text, tokens, tree);
     check_globals(&mut lowering);
     check_members(&mut lowering);
+    check_starts(&mut lowering);
     lower_methods(&mut lowering);
     lower_invariants(&mut lowering);
+    lower_expectations(&mut lowering);
     check_whole(&mut lowering);
-    Lowered {
-        code: lowering.code,
-        refused: lowering.refused,
-    }
+    (lowering.code, lowering.refused)
 }

@@ -1,38 +1,29 @@
-//! From the tree of a Swift file to instructions, which have the forms of scripts: names are places, values are simple, and each wait stands
-//! by itself.
+//! From the tree of a Swift file to instructions: statements, closures and waits, over the expressions of swift_expressions.
 #![tactic(auto)]
 
-// Calls of methods.
-mod call;
+// Where values go.
+mod assignment;
+// What closures capture.
+mod capture;
 // What a `do` catches.
 mod catching;
-// What closures capture, and the methods that they become.
+// What has to hold of a file as a whole.
+mod checks;
+// Closures, and the methods that they become.
 mod closure;
-// The instructions.
-mod code;
-// Which expressions do something.
+// Statements without a block.
 mod effect;
 // Whole files.
 mod file;
-// A lowering under way.
-mod lowering;
-// Names.
-mod naming;
+// What stands at the head of a loop.
+mod looping;
+// What `print`, `precondition` and `assert` say.
+mod print;
 // Which statements return.
 mod returns;
-// What stands in scope.
-mod scope;
-// Statements.
+// Statements with blocks.
 mod statement;
 // Tasks, groups and bindings.
 mod tasks;
-// Expressions.
-mod value;
-// What is waited for.
-mod waits;
 
-pub use code::{
-    Callee, Code, Instruction, NONE, Operand, PrintedField, Target, Unit, UnitKind, Value,
-    Variable, Wait,
-};
 pub use file::{Lowered, lower};

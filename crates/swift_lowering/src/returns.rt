@@ -1,7 +1,6 @@
 //! Which statements return.
 
-use crate::effect::DEPTH;
-use crate::lowering::Lowering;
+use swift_expressions::{DEPTH, Lowering};
 use swift_syntax::{ExprForm, Into, Stmt, StmtForm, Tree};
 
 // Whether a statement of a block may return out of the unit.

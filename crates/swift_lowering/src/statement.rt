@@ -1,375 +1,39 @@
-//! Statements.
+//! Statements with blocks.
 
-use crate::catching::{Held, begin_caught, begin_held};
+use crate::assignment::{end_caught, give};
+use crate::catching::begin_caught;
 use crate::closure::{
-    ClosureBody, MadeClosure, begin_unit, capture_all, closure_setting, direct, end_unit, is_said,
-    lone_value,
+    ClosureBody, MadeClosure, begin_closure, direct, end_closure, give_lone, lone_value, want_end,
 };
-use crate::code::{Callee, Instruction, NONE, PrintedField, UnitKind, Value};
-use crate::effect::{DEPTH, is_acting};
-use crate::lowering::{Fallback, Kind, Lowering, Returns, Typed, kind_of};
-use crate::naming::{field_at, field_named, local_named};
-use crate::returns::{exits, may_return};
-use crate::scope::{Standing, declare, leave, standing_at};
+use crate::effect::simple;
+use crate::looping::{begin_count, test_of};
+use crate::returns::{exits, may_return, stmt_may_return};
 use crate::tasks::{
-    add_task, begin_child, begin_group, begin_result, begin_results, child_body, end_child,
-    enter_closure, give_result, make_task, result_of, task_body, want_cover, want_type,
+    add_task, begin_bind, begin_child, begin_group, begin_result, begin_results, child_body,
+    end_child, enter_closure, give_result, make_task, result_of, task_body, want_cover,
 };
-use crate::value::{field_kind, local_kind, typed, value, want, want_wait};
-use swift_syntax::{Assigning, ExprForm, Into, Rule, Stmt, StmtForm};
-use swift_types::Operator;
-
-/// The value of an expression of a statement.
-pub(crate) fn expression(lowering: &mut Lowering<'_>, place: usize) -> Typed {
-    value(lowering, place, DEPTH)
-}
-
-// The values that `main` prints become fields, when all of them are computed; elsewhere they are only computed.
-fn print(lowering: &mut Lowering<'_>, first: usize) {
-    let mut place = first;
-    let mut values = NONE;
-    let mut last = NONE;
-    for _ in 0..lowering.tree.arguments.len() {
-        let Some(argument) = lowering.tree.argument(place) else {
-            break;
-        };
-        place = argument.next;
-        if matches!(lowering.tree.expr(argument.value).form, ExprForm::Text) {
-            continue;
-        }
-        last = printed(lowering, argument.value, last);
-        if values == NONE {
-            values = last;
-        }
-    }
-    if is_main(lowering) {
-        print_values(lowering, first, values);
-    }
-}
-
-fn is_main(lowering: &Lowering<'_>) -> bool {
-    match lowering.code.units.get(lowering.setting.unit) {
-        Some(unit) => matches!(unit.kind, UnitKind::Main),
-        None => false,
-    }
-}
-
-// A value that is printed, as an operand after others. Its place.
-fn printed(lowering: &mut Lowering<'_>, place: usize, last: usize) -> usize {
-    let token = lowering.tree.expr(place).token;
-    let found = expression(lowering, place);
-    if found.kind == Kind::Void || found.kind == Kind::Urgency {
-        lowering.refuse(Rule::WrongType, token);
-    }
-    let kept = crate::value::keep(lowering, found);
-    lowering.operand(kept.value, last)
-}
-
-// Prints the values of operands, told by a token.
-fn print_values(lowering: &mut Lowering<'_>, token: usize, first: usize) {
-    let mut place = first;
-    for _ in 0..lowering.code.operands.len() {
-        let Some(operand) = lowering.code.operands.get(place).copied() else {
-            return;
-        };
-        print_value(lowering, operand.value, token);
-        place = operand.next;
-    }
-}
-
-fn print_value(lowering: &mut Lowering<'_>, value: usize, token: usize) {
-    let place = lowering.code.printed.len();
-    if lowering.code.printed.push(PrintedField { token }).is_err() {
-        lowering.refuse(Rule::Memory, 0);
-    }
-    lowering.put(Instruction::Print(place, value));
-}
-
-// `precondition` and `assert`.
-fn require(lowering: &mut Lowering<'_>, first: usize, token: usize) {
-    let Some(argument) = lowering.tree.argument(first) else {
-        lowering.refuse(Rule::Arguments, token);
-        return;
-    };
-    let found = expression(lowering, argument.value);
-    want(lowering, found, Kind::Bool, token);
-    lowering.put(Instruction::Require(found.value));
-}
-
-// `try? e`, whose value is let go.
-fn ignore_fault(lowering: &mut Lowering<'_>, inner: usize) {
-    want_wait(lowering, inner);
-    let zero = lowering.number(0);
-    lowering.setting.fallback = Fallback::Fault(zero);
-    expression(lowering, inner);
-    lowering.setting.fallback = Fallback::None;
-}
-
-// An expression whose value is let go.
-fn effect(lowering: &mut Lowering<'_>, place: usize) {
-    let expr = lowering.tree.expr(place);
-    match expr.form {
-        ExprForm::TryOptional(inner) => ignore_fault(lowering, inner),
-        ExprForm::Call(_, first) => {
-            if is_said(lowering, place) {
-                if lowering.spells(expr.token, "print") {
-                    print(lowering, first);
-                } else {
-                    require(lowering, first, expr.token);
-                }
-            } else {
-                expression(lowering, place);
-            }
-        }
-        _ => {
-            expression(lowering, place);
-        }
-    }
-}
-
-// A name for a value.
-fn define(
-    lowering: &mut Lowering<'_>,
-    name: usize,
-    wanted: Option<Kind>,
-    found: Typed,
-    is_var: bool,
-) {
-    want_type(lowering, found, wanted, name);
-    if found.kind == Kind::Void || found.kind == Kind::Urgency {
-        lowering.refuse(Rule::WrongType, name);
-    }
-    refuse_twice(lowering, name);
-    let mut variable = NONE;
-    if let Value::Variable(place) = lowering.value_at(found.value) {
-        if lowering.name_variable(place, name) {
-            variable = place;
-        }
-    }
-    if variable == NONE {
-        variable = lowering.variable(name, false);
-        lowering.put(Instruction::Let(variable, found.value));
-    }
-    declare(lowering, name, variable, found.kind, is_var);
-}
-
-// Whether a block has a name already.
-fn has_name(lowering: &Lowering<'_>, name: usize) -> bool {
-    let start = lowering.setting.block_start;
-    for (place, binding) in lowering.scope.iter().enumerate() {
-        if place >= start && lowering.are_same(binding.token, name) {
-            return true;
-        }
-    }
-    false
-}
-
-// Refuses a name that its block has already.
-fn refuse_twice(lowering: &mut Lowering<'_>, name: usize) {
-    if has_name(lowering, name) {
-        lowering.refuse(Rule::NameTwice, name);
-    }
-}
-
-// Gives a name a value.
-fn set(lowering: &mut Lowering<'_>, name: usize, is_own: bool, found: Typed) {
-    if !is_own {
-        if let Some(standing) = standing_at(lowering, name) {
-            if standing.standing != Standing::Variable {
-                lowering.refuse(Rule::Assigned, name);
-            }
-            want(lowering, found, standing.kind, name);
-            lowering.put(Instruction::Set(standing.variable, found.value));
-            return;
-        }
-    }
-    let actor = lowering.setting.actor;
-    let Some(field) = field_named(lowering, actor, name) else {
-        lowering.refuse(Rule::UnknownName, name);
-        return;
-    };
-    if !field_at(lowering, field).is_some_and(|f| f.is_var) {
-        lowering.refuse(Rule::Assigned, name);
-    }
-    let kind = field_kind(lowering, field);
-    want(lowering, found, kind, name);
-    lowering.put(Instruction::SetField(field, found.value));
-}
-
-// What a name stands for that is about to be changed.
-fn current(lowering: &mut Lowering<'_>, name: usize, is_own: bool) -> Typed {
-    if !is_own {
-        if let Some(found) = standing_at(lowering, name) {
-            return typed(lowering, Value::Variable(found.variable), found.kind);
-        }
-    }
-    let actor = lowering.setting.actor;
-    match field_named(lowering, actor, name) {
-        Some(field) => {
-            let kind = field_kind(lowering, field);
-            typed(lowering, Value::Field(field), kind)
-        }
-        None => {
-            lowering.refuse(Rule::UnknownName, name);
-            typed(lowering, Value::Number(0), Kind::Int)
-        }
-    }
-}
-
-// An assignment. `x += e` reads x after e.
-fn assign(lowering: &mut Lowering<'_>, how: Assigning, is_own: bool, place: usize, name: usize) {
-    let found = expression(lowering, place);
-    let operator = match how {
-        Assigning::Set => {
-            set(lowering, name, is_own, found);
-            return;
-        }
-        Assigning::Add => Operator::Plus,
-        Assigning::Subtract => Operator::Minus,
-        Assigning::Multiply => Operator::Times,
-    };
-    want(lowering, found, Kind::Int, name);
-    let before = current(lowering, name, is_own);
-    let after = Value::Binary(operator, before.value, found.value);
-    let after = typed(lowering, after, Kind::Int);
-    set(lowering, name, is_own, after);
-}
-
-fn toggle(lowering: &mut Lowering<'_>, is_own: bool, name: usize) {
-    let before = current(lowering, name, is_own);
-    want(lowering, before, Kind::Bool, name);
-    let after = typed(lowering, Value::Not(before.value), Kind::Bool);
-    set(lowering, name, is_own, after);
-}
-
-// A value that is returned.
-fn give_back(lowering: &mut Lowering<'_>, found: Option<Typed>, stmt: Stmt) {
-    let kind = found.map_or(Kind::Void, |f| f.kind);
-    match lowering.setting.result {
-        Some(wanted) => {
-            if wanted != kind {
-                lowering.refuse(Rule::WrongType, stmt.token);
-            }
-        }
-        None => lowering.setting.result = Some(kind),
-    }
-    if let Returns::Closure(_, blocks) = lowering.setting.returns {
-        if stmt.next != 0 || lowering.setting.blocks != blocks {
-            lowering.refuse(Rule::NotYet, stmt.token);
-        }
-        if let Some(found) = found {
-            give_result(lowering, found);
-        }
-        return;
-    }
-    if lowering.setting.groups > 0 {
-        lowering.return_inside();
-    }
-    match found {
-        Some(found) if kind != Kind::Void => lowering.put(Instruction::Return(found.value)),
-        _ => lowering.put(Instruction::Return(NONE)),
-    }
-}
-
-/// Gives a value to where it goes.
-fn give(lowering: &mut Lowering<'_>, into: Into, found: Typed, stmt: Stmt) {
-    match into {
-        Into::Nothing => {}
-        Into::Let(name, wanted) => define(lowering, name, wanted.map(kind_of), found, false),
-        Into::Var(name, wanted) => define(lowering, name, wanted.map(kind_of), found, true),
-        Into::Assign(name) => set(lowering, name, false, found),
-        Into::Return => give_back(lowering, Some(found), stmt),
-    }
-}
-
-fn throw(lowering: &mut Lowering<'_>, place: usize) {
-    let expr = lowering.tree.expr(place);
-    lowering.setting.has_thrown = true;
-    if !lowering.setting.is_throwing {
-        lowering.refuse(Rule::Try, expr.token);
-    }
-    let number = match expr.form {
-        ExprForm::Member(of) => {
-            let found = lowering.tree.cases.iter().position(|c| lowering.are_same(c.of, of)
-                && lowering.are_same(c.name, expr.token));
-            match found {
-                Some(case) => lowering.tree.cases.get(case).map_or(0, |c| c.place),
-                None => {
-                    lowering.refuse(Rule::UnknownName, expr.token);
-                    0
-                }
-            }
-        }
-        ExprForm::Call(_, 0) => {
-            if !lowering.spells(expr.token, "CancellationError") {
-                lowering.refuse(Rule::Outside, expr.token);
-            }
-            let value = lowering.number(-1);
-            lowering.put(Instruction::Throw(value));
-            return;
-        }
-        _ => {
-            lowering.refuse(Rule::Outside, expr.token);
-            0
-        }
-    };
-    let value = lowering.number(i64::try_from(number).unwrap_or(0));
-    lowering.put(Instruction::Throw(value));
-}
-
-// Gives what came in a `do` to where it goes.
-fn end_caught(lowering: &mut Lowering<'_>, held: Option<Held>) {
-    let Some(held) = held else {
-        return;
-    };
-    begin_held(lowering, held);
-    match held.stmt.form {
-        StmtForm::Assign(_, is_own, _) => set(lowering, held.stmt.token, is_own, held.found),
-        StmtForm::Value(into, _) => give(lowering, into, held.found, held.stmt),
-        _ => {}
-    }
-    lowering.put(Instruction::End);
-}
+use swift_expressions::{
+    DEPTH, Instruction, Kind, Lowering, NONE, Returns, Value, count_up, declare, expression,
+    is_acting, kind_of, leave,
+};
+use swift_syntax::{Rule, Stmt, StmtForm, ValueType};
 
 // A closure as the method of a task.
 #[cycle(statement)]
 fn closure(lowering: &mut Lowering<'_>, body: ClosureBody, depth: u32) -> MadeClosure {
-    if depth == 0 {
-        lowering.refuse(Rule::TooLarge, body.from);
-    }
     if let Some(found) = direct(lowering, body) {
         return found;
     }
-    let outer = lowering.setting;
-    let boundary = lowering.scope.len();
-    let (unit, skip) = begin_unit(lowering, body);
-    let operand = capture_all(lowering, unit, body);
-    lowering.setting = closure_setting(unit, boundary, body);
-    if body.value != 0 {
-        let found = expression(lowering, body.value);
-        lowering.setting.result = Some(found.kind);
-        let value = if found.kind == Kind::Void {
-            NONE
-        } else {
-            found.value
-        };
-        lowering.put(Instruction::Return(value));
-    } else if depth > 0 {
+    let begun = begin_closure(lowering, body);
+    if depth == 0 {
+        lowering.refuse(Rule::TooLarge, body.from);
+    } else if body.value == 0 {
         statements(lowering, body.first, depth - 1);
+        want_end(lowering, body);
+    } else {
+        give_lone(lowering, body.value);
     }
-    let kind = lowering.setting.result.unwrap_or(Kind::Void);
-    if kind != Kind::Void && body.value == 0 && !exits(lowering, body.first) {
-        lowering.refuse(Rule::NoReturn, body.to.saturating_sub(1));
-    }
-    let is_throwing = lowering.setting.has_thrown;
-    end_unit(lowering, unit, skip, body);
-    leave(lowering, boundary);
-    lowering.setting = outer;
-    MadeClosure {
-        callee: Callee::Unit(unit, operand),
-        kind,
-        is_throwing,
-    }
+    end_closure(lowering, begun, body)
 }
 
 // A block, in which names of its own stand.
@@ -387,13 +51,6 @@ fn block(lowering: &mut Lowering<'_>, first: usize, depth: u32) {
     lowering.setting.blocks = lowering.setting.blocks.saturating_sub(1);
     lowering.setting.block_start = outer;
     leave(lowering, start);
-}
-
-// A test of a statement.
-fn test_of(lowering: &mut Lowering<'_>, test: usize, token: usize) -> usize {
-    let found = expression(lowering, test);
-    want(lowering, found, Kind::Bool, token);
-    found.value
 }
 
 #[cycle(statement)]
@@ -465,52 +122,6 @@ fn loop_while(lowering: &mut Lowering<'_>, test: usize, body: usize, token: usiz
     lowering.put(Instruction::End);
 }
 
-// Traps where a range ends before it begins, as Swift does.
-fn trap_below(lowering: &mut Lowering<'_>, from: Typed, to: Typed) {
-    if let Value::Number(first) = lowering.value_at(from.value) {
-        if let Value::Number(last) = lowering.value_at(to.value) {
-            if first <= last {
-                return;
-            }
-        }
-    }
-    let test = lowering.value(Value::Binary(Operator::Greater, from.value, to.value));
-    lowering.put(Instruction::If(test));
-    let most = lowering.number(i64::MAX);
-    let one = lowering.number(1);
-    let over = lowering.value(Value::Binary(Operator::Plus, most, one));
-    let variable = lowering.temporary();
-    lowering.put(Instruction::Let(variable, over));
-    lowering.put(Instruction::End);
-}
-
-// The counter of a loop, and the end that is computed once. The place of the counter.
-fn begin_count(
-    lowering: &mut Lowering<'_>,
-    from: usize,
-    to: usize,
-    is_closed: bool,
-    token: usize,
-) -> usize {
-    let first = expression(lowering, from);
-    want(lowering, first, Kind::Int, token);
-    let counter = lowering.temporary();
-    lowering.put(Instruction::Let(counter, first.value));
-    let last = expression(lowering, to);
-    want(lowering, last, Kind::Int, token);
-    let end = crate::value::keep(lowering, last);
-    let here = typed(lowering, Value::Variable(counter), Kind::Int);
-    trap_below(lowering, first, end);
-    let operator = if is_closed {
-        Operator::AtMost
-    } else {
-        Operator::Less
-    };
-    let test = lowering.value(Value::Binary(operator, here.value, end.value));
-    lowering.put(Instruction::While(test));
-    counter
-}
-
 // A `for` over numbers.
 #[cycle(statement)]
 fn loop_for(lowering: &mut Lowering<'_>, counter: usize, body: usize, name: usize, depth: u32) {
@@ -524,7 +135,7 @@ fn loop_for(lowering: &mut Lowering<'_>, counter: usize, body: usize, name: usiz
         declare(lowering, name, counter, Kind::Int, false);
     }
     repeated(lowering, body, depth - 1);
-    crate::waits::count_up(lowering, counter);
+    count_up(lowering, counter);
     lowering.put(Instruction::End);
     leave(lowering, start);
 }
@@ -588,61 +199,52 @@ fn closed(lowering: &mut Lowering<'_>, stmt: Stmt, depth: u32) {
     }
 }
 
-// Binds a task local.
-fn begin_bind(lowering: &mut Lowering<'_>, of: usize, name: usize, given: usize) {
-    let found = expression(lowering, given);
-    match local_named(lowering, of, name) {
-        Some(local) => {
-            let kind = local_kind(lowering, local);
-            want(lowering, found, kind, name);
-            lowering.put(Instruction::Bind(local, found.value));
-        }
-        None => lowering.refuse(Rule::UnknownName, name),
+// A `guard`.
+#[cycle(statement)]
+fn guarded(lowering: &mut Lowering<'_>, test: usize, body: usize, token: usize, depth: u32) {
+    if depth == 0 {
+        lowering.refuse(Rule::TooLarge, token);
+        return;
     }
+    if !exits(lowering, body) {
+        lowering.refuse(Rule::NoReturn, token);
+    }
+    let held = test_of(lowering, test, token);
+    let failed = lowering.value(Value::Not(held));
+    lowering.put(Instruction::If(failed));
+    block(lowering, body, depth - 1);
+    lowering.put(Instruction::End);
 }
 
-// A statement that is no `async let`.
+// A loop over the results of a group.
 #[cycle(statement)]
-fn statement(lowering: &mut Lowering<'_>, stmt: Stmt, depth: u32) {
+fn loop_results(
+    lowering: &mut Lowering<'_>,
+    name: usize,
+    group: usize,
+    is_tried: bool,
+    body: usize,
+    depth: u32,
+) {
+    if depth == 0 {
+        lowering.refuse(Rule::TooLarge, name);
+        return;
+    }
+    let start = lowering.scope.len();
+    begin_results(lowering, name, group, is_tried);
+    repeated(lowering, body, depth - 1);
+    lowering.put(Instruction::End);
+    leave(lowering, start);
+}
+
+// A task, or a child of a group.
+#[cycle(statement)]
+fn tasked(lowering: &mut Lowering<'_>, stmt: Stmt, depth: u32) {
     if depth == 0 {
         lowering.refuse(Rule::TooLarge, stmt.token);
         return;
     }
     match stmt.form {
-        StmtForm::Value(Into::Nothing, place) => effect(lowering, place),
-        StmtForm::Value(into, place) => {
-            let found = expression(lowering, place);
-            give(lowering, into, found, stmt);
-        }
-        StmtForm::Assign(how, is_own, place) => assign(lowering, how, is_own, place, stmt.token),
-        StmtForm::Toggle(is_own) => toggle(lowering, is_own, stmt.token),
-        StmtForm::Return => give_back(lowering, None, stmt),
-        StmtForm::Throw(place) => throw(lowering, place),
-        StmtForm::If(test, held, failed) => {
-            conditional(lowering, test, held, failed, stmt.token, depth - 1);
-        }
-        StmtForm::Guard(test, body) => {
-            if !exits(lowering, body) {
-                lowering.refuse(Rule::NoReturn, stmt.token);
-            }
-            let held = test_of(lowering, test, stmt.token);
-            let failed = lowering.value(Value::Not(held));
-            lowering.put(Instruction::If(failed));
-            block(lowering, body, depth - 1);
-            lowering.put(Instruction::End);
-        }
-        StmtForm::While(test, body) => loop_while(lowering, test, body, stmt.token, depth - 1),
-        StmtForm::For(from, to, is_closed, body) => {
-            let counter = begin_count(lowering, from, to, is_closed, stmt.token);
-            loop_for(lowering, counter, body, stmt.token, depth - 1);
-        }
-        StmtForm::ForAwait(group, is_tried, body) | StmtForm::WhileNext(group, is_tried, body) => {
-            let start = lowering.scope.len();
-            begin_results(lowering, stmt.token, group, is_tried);
-            repeated(lowering, body, depth - 1);
-            lowering.put(Instruction::End);
-            leave(lowering, start);
-        }
         StmtForm::Task(name, form) => {
             let body = task_body(lowering, stmt, form, false);
             let made = closure(lowering, body, depth - 1);
@@ -653,20 +255,71 @@ fn statement(lowering: &mut Lowering<'_>, stmt: Stmt, depth: u32) {
             let made = closure(lowering, body, depth - 1);
             add_task(lowering, stmt, is_only, form, made);
         }
+        _ => {}
+    }
+}
+
+// A statement that is no `async let`.
+#[cycle(statement)]
+fn statement(lowering: &mut Lowering<'_>, stmt: Stmt, depth: u32) {
+    if depth == 0 {
+        lowering.refuse(Rule::TooLarge, stmt.token);
+        return;
+    }
+    let token = stmt.token;
+    match stmt.form {
+        StmtForm::If(test, held, failed) => {
+            conditional(lowering, test, held, failed, token, depth - 1);
+        }
+        StmtForm::Guard(test, body) => guarded(lowering, test, body, token, depth - 1),
+        StmtForm::While(test, body) => loop_while(lowering, test, body, token, depth - 1),
+        StmtForm::For(from, to, is_closed, body) => {
+            let counter = begin_count(lowering, from, to, is_closed, token);
+            loop_for(lowering, counter, body, token, depth - 1);
+        }
+        StmtForm::ForAwait(group, is_tried, body) | StmtForm::WhileNext(group, is_tried, body) => {
+            loop_results(lowering, token, group, is_tried, body, depth - 1);
+        }
+        StmtForm::Task(..) | StmtForm::AddTask(..) => tasked(lowering, stmt, depth - 1),
         StmtForm::Group(..) | StmtForm::Bind(..) => closed(lowering, stmt, depth - 1),
         StmtForm::DoCatch(body, caught) => {
-            let held = begin_caught(lowering, body, stmt.token);
+            let held = begin_caught(lowering, body, token);
             block(lowering, caught, depth - 1);
             end_caught(lowering, held);
         }
-        StmtForm::AsyncLet(..) => {}
+        _ => simple(lowering, stmt),
     }
+}
+
+// The child of an `async let`, in whose group the rest of its block stands. Its variable.
+#[cycle(statement)]
+fn child(
+    lowering: &mut Lowering<'_>,
+    stmt: Stmt,
+    wanted: Option<ValueType>,
+    given: usize,
+    depth: u32,
+) -> usize {
+    if depth == 0 {
+        lowering.refuse(Rule::TooLarge, stmt.token);
+        return NONE;
+    }
+    if !lowering.setting.is_async {
+        lowering.refuse(Rule::Await, stmt.token);
+    }
+    let made = closure(lowering, child_body(stmt, given), depth - 1);
+    if let Some(wanted) = wanted {
+        if made.kind != kind_of(wanted) {
+            lowering.refuse(Rule::WrongType, stmt.token);
+        }
+    }
+    begin_child(lowering, stmt, made)
 }
 
 // The statements of a block from a place on. What follows an `async let` stands in its group, and what follows something that may return
 // is done where it did not.
 #[cycle(statement)]
-pub(crate) fn statements(lowering: &mut Lowering<'_>, first: usize, depth: u32) {
+fn statements(lowering: &mut Lowering<'_>, first: usize, depth: u32) {
     if depth == 0 {
         lowering.refuse(Rule::TooLarge, 0);
         return;
@@ -678,16 +331,7 @@ pub(crate) fn statements(lowering: &mut Lowering<'_>, first: usize, depth: u32) 
         };
         place = stmt.next;
         if let StmtForm::AsyncLet(wanted, given) = stmt.form {
-            if !lowering.setting.is_async {
-                lowering.refuse(Rule::Await, stmt.token);
-            }
-            let made = closure(lowering, child_body(stmt, given), depth - 1);
-            if let Some(wanted) = wanted {
-                if made.kind != kind_of(wanted) {
-                    lowering.refuse(Rule::WrongType, stmt.token);
-                }
-            }
-            let variable = begin_child(lowering, stmt, made);
+            let variable = child(lowering, stmt, wanted, given, depth - 1);
             statements(lowering, place, depth - 1);
             end_child(lowering, variable);
             return;
@@ -706,7 +350,12 @@ pub(crate) fn statements(lowering: &mut Lowering<'_>, first: usize, depth: u32) 
 // Whether a statement may return out of the unit.
 fn returns_early(lowering: &Lowering<'_>, stmt: Stmt) -> bool {
     match lowering.setting.returns {
-        Returns::Unit => crate::returns::stmt_may_return(lowering, stmt),
+        Returns::Unit => stmt_may_return(lowering, stmt),
         Returns::Closure(..) => false,
     }
+}
+
+/// The statements of a body.
+pub(crate) fn body_statements(lowering: &mut Lowering<'_>, first: usize) {
+    statements(lowering, first, DEPTH);
 }

@@ -1,14 +1,13 @@
 //! Tasks, groups and bindings, beside their closures.
 
 use crate::closure::{ClosureBody, MadeClosure, lone_value};
-use crate::code::{Instruction, NONE, Target, Value, Wait};
-use crate::lowering::{Kind, Lowering, Returns, Typed};
-use crate::scope::{
-    Binding, Standing, binding_at, declare, declare_as, find, mark_partial, mark_used,
+use swift_expressions::{
+    Binding, Instruction, Kind, Lowering, NONE, Returns, Standing, Target, Typed, Value, Wait,
+    binding_at, count_down, count_up, declare, declare_as, expression, find, has_child, local_kind,
+    local_named, mark_partial, mark_used, priority_named, want, with_kind,
 };
-use crate::value::{priority_number, typed, want};
-use crate::waits::{count_down, count_up, has_child};
 use swift_syntax::{Into, Rule, Stmt, TaskForm};
+use swift_types::Priority;
 
 /// The closure of a task.
 pub(crate) fn task_body(
@@ -43,16 +42,12 @@ pub(crate) fn child_body(stmt: Stmt, value: usize) -> ClosureBody {
     }
 }
 
-// The priority that a token names, or `NONE` where there is none.
-fn priority(lowering: &mut Lowering<'_>, token: usize) -> usize {
+// The priority that a token names; none where the token is 0.
+fn priority(lowering: &mut Lowering<'_>, token: usize) -> Option<Priority> {
     if token == 0 {
-        return NONE;
-    }
-    match priority_number(lowering, token) {
-        0 => 0,
-        1 => 1,
-        2 => 2,
-        _ => 3,
+        None
+    } else {
+        Some(priority_named(lowering, token))
     }
 }
 
@@ -130,7 +125,7 @@ pub(crate) fn add_task(
 pub(crate) fn begin_child(lowering: &mut Lowering<'_>, stmt: Stmt, made: MadeClosure) -> usize {
     let variable = lowering.variable(stmt.token, false);
     lowering.put(Instruction::Group(variable));
-    lowering.put(Instruction::Add(variable, false, made.callee, NONE));
+    lowering.put(Instruction::Add(variable, false, made.callee, None));
     declare_as(
         lowering,
         stmt.token,
@@ -196,7 +191,7 @@ pub(crate) fn result_of(
             lowering.refuse(Rule::WrongType, token);
             None
         }
-        Some(kind) => Some(typed(lowering, Value::Variable(variable), kind)),
+        Some(kind) => Some(with_kind(lowering, Value::Variable(variable), kind)),
     }
 }
 
@@ -222,6 +217,19 @@ pub(crate) fn begin_group(
         count,
     );
     variable
+}
+
+/// Binds a task local.
+pub(crate) fn begin_bind(lowering: &mut Lowering<'_>, of: usize, name: usize, given: usize) {
+    let found = expression(lowering, given);
+    match local_named(lowering, of, name) {
+        Some(local) => {
+            let kind = local_kind(lowering, local);
+            want(lowering, found, kind, name);
+            lowering.put(Instruction::Bind(local, found.value));
+        }
+        None => lowering.refuse(Rule::UnknownName, name),
+    }
 }
 
 /// Begins a loop over the results of a group, with the name of each.
@@ -268,17 +276,5 @@ pub(crate) fn want_cover(lowering: &mut Lowering<'_>, stmt: Stmt, is_throwing: b
     }
     if is_throwing && (!stmt.is_tried || !lowering.setting.is_throwing) {
         lowering.refuse(Rule::Try, stmt.token);
-    }
-}
-
-/// Refuses a value of another type.
-pub(crate) fn want_type(
-    lowering: &mut Lowering<'_>,
-    found: Typed,
-    wanted: Option<Kind>,
-    token: usize,
-) {
-    if let Some(kind) = wanted {
-        want(lowering, found, kind, token);
     }
 }

@@ -1,13 +1,13 @@
 //! What a file declares.
 
 use crate::actor::{actor, literal, main_method};
-use crate::expression::call_arguments;
+use crate::expression::{call_arguments, expression};
 use crate::reader::Reader;
 use crate::rule::Rule;
 use crate::sign::Sign;
 use crate::token::TokenKind;
 use crate::tree::{
-    CaseDecl, ConstantDecl, ExecutorDecl, ExecutorKindDecl, InstanceDecl, LocalDecl,
+    CaseDecl, ConstantDecl, ExecutorDecl, ExecutorKindDecl, ExpectDecl, InstanceDecl, LocalDecl,
 };
 use crate::word::Word;
 
@@ -221,12 +221,25 @@ fn main_type(reader: &mut Reader<'_>) {
     reader.sign(Sign::CloseBrace);
 }
 
+// What is expected of the end of each run, from the comment that says so on.
+fn expect(reader: &mut Reader<'_>) {
+    let token = reader.take();
+    let test = expression(reader);
+    let grown = reader
+        .tree
+        .expectations
+        .push(ExpectDecl { token, test })
+        .is_ok();
+    reader.note(grown);
+}
+
 /// A declaration.
 pub(crate) fn declaration(reader: &mut Reader<'_>) {
     match reader.here().kind {
         TokenKind::Key(Word::Import) => import(reader),
         TokenKind::Key(Word::Enum) => enumeration(reader),
         TokenKind::Executor => executor(reader),
+        TokenKind::Expect => expect(reader),
         TokenKind::Key(Word::Let) => global(reader),
         TokenKind::Sign(Sign::At) => main_type(reader),
         TokenKind::Key(Word::Actor) => actor(reader),

@@ -192,39 +192,29 @@ fn named(reader: &mut Reader<'_>, depth: u32) -> usize {
     called(reader, depth - 1, Receiver::Nobody, ExprForm::Name, first)
 }
 
+// An expression of one token.
+fn take_as(reader: &mut Reader<'_>, form: ExprForm) -> usize {
+    let place = reader.take();
+    reader.expr(form, place)
+}
+
+// An operand without a prefix.
 #[cycle(expression)]
 fn atom(reader: &mut Reader<'_>, depth: u32) -> usize {
     if depth == 0 {
         return missing(reader, Rule::TooLarge);
     }
     match reader.here().kind {
-        TokenKind::Number(value) => {
-            let place = reader.take();
-            reader.expr(ExprForm::Number(value), place)
-        }
-        TokenKind::Text => {
-            let place = reader.take();
-            reader.expr(ExprForm::Text, place)
-        }
-        TokenKind::Key(Word::True) => {
-            let place = reader.take();
-            reader.expr(ExprForm::Truth(true), place)
-        }
-        TokenKind::Key(Word::False) => {
-            let place = reader.take();
-            reader.expr(ExprForm::Truth(false), place)
-        }
+        TokenKind::Number(value) => take_as(reader, ExprForm::Number(value)),
+        TokenKind::Text => take_as(reader, ExprForm::Text),
+        TokenKind::Key(Word::True) => take_as(reader, ExprForm::Truth(true)),
+        TokenKind::Key(Word::False) => take_as(reader, ExprForm::Truth(false)),
         TokenKind::Key(Word::Own) => {
             reader.take();
             reader.sign(Sign::Dot);
             let member = reader.name();
-            called(
-                reader,
-                depth - 1,
-                Receiver::Own,
-                ExprForm::OwnMember,
-                member,
-            )
+            let alone = ExprForm::OwnMember;
+            called(reader, depth - 1, Receiver::Own, alone, member)
         }
         TokenKind::Sign(Sign::Dot) => {
             reader.take();

@@ -121,6 +121,9 @@ fn line_comment(bytes: &[u8]) -> (Piece, &[u8])
     if let Some(found) = marker(said, b"executor:", TokenKind::Executor) {
         return found;
     }
+    if let Some(found) = marker(said, b"expect:", TokenKind::Expect) {
+        return found;
+    }
     let (_, after) = bytes.split_at(line_len(bytes));
     (Piece::Space, after)
 }

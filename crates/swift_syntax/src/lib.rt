@@ -36,12 +36,12 @@ mod word;
 
 pub use list::tokens;
 pub use reading::{ReadFile, read_file};
-pub use rule::{Refusal, Rule};
+pub use rule::{Breach, Refusal, Rule};
 pub use sign::Sign;
 pub use token::{Token, TokenKind};
 pub use tree::{
     Access, ActorDecl, Argument, Assigning, CaseDecl, ConstantDecl, ExecutorDecl, ExecutorKindDecl,
-    Expr, ExprForm, FieldDecl, FieldStart, InstanceDecl, Into, InvariantDecl, LocalDecl,
-    MethodDecl, ParamDecl, Receiver, Stmt, StmtForm, TaskForm, Tree, ValueType,
+    ExpectDecl, Expr, ExprForm, FieldDecl, FieldStart, InstanceDecl, Into, InvariantDecl,
+    LocalDecl, MethodDecl, ParamDecl, Receiver, Stmt, StmtForm, TaskForm, Tree, ValueType,
 };
 pub use word::Word;

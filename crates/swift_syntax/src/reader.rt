@@ -2,7 +2,7 @@
 //!
 //! After a refusal it stands at the end of the tokens, where nothing fits, so that what still runs ends soon.
 
-use crate::rule::{Refusal, Rule};
+use crate::rule::{Breach, Rule};
 use crate::sign::Sign;
 use crate::token::{Token, TokenKind};
 use crate::tree::{Argument, Expr, ExprForm, Stmt, StmtForm, Tree, ValueType};
@@ -19,7 +19,7 @@ pub(crate) struct Reader<'a> {
     /// The place of the next token.
     pub at: usize,
     /// The first refusal.
-    pub refused: Option<Refusal>,
+    pub refused: Option<Breach>,
     /// What was read.
     pub tree: Tree,
 }
@@ -70,12 +70,7 @@ impl<'a> Reader<'a> {
     /// Notes that a token breaks a rule, unless a refusal was noted before, and goes to the end.
     pub(crate) fn refuse(&mut self, rule: Rule, place: usize) {
         if self.refused.is_none() {
-            let token = self.token(place);
-            self.refused = Some(Refusal {
-                rule,
-                from: token.from,
-                to: token.to,
-            });
+            self.refused = Some(Breach { rule, token: place });
         }
         self.at = usize::MAX;
     }

@@ -1,9 +1,13 @@
 //! Whole files.
 
+ghost use Rattle.std.specs.Prelude.{◌≡◌, ◌<◌, All, IfOk, IfSome, length};
+ghost use Rattle.std.specs.Option.{option_map};
+ghost use Rattle.swift_syntax.specs.Places.{IsBlamedIn, IsTokenOf, IsTooLarge};
+
 use crate::declaration::declaration;
 use crate::list::tokens;
 use crate::reader::Reader;
-use crate::rule::{Refusal, Rule};
+use crate::rule::{Breach, Refusal, Rule};
 use crate::sign::Sign;
 use crate::token::{Token, TokenKind};
 use crate::tree::{ExprForm, StmtForm, Tree};
@@ -44,9 +48,14 @@ fn declarations(reader: &mut Reader<'_>) {
 /// # Errors
 ///
 /// `AllocError` where there is no memory for the tokens. Where there is none for the tree, the file is refused.
-pub fn read_file(alloc: Global, text: &[u8]) -> Result<ReadFile, AllocError> {
+pub fn read_file(alloc: Global, text: &[u8]) -> Result<ReadFile, AllocError>
+    ensures tokens { IfOk result (λ file. All (IsTokenOf text.now) file.tokens.items) }
+    ensures blamed { IfOk result (λ file. IfSome file.refused (IsBlamedIn text.now)) }
+    ensures large { IfOk result (λ file. BYTES < length text.now → IsTooLarge (option_map (λ r. r.rule) file.refused)) }
+{
     let tokens = tokens(alloc, text)?;
-    let (tree, refused) = read_tokens(alloc, text, &tokens);
+    let (tree, breach) = read_tokens(alloc, text, &tokens);
+    let refused = refusal_of(breach, text, &tokens);
     Ok(ReadFile {
         tokens,
         tree,
@@ -54,12 +63,30 @@ pub fn read_file(alloc: Global, text: &[u8]) -> Result<ReadFile, AllocError> {
     })
 }
 
-fn read_tokens(alloc: Global, text: &[u8], tokens: &[Token]) -> (Tree, Option<Refusal>) {
-    let mut reader = Reader::new(alloc, text, tokens);
-    if text.len() > BYTES {
-        reader.refuse(Rule::TooLarge, 0);
-    } else {
-        declarations(&mut reader);
+// The refusal of a text with these tokens, if it breaks a rule.
+fn refusal_of(breach: Option<Breach>, text: &[u8], tokens: &[Token]) -> Option<Refusal>
+    requires { All (IsTokenOf text.now) tokens.now }
+    ensures blamed { IfSome result (IsBlamedIn text.now) }
+    ensures rule { option_map (λ r. r.rule) result ≡ option_map (λ b. b.rule) breach }
+{
+    match breach {
+        Some(breach) => Some(breach.refusal(text, tokens)),
+        None => None,
     }
+}
+
+// The tree of these tokens, and the first rule that the text breaks.
+fn read_tokens(alloc: Global, text: &[u8], tokens: &[Token]) -> (Tree, Option<Breach>)
+    ensures large { BYTES < length text.now → IsTooLarge (option_map (λ b. b.rule) result.1) }
+{
+    if text.len() > BYTES {
+        let breach = Breach {
+            rule: Rule::TooLarge,
+            token: 0,
+        };
+        return (Tree::new(alloc), Some(breach));
+    }
+    let mut reader = Reader::new(alloc, text, tokens);
+    declarations(&mut reader);
     (reader.tree, reader.refused)
 }

@@ -1,5 +1,10 @@
 //! Why a file is refused.
 
+ghost use Rattle.std.specs.Prelude.{◌≡◌, All};
+ghost use Rattle.swift_syntax.specs.Places.{IsBlamedIn, IsTokenOf};
+
+use crate::token::Token;
+
 /// A rule of the subset that a file breaks.
 #[derive(Clone, Copy, PartialEq, Eq)]
 pub enum Rule {
@@ -178,4 +183,29 @@ pub struct Refusal {
     pub from: usize,
     /// The place behind the last byte that is to blame.
     pub to: usize,
+}
+
+/// A rule that is broken, and the token that breaks it. The place behind the last token stands for the end of the text.
+#[derive(Clone, Copy)]
+pub struct Breach {
+    /// The rule that is broken.
+    pub rule: Rule,
+    /// The place of the token among all.
+    pub token: usize,
+}
+
+impl Breach {
+    /// The refusal of a text with these tokens, which says which of its bytes are to blame.
+    pub fn refusal(self, text: &[u8], tokens: &[Token]) -> Refusal
+        requires { All (IsTokenOf text.now) tokens.now }
+        ensures rule { result.rule ≡ self.rule }
+        ensures blamed { IsBlamedIn text.now result }
+    {
+        let (from, to) = match tokens.get(self.token) {
+            Some(token) => (token.from, token.to),
+            None => (text.len(), text.len()),
+        };
+        let Breach { rule, .. } = self;
+        Refusal { rule, from, to }
+    }
 }

@@ -24,6 +24,8 @@ pub enum TokenKind {
     Invariant,
     /// The beginning of the comment `// executor: KIND`, up to its colon. What follows it on the line are tokens.
     Executor,
+    /// The beginning of the comment `// expect: EXPR`, up to its colon. What follows it on the line are tokens.
+    Expect,
     /// A byte that begins no token, or a string or comment that does not end.
     Stray,
     /// The end of the text.

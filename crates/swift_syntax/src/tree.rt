@@ -247,6 +247,15 @@ pub struct InvariantDecl {
     pub test: usize,
 }
 
+/// What somebody expects of the end of each run.
+#[derive(Clone, Copy)]
+pub struct ExpectDecl {
+    /// The token of its comment.
+    pub token: usize,
+    /// What is expected to hold.
+    pub test: usize,
+}
+
 /// A method of an actor, or `main`.
 #[derive(Clone, Copy)]
 pub struct MethodDecl {
@@ -370,6 +379,8 @@ pub struct Tree {
     pub locals: Vec<LocalDecl>,
     /// The cases of errors.
     pub cases: Vec<CaseDecl>,
+    /// What is expected of the end of each run.
+    pub expectations: Vec<ExpectDecl>,
     /// The classes of executors.
     pub executors: Vec<ExecutorDecl>,
     /// `main`, of the type whose name is the method's.
@@ -395,6 +406,7 @@ impl Tree {
             constants: Vec::new(alloc),
             locals: Vec::new(alloc),
             cases: Vec::new(alloc),
+            expectations: Vec::new(alloc),
             executors: Vec::new(alloc),
             mains: Vec::new(alloc),
             stmts: Vec::new(alloc),

@@ -6,7 +6,7 @@ use crate::naming::{
 };
 use crate::value::write_value;
 use crate::writing::Writing;
-use swift_lowering::{Instruction, NONE, Unit, UnitKind};
+use swift_expressions::{Instruction, NONE, Unit, UnitKind};
 use swift_syntax::{Access, ExprForm, FieldDecl, FieldStart, MethodDecl, Rule, Tree};
 
 /// The number of a literal.
@@ -333,7 +333,7 @@ pub(crate) fn write_main(writing: &mut Writing<'_>) {
     writing.say("\nactor ");
     write_name(writing, main.name);
     writing.say(" {");
-    for place in 0..writing.code.printed.len() {
+    for place in 0..writing.code.printed {
         writing.say("\n    var ");
         write_made(writing, "p", place);
         writing.say(" = 0;");

@@ -4,7 +4,7 @@ use crate::naming::{write_made, write_variable};
 use crate::step::step;
 use crate::value::write_value;
 use crate::writing::Writing;
-use swift_lowering::{NONE, Target};
+use swift_expressions::{NONE, Target};
 use swift_syntax::Rule;
 use swift_types::limits::BYTES;
 

@@ -5,6 +5,8 @@
 mod actor;
 // Methods that are put in where they are called.
 mod frame;
+// The line of a text on which a place lies.
+mod line;
 // The names of a script.
 mod naming;
 // The text of a refusal.

@@ -5,7 +5,7 @@
 
 use crate::word::is_kept;
 use crate::writing::Writing;
-use swift_lowering::Variable;
+use swift_expressions::Variable;
 
 /// The name of a token.
 pub(crate) fn write_name(writing: &mut Writing<'_>, token: usize) {
@@ -88,7 +88,7 @@ pub(crate) fn write_instance(writing: &mut Writing<'_>, instance: usize) {
 pub(crate) fn write_unit(writing: &mut Writing<'_>, unit: usize) {
     write_made(writing, "child", unit);
     let is_actors = match writing.unit_at(unit) {
-        Some(found) => found.actor != swift_lowering::NONE,
+        Some(found) => found.actor != swift_expressions::NONE,
         None => false,
     };
     if is_actors {

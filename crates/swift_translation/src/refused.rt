@@ -1,64 +1,12 @@
 //! The text of a refusal.
 
-use crate::writer::Writer;
+ghost use Rattle.std.specs.Prelude.{◌≡◌, ◌++◌, IfOk, length, min};
+ghost use Rattle.std.specs.String.{string_bytes};
+ghost use Rattle.swift_translation.specs.Refusals.{IsSaidOf, arrow_text, bar_text, head_text, help_text, mark_text, place_text, source_text};
+
+use crate::line::{Line, SHOWN, line_at, shown_line};
 use std::alloc::{AllocError, Global};
 use swift_syntax::Refusal;
-
-// The most bytes of a line that are shown.
-const SHOWN: usize = 200;
-
-// The place of the first byte of the line on which a place lies, and the number of that line, from 1.
-fn line_at(text: &[u8], place: usize) -> (usize, usize) {
-    let mut start: usize = 0;
-    let mut number: usize = 1;
-    for (at, byte) in text.iter().enumerate() {
-        if at >= place {
-            break;
-        }
-        if *byte == b'\n' {
-            start = at.saturating_add(1);
-            number = number.saturating_add(1);
-        }
-    }
-    (start, number)
-}
-
-// A byte as it is shown.
-fn shown(byte: u8) -> u8 {
-    if 32 <= byte && byte <= 126 {
-        byte
-    } else {
-        b' '
-    }
-}
-
-fn write_line(writer: &mut Writer, text: &[u8], start: usize) {
-    for byte in text.iter().skip(start).take(SHOWN) {
-        if *byte == b'\n' {
-            return;
-        }
-        writer.bytes(&[shown(*byte)]);
-    }
-}
-
-fn write_many(writer: &mut Writer, text: &str, many: usize) {
-    for _ in 0..many {
-        writer.say(text);
-    }
-}
-
-// The digits of a number, and how many there are.
-fn write_place(writer: &mut Writer, alloc: Global, place: usize) -> usize {
-    let before = writer.text.len();
-    writer.place(alloc, place);
-    writer.text.len().saturating_sub(before)
-}
-
-// What is said beside the line: the gutter, and a text.
-fn write_beside(writer: &mut Writer, width: usize, text: &str) {
-    write_many(writer, " ", width);
-    writer.say(text);
-}
 
 /// What is said of a refusal: its number and its rule, where it is, that line of the file with a mark under the bytes to blame, and what to
 /// do. Linear in the text.
@@ -71,52 +19,112 @@ pub fn refusal_text(
     file: &str,
     text: &[u8],
     refusal: Refusal,
-) -> Result<Vec<u8>, AllocError> {
-    let mut writer = Writer::new(alloc);
-    let (start, number) = line_at(text, refusal.from);
-    let column = refusal.from.saturating_sub(start);
-    writer.say("error[");
-    writer.say(refusal.rule.name());
-    writer.say("]: ");
-    writer.say(refusal.rule.title());
-    writer.say("\n");
-    let width = number.to_string(alloc)?.len();
-    write_beside(&mut writer, width, "--> ");
-    writer.say(file);
-    writer.say(":");
-    let _ = write_place(&mut writer, alloc, number);
-    writer.say(":");
-    let _ = write_place(&mut writer, alloc, column.saturating_add(1));
-    writer.say("\n");
-    write_beside(&mut writer, width, " |\n");
-    let _ = write_place(&mut writer, alloc, number);
-    writer.say(" | ");
-    write_line(&mut writer, text, start);
-    writer.say("\n");
-    write_mark(&mut writer, width, column, refusal);
-    write_beside(&mut writer, width, " |\n");
-    write_beside(&mut writer, width, " = help: ");
-    writer.say(refusal.rule.help());
-    writer.say("\n");
-    ended(writer)
+) -> Result<Vec<u8>, AllocError>
+    ensures { IfOk result (λ said. IsSaidOf file.now text.now refusal said.items) }
+{
+    let line = line_at(text, refusal.from);
+    let number = line.before.saturating_add(1).to_string(alloc)?;
+    let gutter = " ".repeat(alloc, number.len())?;
+    let many = refusal.to.saturating_sub(refusal.from);
+    let head = head(alloc, refusal.rule.name(), refusal.rule.title())?;
+    let place = place(alloc, file, gutter.as_str(), number.as_str(), line, many)?;
+    let help = help(alloc, gutter.as_str(), refusal.rule.help())?;
+    let parts = [head.as_str(), place.as_str(), help.as_str()];
+    Ok(parts.as_slice().concat(alloc)?.into_bytes())
 }
 
-// The mark under a line.
-fn write_mark(writer: &mut Writer, width: usize, column: usize, refusal: Refusal) {
-    if column >= SHOWN {
-        return;
-    }
-    write_beside(writer, width, " | ");
-    write_many(writer, " ", column);
-    let many = refusal.to.saturating_sub(refusal.from).max(1);
-    write_many(writer, "^", many.min(SHOWN.saturating_sub(column)));
-    writer.say("\n");
+// The number of a rule, and what is wrong.
+fn head(alloc: Global, name: &str, title: &str) -> Result<String, AllocError>
+    ensures { IfOk result (λ said. string_bytes said ≡ head_text name.now title.now) }
+{
+    let parts = ["error[", name, "]: ", title, "\n"];
+    parts.as_slice().concat(alloc)
 }
 
-fn ended(writer: Writer) -> Result<Vec<u8>, AllocError> {
-    let Writer { text, lacks_memory } = writer;
-    if lacks_memory {
-        return Err(AllocError);
+// Where a refusal is, with this number beside the line, and the gutter beside all else.
+fn place(
+    alloc: Global,
+    file: &str,
+    gutter: &str,
+    number: &str,
+    line: Line<'_>,
+    many: usize,
+) -> Result<String, AllocError>
+    ensures { IfOk result (λ said. string_bytes said ≡ place_text file.now gutter.now number.now line.left.now line.right.now many) }
+{
+    let before = line.left.len();
+    let arrow = arrow(alloc, gutter, file, number, before)?;
+    let bar = bar(alloc, gutter)?;
+    let source = source(alloc, number, line)?;
+    let mark = mark(alloc, gutter, before, many.min(line.right.len()))?;
+    let parts = [
+        arrow.as_str(),
+        bar.as_str(),
+        source.as_str(),
+        mark.as_str(),
+        bar.as_str(),
+    ];
+    parts.as_slice().concat(alloc)
+}
+
+// The file, the line and the column.
+fn arrow(
+    alloc: Global,
+    gutter: &str,
+    file: &str,
+    number: &str,
+    before: usize,
+) -> Result<String, AllocError>
+    ensures { IfOk result (λ said. string_bytes said ≡ arrow_text gutter.now file.now number.now before) }
+{
+    let column = before.saturating_add(1).to_string(alloc)?;
+    let parts = [
+        gutter,
+        "--> ",
+        file,
+        ":",
+        number,
+        ":",
+        column.as_str(),
+        "\n",
+    ];
+    parts.as_slice().concat(alloc)
+}
+
+// A line with nothing on it.
+fn bar(alloc: Global, gutter: &str) -> Result<String, AllocError>
+    ensures { IfOk result (λ said. string_bytes said ≡ bar_text gutter.now) }
+{
+    let parts = [gutter, " |\n"];
+    parts.as_slice().concat(alloc)
+}
+
+// A line of the file, with its number.
+fn source(alloc: Global, number: &str, line: Line<'_>) -> Result<String, AllocError>
+    ensures { IfOk result (λ said. string_bytes said ≡ source_text number.now (line.left.now ++ line.right.now)) }
+{
+    let shown = shown_line(alloc, line)?;
+    let parts = [number, " | ", shown.as_str(), "\n"];
+    parts.as_slice().concat(alloc)
+}
+
+// A mark under so many bytes of a line, behind others; none where these are not shown.
+fn mark(alloc: Global, gutter: &str, before: usize, many: usize) -> Result<String, AllocError>
+    ensures { IfOk result (λ said. string_bytes said ≡ mark_text gutter.now before many) }
+{
+    if before >= SHOWN {
+        return Ok(String::new(alloc));
     }
-    Ok(text)
+    let blank = " ".repeat(alloc, before)?;
+    let under = "^".repeat(alloc, many.max(1).min(SHOWN - before))?;
+    let parts = [gutter, " | ", blank.as_str(), under.as_str(), "\n"];
+    parts.as_slice().concat(alloc)
+}
+
+// What to do.
+fn help(alloc: Global, gutter: &str, help: &str) -> Result<String, AllocError>
+    ensures { IfOk result (λ said. string_bytes said ≡ help_text gutter.now help.now) }
+{
+    let parts = [gutter, " = help: ", help, "\n"];
+    parts.as_slice().concat(alloc)
 }

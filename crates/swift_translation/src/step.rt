@@ -6,8 +6,9 @@ use crate::naming::{
 };
 use crate::value::{write_operands, write_value};
 use crate::writing::Writing;
-use swift_lowering::{Callee, Instruction, NONE, Target, Wait};
+use swift_expressions::{Callee, Instruction, NONE, Target, Wait};
 use swift_syntax::Rule;
+use swift_types::Priority;
 
 // Opens a block, whose end is written or not.
 fn open(writing: &mut Writing<'_>, is_written: bool) {
@@ -88,7 +89,7 @@ fn write_method(writing: &mut Writing<'_>, instance: usize, method: usize) {
 fn is_closure(writing: &Writing<'_>) -> bool {
     match writing.frames.first() {
         Some(frame) => match writing.unit_at(frame.unit) {
-            Some(unit) => matches!(unit.kind, swift_lowering::UnitKind::Closure),
+            Some(unit) => matches!(unit.kind, swift_expressions::UnitKind::Closure),
             None => false,
         },
         None => false,
@@ -177,15 +178,14 @@ fn write_callee(writing: &mut Writing<'_>, callee: Callee, serial: usize) {
 }
 
 // `at` with a priority, if there is one.
-fn write_urgency(writing: &mut Writing<'_>, urgency: usize) {
+fn write_urgency(writing: &mut Writing<'_>, urgency: Option<Priority>) {
     match urgency {
-        0 => writing.say(" at background"),
-        1 => writing.say(" at low"),
-        2 => writing.say(" at medium"),
-        3 => writing.say(" at high"),
-        _ => {}
+        Some(Priority::Background) => writing.say(" at background;"),
+        Some(Priority::Low) => writing.say(" at low;"),
+        Some(Priority::Medium) => writing.say(" at medium;"),
+        Some(Priority::High) => writing.say(" at high;"),
+        None => writing.say(";"),
     }
-    writing.say(";");
 }
 
 fn make(
@@ -193,7 +193,7 @@ fn make(
     variable: usize,
     is_detached: bool,
     callee: Callee,
-    urgency: usize,
+    urgency: Option<Priority>,
     serial: usize,
 ) {
     begin_set(writing, "let ", variable, serial);
@@ -207,7 +207,7 @@ fn add(
     group: usize,
     is_only: bool,
     callee: Callee,
-    urgency: usize,
+    urgency: Option<Priority>,
     serial: usize,
 ) {
     writing.line();

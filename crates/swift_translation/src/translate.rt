@@ -1,11 +1,17 @@
 //! From text to text.
 
+ghost use Rattle.std.specs.Prelude.{◌≤◌, All, IfOk, length};
+ghost use Rattle.swift_syntax.specs.Places.{IsBlamedIn, IsTokenOf};
+ghost use Rattle.swift_translation.specs.Translations.{IfRefused, IfScript};
+
 use crate::actor::{literal, write_actors, write_main, write_pool};
 use crate::naming::{write_instance, write_name};
+use crate::value::write_value;
 use crate::writing::Writing;
 use std::alloc::{AllocError, Global};
-use swift_lowering::{Code, lower};
-use swift_syntax::{ExecutorKindDecl, Refusal, Rule, Token, Tree, read_file};
+use swift_expressions::Code;
+use swift_lowering::lower;
+use swift_syntax::{Breach, ExecutorKindDecl, Refusal, Rule, Token, Tree, read_file};
 use swift_types::limits::BYTES;
 
 /// What becomes of a Swift file.
@@ -68,9 +74,38 @@ fn write_locals(writing: &mut Writing<'_>) {
     }
 }
 
-// The script of instructions.
-fn written(alloc: Global, text: &[u8], tokens: &[Token], tree: &Tree, code: &Code) -> Translation {
+// The most bytes that an expectation may have in a script.
+const EXPECTED: usize = 1_000;
+
+// What is expected of the end of each run, in comments that `explore` reads.
+fn write_expectations(writing: &mut Writing<'_>) {
+    for place in 0..writing.tree.expectations.len() {
+        let (Some(declared), Some(value)) = (
+            writing.tree.expectations.get(place).copied(),
+            writing.code.expectations.get(place).copied(),
+        ) else {
+            return;
+        };
+        writing.say("//: expect ");
+        let before = writing.out.text.len();
+        write_value(writing, value, 0);
+        if writing.out.text.len().saturating_sub(before) > EXPECTED {
+            writing.refuse(Rule::TooLarge, declared.token);
+        }
+        writing.say("\n");
+    }
+}
+
+// The text of the script of instructions, and the first rule that is broken.
+fn script(
+    alloc: Global,
+    text: &[u8],
+    tokens: &[Token],
+    tree: &Tree,
+    code: &Code,
+) -> (Vec<u8>, Option<Breach>) {
     let mut writing = Writing::new(alloc, text, tokens, tree, code);
+    write_expectations(&mut writing);
     write_executors(&mut writing);
     write_locals(&mut writing);
     write_actors(&mut writing);
@@ -79,21 +114,40 @@ fn written(alloc: Global, text: &[u8], tokens: &[Token], tree: &Tree, code: &Cod
     if writing.out.lacks_memory {
         writing.refuse(Rule::Memory, 0);
     }
-    if writing.out.text.len() > BYTES {
-        writing.refuse(Rule::TooLarge, 0);
-    }
-    match writing.refused {
-        Some(refused) => Translation::Refused(refused),
-        None => Translation::Script(writing.out.text),
-    }
+    (writing.out.text, writing.refused)
 }
 
-/// The script that a Swift file becomes: its text, or the first rule that the file breaks.
+// The script of instructions, or the first rule that is broken.
+fn written(alloc: Global, text: &[u8], tokens: &[Token], tree: &Tree, code: &Code) -> Translation
+    requires { All (IsTokenOf text.now) tokens.now }
+    ensures script { IfScript (λ s. length s ≤ BYTES) result }
+    ensures blamed { IfRefused (IsBlamedIn text.now) result }
+{
+    let (script, breach) = script(alloc, text, tokens, tree, code);
+    if let Some(breach) = breach {
+        return Translation::Refused(breach.refusal(text, tokens));
+    }
+    if script.len() > BYTES {
+        let breach = Breach {
+            rule: Rule::TooLarge,
+            token: 0,
+        };
+        return Translation::Refused(breach.refusal(text, tokens));
+    }
+    Translation::Script(script)
+}
+
+/// The script that a Swift file becomes: its text, or the first rule that the file breaks. A script, and a file that becomes one, has at
+/// most 65,536 bytes.
 ///
 /// # Errors
 ///
 /// `AllocError` where there is no memory for the tokens.
-pub fn translate(alloc: Global, text: &[u8]) -> Result<Translation, AllocError> {
+pub fn translate(alloc: Global, text: &[u8]) -> Result<Translation, AllocError>
+    ensures script { IfOk result (IfScript (λ s. length s ≤ BYTES)) }
+    ensures file { IfOk result (IfScript (λ s. length text.now ≤ BYTES)) }
+    ensures blamed { IfOk result (IfRefused (IsBlamedIn text.now)) }
+{
     let file = read_file(alloc, text)?;
     if let Some(refused) = file.refused {
         return Ok(Translation::Refused(refused));

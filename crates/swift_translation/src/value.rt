@@ -1,9 +1,9 @@
 //! Values as expressions.
 
 use crate::actor::start_value;
-use crate::naming::{write_name, write_variable};
+use crate::naming::{write_instance, write_name, write_variable};
 use crate::writing::Writing;
-use swift_lowering::{NONE, Value};
+use swift_expressions::{NONE, Value};
 use swift_types::Operator;
 
 fn spelling(operator: Operator) -> &'static str {
@@ -36,6 +36,22 @@ fn write_field(writing: &mut Writing<'_>, field: usize) {
     }
 }
 
+// A field of an instance at the end of a run: a `let` is its number.
+fn write_member(writing: &mut Writing<'_>, instance: usize, field: usize) {
+    let Some(declared) = writing.tree.fields.get(field).copied() else {
+        return;
+    };
+    if declared.is_var {
+        write_instance(writing, instance);
+        writing.say(".");
+        write_name(writing, declared.name);
+    } else {
+        let number = start_value(writing, instance, declared);
+        let alloc = writing.alloc;
+        writing.out.number(alloc, number);
+    }
+}
+
 fn write_local(writing: &mut Writing<'_>, local: usize) {
     writing.say("@");
     if let Some(declared) = writing.tree.locals.get(local) {
@@ -57,6 +73,7 @@ fn write_at(writing: &mut Writing<'_>, place: usize, serial: usize, depth: u32) 
         }
         Value::Variable(variable) => write_variable(writing, variable, serial),
         Value::Field(field) => write_field(writing, field),
+        Value::Member(instance, field) => write_member(writing, instance, field),
         Value::Local(local) => write_local(writing, local),
         Value::Priority => writing.say("priority"),
         Value::Cancelled => writing.say("cancelled"),

@@ -3,8 +3,8 @@
 use crate::frame::Frame;
 use crate::writer::Writer;
 use std::alloc::Global;
-use swift_lowering::{Code, Instruction, Unit, Value, Variable};
-use swift_syntax::{Refusal, Rule, Token, Tree};
+use swift_expressions::{Code, Instruction, Unit, Value, Variable};
+use swift_syntax::{Breach, Rule, Token, Tree};
 
 /// A script that is written, and from what.
 #[derive(Drop)]
@@ -25,7 +25,7 @@ pub(crate) struct Writing<'a> {
     /// The instance whose actor is written.
     pub instance: usize,
     /// The first rule that is broken.
-    pub refused: Option<Refusal>,
+    pub refused: Option<Breach>,
 }
 
 impl<'a> Writing<'a> {
@@ -53,14 +53,9 @@ impl<'a> Writing<'a> {
 
     /// Notes that a token breaks a rule, unless a refusal was noted before.
     pub(crate) fn refuse(&mut self, rule: Rule, place: usize) {
-        if self.refused.is_some() {
-            return;
+        if self.refused.is_none() {
+            self.refused = Some(Breach { rule, token: place });
         }
-        let (from, to) = match self.tokens.get(place) {
-            Some(token) => (token.from, token.to),
-            None => (self.text.len(), self.text.len()),
-        };
-        self.refused = Some(Refusal { rule, from, to });
     }
 
     /// The bytes of a token; none where there is no such token.

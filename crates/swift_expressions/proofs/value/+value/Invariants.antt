@@ -1,4 +1,4 @@
-use Rattle.swift_lowering.proofs.value.+value.Given as goal
+use Rattle.swift_expressions.proofs.value.+value.Given as goal
 
 abbrev pub decreases-binary : goal.decreases-binary
 decreases-binary l = l.depth

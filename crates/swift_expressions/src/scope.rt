@@ -1,11 +1,12 @@
 //! What stands in scope.
 
-use crate::lowering::{Kind, Lowering};
+use crate::code::Kind;
+use crate::lowering::Lowering;
 use swift_syntax::Rule;
 
 /// What a name in scope stands for.
 #[derive(Clone, Copy, PartialEq, Eq)]
-pub(crate) enum Standing {
+pub enum Standing {
     /// A value that never changes.
     Constant,
     /// A value that may be assigned.
@@ -20,7 +21,7 @@ pub(crate) enum Standing {
 
 /// A name in scope.
 #[derive(Clone, Copy)]
-pub(crate) struct Binding {
+pub struct Binding {
     /// The token of its name.
     pub token: usize,
     /// What it stands for.
@@ -42,7 +43,7 @@ pub(crate) struct Binding {
 }
 
 /// The place of the innermost name in scope with the bytes of a token.
-pub(crate) fn find(lowering: &Lowering<'_>, token: usize) -> Option<usize> {
+pub fn find(lowering: &Lowering<'_>, token: usize) -> Option<usize> {
     let mut found = None;
     for (place, binding) in lowering.scope.iter().enumerate() {
         if place >= lowering.setting.boundary && lowering.are_same(binding.token, token) {
@@ -53,12 +54,12 @@ pub(crate) fn find(lowering: &Lowering<'_>, token: usize) -> Option<usize> {
 }
 
 /// The name in scope at a place.
-pub(crate) fn binding_at(lowering: &Lowering<'_>, place: usize) -> Option<Binding> {
+pub fn binding_at(lowering: &Lowering<'_>, place: usize) -> Option<Binding> {
     lowering.scope.get(place).copied()
 }
 
 /// The innermost name in scope with the bytes of a token.
-pub(crate) fn standing_at(lowering: &Lowering<'_>, token: usize) -> Option<Binding> {
+pub fn standing_at(lowering: &Lowering<'_>, token: usize) -> Option<Binding> {
     match find(lowering, token) {
         Some(place) => binding_at(lowering, place),
         None => None,
@@ -66,14 +67,14 @@ pub(crate) fn standing_at(lowering: &Lowering<'_>, token: usize) -> Option<Bindi
 }
 
 /// Notes that the name in scope at a place is awaited.
-pub(crate) fn mark_used(lowering: &mut Lowering<'_>, place: usize) {
+pub fn mark_used(lowering: &mut Lowering<'_>, place: usize) {
     if let Some(binding) = lowering.scope.get_mut(place) {
         binding.is_used = true;
     }
 }
 
 /// Notes that a child may have been left out of the group at a place.
-pub(crate) fn mark_partial(lowering: &mut Lowering<'_>, place: usize) {
+pub fn mark_partial(lowering: &mut Lowering<'_>, place: usize) {
     if let Some(binding) = lowering.scope.get_mut(place) {
         binding.is_partial = true;
     }
@@ -93,13 +94,13 @@ fn refuse_left(lowering: &mut Lowering<'_>, from: usize) {
 }
 
 /// Ends the names in scope from a place on.
-pub(crate) fn leave(lowering: &mut Lowering<'_>, from: usize) {
+pub fn leave(lowering: &mut Lowering<'_>, from: usize) {
     refuse_left(lowering, from);
     lowering.scope.truncate(from);
 }
 
 /// A value in scope, with the name of a token.
-pub(crate) fn declare(
+pub fn declare(
     lowering: &mut Lowering<'_>,
     token: usize,
     variable: usize,
@@ -115,7 +116,7 @@ pub(crate) fn declare(
 }
 
 /// A name in scope. Tasks, groups and values are alike here.
-pub(crate) fn declare_as(
+pub fn declare_as(
     lowering: &mut Lowering<'_>,
     token: usize,
     standing: Standing,

@@ -1,12 +1,13 @@
 //! Calls of methods.
 
-use crate::code::{Instruction, NONE, Target, Value, Wait};
-use crate::lowering::{Fallback, Kind, Lowering, Typed, kind_of};
+use crate::code::{Instruction, Kind, NONE, Target, Value, Wait};
+use crate::lowering::{Fallback, Lowering};
 use crate::naming::{actor_of, instance_named, method_at, method_named};
+use crate::operands::Operands;
 use crate::scope::{Standing, binding_at, find};
-use crate::value::{Operands, refused, typed};
+use crate::typed::{Typed, kind_of, refused, with_kind};
 use crate::waits::{group_next, wait, wait_for_all, want_await, want_try};
-use swift_syntax::{Access, MethodDecl, Receiver, Rule, ValueType};
+use swift_syntax::{Access, MethodDecl, Receiver, Rule};
 
 /// What is called.
 #[derive(Clone, Copy)]
@@ -143,7 +144,7 @@ pub(crate) fn method_of(lowering: &mut Lowering<'_>, receiver: Receiver, token: 
 }
 
 /// Whether an argument has the label of a parameter.
-pub(crate) fn has_label(lowering: &Lowering<'_>, label: usize, wanted: usize) -> bool {
+pub fn has_label(lowering: &Lowering<'_>, label: usize, wanted: usize) -> bool {
     if label == 0 || wanted == 0 {
         return label == wanted;
     }
@@ -151,7 +152,7 @@ pub(crate) fn has_label(lowering: &Lowering<'_>, label: usize, wanted: usize) ->
 }
 
 /// Refuses arguments other than these parameters want.
-pub(crate) fn want_arguments(
+pub fn want_arguments(
     lowering: &mut Lowering<'_>,
     first_param: usize,
     params_end: usize,
@@ -163,29 +164,24 @@ pub(crate) fn want_arguments(
         lowering.refuse(Rule::Arguments, token);
         return;
     }
-    if given.is_odd {
-        lowering.refuse(Rule::WrongType, token);
-    }
     let mut place = first;
-    for number in 0..given.count {
-        let Some(argument) = lowering.tree.argument(place) else {
-            return;
-        };
-        let Some(param) = lowering
-            .tree
-            .params
-            .get(first_param.saturating_add(number))
-            .copied()
-        else {
+    let mut operand = given.first;
+    for number in first_param..params_end {
+        let (Some(argument), Some(param), Some(found)) = (
+            lowering.tree.argument(place),
+            lowering.tree.params.get(number).copied(),
+            lowering.operand_at(operand),
+        ) else {
             return;
         };
         if !has_label(lowering, argument.label, param.label) {
             lowering.refuse(Rule::Arguments, token);
         }
-        if given.is_bool(number) != (param.value_type == ValueType::Bool) {
+        if found.kind != kind_of(param.value_type) {
             lowering.refuse(Rule::WrongType, token);
         }
         place = argument.next;
+        operand = found.next;
     }
 }
 
@@ -209,12 +205,12 @@ fn call_own(
     }
     if kind == Kind::Void {
         lowering.put(Instruction::Inline(Target::Nothing, place, given.first, token));
-        return typed(lowering, Value::Number(0), kind);
+        return with_kind(lowering, Value::Number(0), kind);
     }
     let variable = lowering.temporary();
     let target = Target::Declare(variable);
     lowering.put(Instruction::Inline(target, place, given.first, token));
-    typed(lowering, Value::Variable(variable), kind)
+    with_kind(lowering, Value::Variable(variable), kind)
 }
 
 // A call of a declared method.
@@ -292,5 +288,5 @@ pub(crate) fn call(
         }
         Called::Cancel(variable) => lowering.put(Instruction::Cancel(variable)),
     }
-    typed(lowering, Value::Number(0), Kind::Void)
+    with_kind(lowering, Value::Number(0), Kind::Void)
 }

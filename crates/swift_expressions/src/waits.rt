@@ -1,10 +1,11 @@
 //! What is waited for.
 
-use crate::code::{Instruction, NONE, Target, Value, Wait};
-use crate::lowering::{Fallback, Kind, Lowering, Typed};
+use crate::code::{Instruction, Kind, NONE, Target, Value, Wait};
+use crate::lowering::{Fallback, Lowering};
+use crate::name::field_kind;
 use crate::naming::{actor_of, field_at, field_named};
 use crate::scope::{Binding, Standing, binding_at, mark_used};
-use crate::value::{field_kind, literal, refused, typed};
+use crate::typed::{Typed, literal, refused, with_kind};
 use swift_syntax::{Access, FieldStart, Rule};
 use swift_types::Operator;
 
@@ -31,17 +32,21 @@ pub(crate) fn wait(lowering: &mut Lowering<'_>, what: Wait, kind: Kind) -> Typed
     let otherwise = lowering.take_fault();
     if kind == Kind::Void {
         lowering.put(Instruction::Wait(Target::Nothing, what, otherwise));
-        return typed(lowering, Value::Number(0), Kind::Void);
+        return with_kind(lowering, Value::Number(0), Kind::Void);
     }
     let variable = lowering.temporary();
     lowering.put(Instruction::Wait(Target::Declare(variable), what, otherwise));
-    typed(lowering, Value::Variable(variable), kind)
+    with_kind(lowering, Value::Variable(variable), kind)
+}
+
+/// The place of the field of an instance with the bytes of a token.
+pub(crate) fn field_of(lowering: &Lowering<'_>, instance: usize, token: usize) -> Option<usize> {
+    field_named(lowering, actor_of(lowering, instance), token)
 }
 
 /// A field of an instance.
 pub(crate) fn getter(lowering: &mut Lowering<'_>, instance: usize, token: usize) -> Typed {
-    let actor = actor_of(lowering, instance);
-    let Some(field) = field_named(lowering, actor, token) else {
+    let Some(field) = field_of(lowering, instance, token) else {
         return refused(lowering, Rule::UnknownName, token);
     };
     let Some(declared) = field_at(lowering, field) else {
@@ -58,7 +63,7 @@ pub(crate) fn getter(lowering: &mut Lowering<'_>, instance: usize, token: usize)
     match declared.start {
         FieldStart::Value(value) => {
             let (number, kind) = literal(lowering, value);
-            typed(lowering, Value::Number(number), kind)
+            with_kind(lowering, Value::Number(number), kind)
         }
         FieldStart::None => refused(lowering, Rule::NotYet, token),
     }
@@ -99,12 +104,12 @@ pub(crate) fn next_child(
 }
 
 /// Takes one from a group's count of children.
-pub(crate) fn count_down(lowering: &mut Lowering<'_>, count: usize) {
+pub fn count_down(lowering: &mut Lowering<'_>, count: usize) {
     count_by(lowering, count, Operator::Minus);
 }
 
 /// Adds one to a group's count of children.
-pub(crate) fn count_up(lowering: &mut Lowering<'_>, count: usize) {
+pub fn count_up(lowering: &mut Lowering<'_>, count: usize) {
     count_by(lowering, count, Operator::Plus);
 }
 
@@ -116,7 +121,7 @@ fn count_by(lowering: &mut Lowering<'_>, count: usize, operator: Operator) {
 }
 
 /// Whether a group's count says that a child is left.
-pub(crate) fn has_child(lowering: &mut Lowering<'_>, count: usize) -> usize {
+pub fn has_child(lowering: &mut Lowering<'_>, count: usize) -> usize {
     let many = lowering.value(Value::Variable(count));
     let none = lowering.number(0);
     lowering.value(Value::Binary(Operator::Greater, many, none))
@@ -147,7 +152,7 @@ pub(crate) fn group_next(lowering: &mut Lowering<'_>, place: usize, token: usize
     lowering.put(Instruction::Set(variable, next.value));
     lowering.put(Instruction::End);
     mark_used(lowering, place);
-    typed(lowering, Value::Variable(variable), found.kind)
+    with_kind(lowering, Value::Variable(variable), found.kind)
 }
 
 /// Takes all results that are left of a group.
@@ -168,5 +173,5 @@ pub(crate) fn wait_for_all(lowering: &mut Lowering<'_>, place: usize, token: usi
     count_down(lowering, found.count);
     lowering.put(Instruction::End);
     mark_used(lowering, place);
-    typed(lowering, Value::Number(0), Kind::Void)
+    with_kind(lowering, Value::Number(0), Kind::Void)
 }

@@ -1,7 +1,7 @@
 //! The instructions.
 
 use std::alloc::Global;
-use swift_types::Operator;
+use swift_types::{Operator, Priority};
 
 /// Where no place stands.
 pub const NONE: usize = usize::MAX;
@@ -15,6 +15,8 @@ pub enum Value {
     Variable(usize),
     /// A field of the own actor.
     Field(usize),
+    /// A field of an instance, at the end of a run.
+    Member(usize, usize),
     /// A task local.
     Local(usize),
     /// How urgent the task is.
@@ -27,6 +29,19 @@ pub enum Value {
     Not(usize),
     /// `a OP b`
     Binary(Operator, usize, usize),
+}
+
+/// The type of an expression.
+#[derive(Clone, Copy, PartialEq, Eq)]
+pub enum Kind {
+    /// A number.
+    Int,
+    /// True or false.
+    Bool,
+    /// Nothing.
+    Void,
+    /// A priority.
+    Urgency,
 }
 
 /// Where a result goes.
@@ -81,10 +96,10 @@ pub enum Instruction {
     Wait(Target, Wait, usize),
     /// A method of the own actor, with the first of its operands, is put in here.
     Inline(Target, usize, usize, usize),
-    /// A task begins: the variable that names it, whether it is detached, and its priority or `NONE`.
-    Make(usize, bool, Callee, usize),
-    /// A child of a group begins: the group's variable, whether only where it is not cancelled, and its priority or `NONE`.
-    Add(usize, bool, Callee, usize),
+    /// A task begins: the variable that names it, whether it is detached, and its priority where it has one of its own.
+    Make(usize, bool, Callee, Option<Priority>),
+    /// A child of a group begins: the group's variable, whether only where it is not cancelled, and its priority where it has one of its own.
+    Add(usize, bool, Callee, Option<Priority>),
     /// A task or a group is cancelled.
     Cancel(usize),
     /// A cancelled task ends with a fault here.
@@ -135,16 +150,10 @@ pub struct Unit {
     pub from: usize,
     /// The place behind its last one.
     pub to: usize,
-    /// The place of its first variable.
-    pub first_variable: usize,
-    /// The place behind its last one.
-    pub variables_end: usize,
     /// Whether something of it may follow a `return`.
     pub needs_done: bool,
     /// Whether a `return` stands in a group's block of it.
     pub returns_inside: bool,
-    /// Whether it gives a value.
-    pub has_value: bool,
     /// The token that it begins at.
     pub token: usize,
     /// The token behind its last one.
@@ -169,15 +178,10 @@ pub struct Variable {
 pub struct Operand {
     /// The value.
     pub value: usize,
+    /// Its type.
+    pub kind: Kind,
     /// The place of the next one, or `NONE`.
     pub next: usize,
-}
-
-/// A value that `main` prints: its token.
-#[derive(Clone, Copy)]
-pub struct PrintedField {
-    /// The token that it is told by.
-    pub token: usize,
 }
 
 /// The instructions of a file.
@@ -193,10 +197,12 @@ pub struct Code {
     pub variables: Vec<Variable>,
     /// The units. That of a method has the method's place.
     pub units: Vec<Unit>,
-    /// What is printed.
-    pub printed: Vec<PrintedField>,
+    /// How many values `main` prints.
+    pub printed: usize,
     /// The values of invariants, in the order of the tree's.
     pub invariants: Vec<usize>,
+    /// The values of expectations, in the order of the tree's.
+    pub expectations: Vec<usize>,
 }
 
 impl Code {
@@ -208,8 +214,9 @@ impl Code {
             operands: Vec::new(alloc),
             variables: Vec::new(alloc),
             units: Vec::new(alloc),
-            printed: Vec::new(alloc),
+            printed: 0,
             invariants: Vec::new(alloc),
+            expectations: Vec::new(alloc),
         }
     }
 }

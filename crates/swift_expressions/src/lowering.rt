@@ -1,44 +1,14 @@
 //! A lowering under way.
 
-use crate::code::{Code, Instruction, NONE, Operand, Unit, UnitKind, Value, Variable};
+use crate::code::{Code, Instruction, Kind, NONE, Operand, Unit, UnitKind, Value, Variable};
 use crate::scope::Binding;
+use crate::typed::Typed;
 use std::alloc::Global;
-use swift_syntax::{Refusal, Rule, Token, TokenKind, Tree, ValueType};
-
-/// The type of an expression.
-#[derive(Clone, Copy, PartialEq, Eq)]
-pub(crate) enum Kind {
-    /// A number.
-    Int,
-    /// True or false.
-    Bool,
-    /// Nothing.
-    Void,
-    /// A priority.
-    Urgency,
-}
-
-/// The kind of a type.
-pub(crate) fn kind_of(found: ValueType) -> Kind {
-    match found {
-        ValueType::Int => Kind::Int,
-        ValueType::Bool => Kind::Bool,
-        ValueType::Void => Kind::Void,
-    }
-}
-
-/// A value with its type.
-#[derive(Clone, Copy)]
-pub(crate) struct Typed {
-    /// The place of the value.
-    pub value: usize,
-    /// Its type.
-    pub kind: Kind,
-}
+use swift_syntax::{Breach, Rule, Token, TokenKind, Tree};
 
 /// What stands for a value that does not come.
 #[derive(Clone, Copy)]
-pub(crate) enum Fallback {
+pub enum Fallback {
     /// Nothing.
     None,
     /// A value, where what is awaited ends with a fault.
@@ -49,7 +19,7 @@ pub(crate) enum Fallback {
 
 /// Where a `return` goes.
 #[derive(Clone, Copy)]
-pub(crate) enum Returns {
+pub enum Returns {
     /// Out of the unit.
     Unit,
     /// Out of a closure that stands in the unit, to a variable; only from this many open blocks.
@@ -58,7 +28,7 @@ pub(crate) enum Returns {
 
 /// What holds of the place that is lowered.
 #[derive(Clone, Copy)]
-pub(crate) struct Setting {
+pub struct Setting {
     /// The unit.
     pub unit: usize,
     /// The actor whose fields stand here, or `NONE`.
@@ -71,6 +41,8 @@ pub(crate) struct Setting {
     pub is_throwing: bool,
     /// Whether it is a closure, or `main`.
     pub is_closure: bool,
+    /// Whether it is an expectation: then it reads fields of instances as they are at the end.
+    pub is_expectation: bool,
     /// Whether `await` covers what is lowered.
     pub is_awaited: bool,
     /// Whether `try` covers what is lowered.
@@ -95,18 +67,25 @@ pub(crate) struct Setting {
 
 /// What was lowered, and where.
 #[derive(Drop)]
-pub(crate) struct Lowering<'a> {
+pub struct Lowering<'a> {
+    /// The text of the file.
     pub text: &'a [u8],
+    /// Its tokens.
     pub tokens: &'a [Token],
+    /// Its tree.
     pub tree: &'a Tree,
+    /// What was lowered.
     pub code: Code,
+    /// The names in scope, those of inner blocks last.
     pub scope: Vec<Binding>,
+    /// What holds of the place that is lowered.
     pub setting: Setting,
-    pub refused: Option<Refusal>,
+    /// The first rule that is broken.
+    pub refused: Option<Breach>,
 }
 
 /// The beginning of a unit that may not wait and not throw.
-pub(crate) fn setting_of(unit: usize, actor: usize) -> Setting {
+pub fn setting_of(unit: usize, actor: usize) -> Setting {
     Setting {
         unit,
         actor,
@@ -114,6 +93,7 @@ pub(crate) fn setting_of(unit: usize, actor: usize) -> Setting {
         is_async: false,
         is_throwing: false,
         is_closure: false,
+        is_expectation: false,
         is_awaited: false,
         is_tried: false,
         fallback: Fallback::None,
@@ -128,12 +108,8 @@ pub(crate) fn setting_of(unit: usize, actor: usize) -> Setting {
 }
 
 impl<'a> Lowering<'a> {
-    pub(crate) fn new(
-        alloc: Global,
-        text: &'a [u8],
-        tokens: &'a [Token],
-        tree: &'a Tree,
-    ) -> Lowering<'a> {
+    /// Nothing of a file is lowered.
+    pub fn new(alloc: Global, text: &'a [u8], tokens: &'a [Token], tree: &'a Tree) -> Lowering<'a> {
         Lowering {
             text,
             tokens,
@@ -146,15 +122,10 @@ impl<'a> Lowering<'a> {
     }
 
     /// Notes that a token breaks a rule, unless a refusal was noted before.
-    pub(crate) fn refuse(&mut self, rule: Rule, place: usize) {
-        if self.refused.is_some() {
-            return;
+    pub fn refuse(&mut self, rule: Rule, place: usize) {
+        if self.refused.is_none() {
+            self.refused = Some(Breach { rule, token: place });
         }
-        let (from, to) = match self.tokens.get(place) {
-            Some(token) => (token.from, token.to),
-            None => (self.text.len(), self.text.len()),
-        };
-        self.refused = Some(Refusal { rule, from, to });
     }
 
     fn note(&mut self, is_grown: bool) {
@@ -164,7 +135,7 @@ impl<'a> Lowering<'a> {
     }
 
     /// The bytes of a token; none where there is no such token.
-    pub(crate) fn bytes(&self, place: usize) -> &'a [u8] {
+    pub fn bytes(&self, place: usize) -> &'a [u8] {
         match self.tokens.get(place) {
             Some(token) => self.text.get(token.from..token.to).unwrap_or(b""),
             None => b"",
@@ -172,17 +143,17 @@ impl<'a> Lowering<'a> {
     }
 
     /// Whether a token has these bytes.
-    pub(crate) fn spells(&self, place: usize, name: &str) -> bool {
+    pub fn spells(&self, place: usize, name: &str) -> bool {
         self.bytes(place) == name.as_bytes()
     }
 
     /// Whether two tokens have the same bytes.
-    pub(crate) fn are_same(&self, left: usize, right: usize) -> bool {
+    pub fn are_same(&self, left: usize, right: usize) -> bool {
         self.bytes(left) == self.bytes(right)
     }
 
     /// Whether a token is a name.
-    pub(crate) fn is_name(&self, place: usize) -> bool {
+    pub fn is_name(&self, place: usize) -> bool {
         match self.tokens.get(place) {
             Some(token) => matches!(token.kind, TokenKind::Name),
             None => false,
@@ -190,7 +161,7 @@ impl<'a> Lowering<'a> {
     }
 
     /// Puts a value into its table. Its place.
-    pub(crate) fn value(&mut self, value: Value) -> usize {
+    pub fn value(&mut self, value: Value) -> usize {
         let place = self.code.values.len();
         let is_grown = self.code.values.push(value).is_ok();
         self.note(is_grown);
@@ -198,19 +169,20 @@ impl<'a> Lowering<'a> {
     }
 
     /// The value at a place.
-    pub(crate) fn value_at(&self, place: usize) -> Value {
+    pub fn value_at(&self, place: usize) -> Value {
         match self.code.values.get(place) {
             Some(value) => *value,
             None => Value::Number(0),
         }
     }
 
-    pub(crate) fn number(&mut self, number: i64) -> usize {
+    /// Puts a number into the table of values. Its place.
+    pub fn number(&mut self, number: i64) -> usize {
         self.value(Value::Number(number))
     }
 
     /// Takes what stands for the value of the next wait where that ends with a fault, or `NONE`.
-    pub(crate) fn take_fault(&mut self) -> usize {
+    pub fn take_fault(&mut self) -> usize {
         let found = self.setting.fallback;
         self.setting.fallback = Fallback::None;
         match found {
@@ -224,26 +196,36 @@ impl<'a> Lowering<'a> {
     }
 
     /// Puts an instruction after the others.
-    pub(crate) fn put(&mut self, instruction: Instruction) {
+    pub fn put(&mut self, instruction: Instruction) {
         let is_grown = self.code.instructions.push(instruction).is_ok();
         self.note(is_grown);
     }
 
     /// How many instructions there are.
-    pub(crate) fn here(&self) -> usize {
+    pub fn here(&self) -> usize {
         self.code.instructions.len()
     }
 
+    /// The operand at a place.
+    pub fn operand_at(&self, place: usize) -> Option<Operand> {
+        self.code.operands.get(place).copied()
+    }
+
     /// Puts an operand into its table, and after another one where there is one. Its place.
-    pub(crate) fn operand(&mut self, value: usize, last: usize) -> usize {
+    pub fn operand(&mut self, given: Typed, last: usize) -> usize {
         let place = self.code.operands.len();
         if let Some(before) = self.code.operands.get_mut(last) {
             before.next = place;
         }
+        let Typed { value, kind } = given;
         let is_grown = self
             .code
             .operands
-            .push(Operand { value, next: NONE })
+            .push(Operand {
+                value,
+                kind,
+                next: NONE,
+            })
             .is_ok();
         self.note(is_grown);
         place
@@ -270,7 +252,7 @@ impl<'a> Lowering<'a> {
     }
 
     /// A variable of the unit, with the name of a token, or without one where that is 0. Its place.
-    pub(crate) fn variable(&mut self, token: usize, is_param: bool) -> usize {
+    pub fn variable(&mut self, token: usize, is_param: bool) -> usize {
         let place = self.code.variables.len();
         let duplicate = if token == 0 {
             0
@@ -293,18 +275,18 @@ impl<'a> Lowering<'a> {
     }
 
     /// A variable without a name.
-    pub(crate) fn temporary(&mut self) -> usize {
+    pub fn temporary(&mut self) -> usize {
         self.variable(0, false)
     }
 
     /// Puts a variable into scope.
-    pub(crate) fn bind(&mut self, binding: Binding) {
+    pub fn bind(&mut self, binding: Binding) {
         let is_grown = self.scope.push(binding).is_ok();
         self.note(is_grown);
     }
 
     /// A unit, put into its table. Its place.
-    pub(crate) fn unit(&mut self, kind: UnitKind, actor: usize, token: usize) -> usize {
+    pub fn unit(&mut self, kind: UnitKind, actor: usize, token: usize) -> usize {
         let place = self.code.units.len();
         let is_grown = self
             .code
@@ -314,11 +296,8 @@ impl<'a> Lowering<'a> {
                 actor,
                 from: 0,
                 to: 0,
-                first_variable: 0,
-                variables_end: 0,
                 needs_done: false,
                 returns_inside: false,
-                has_value: false,
                 token,
                 end: token,
             })
@@ -328,7 +307,7 @@ impl<'a> Lowering<'a> {
     }
 
     /// Gives a variable without a name the name of a token. Whether it had none.
-    pub(crate) fn name_variable(&mut self, place: usize, token: usize) -> bool {
+    pub fn name_variable(&mut self, place: usize, token: usize) -> bool {
         let duplicate = self.duplicates(token);
         let unit = self.setting.unit;
         match self.code.variables.get_mut(place) {
@@ -345,14 +324,14 @@ impl<'a> Lowering<'a> {
     }
 
     /// Notes that something of the unit may follow a `return`.
-    pub(crate) fn need_done(&mut self) {
+    pub fn need_done(&mut self) {
         if let Some(unit) = self.code.units.get_mut(self.setting.unit) {
             unit.needs_done = true;
         }
     }
 
     /// Notes that a `return` of the unit stands in a group's block.
-    pub(crate) fn return_inside(&mut self) {
+    pub fn return_inside(&mut self) {
         if let Some(unit) = self.code.units.get_mut(self.setting.unit) {
             unit.returns_inside = true;
         }

@@ -5,7 +5,7 @@ use crate::lowering::Lowering;
 use swift_syntax::{FieldDecl, InstanceDecl, MethodDecl};
 
 /// The place of the method of an actor with the bytes of a token.
-pub(crate) fn method_named(lowering: &Lowering<'_>, actor: usize, token: usize) -> Option<usize> {
+pub fn method_named(lowering: &Lowering<'_>, actor: usize, token: usize) -> Option<usize> {
     lowering
         .tree
         .methods
@@ -14,7 +14,7 @@ pub(crate) fn method_named(lowering: &Lowering<'_>, actor: usize, token: usize) 
 }
 
 /// The place of the field of an actor with the bytes of a token.
-pub(crate) fn field_named(lowering: &Lowering<'_>, actor: usize, token: usize) -> Option<usize> {
+pub fn field_named(lowering: &Lowering<'_>, actor: usize, token: usize) -> Option<usize> {
     lowering
         .tree
         .fields
@@ -23,7 +23,7 @@ pub(crate) fn field_named(lowering: &Lowering<'_>, actor: usize, token: usize) -
 }
 
 /// The place of the instance with the bytes of a token.
-pub(crate) fn instance_named(lowering: &Lowering<'_>, token: usize) -> Option<usize> {
+pub fn instance_named(lowering: &Lowering<'_>, token: usize) -> Option<usize> {
     lowering
         .tree
         .instances
@@ -32,7 +32,7 @@ pub(crate) fn instance_named(lowering: &Lowering<'_>, token: usize) -> Option<us
 }
 
 /// The place of the constant with the bytes of a token.
-pub(crate) fn constant_named(lowering: &Lowering<'_>, token: usize) -> Option<usize> {
+pub fn constant_named(lowering: &Lowering<'_>, token: usize) -> Option<usize> {
     lowering
         .tree
         .constants
@@ -41,13 +41,13 @@ pub(crate) fn constant_named(lowering: &Lowering<'_>, token: usize) -> Option<us
 }
 
 /// The place of the task local of an enum, each with the bytes of a token.
-pub(crate) fn local_named(lowering: &Lowering<'_>, of: usize, token: usize) -> Option<usize> {
+pub fn local_named(lowering: &Lowering<'_>, of: usize, token: usize) -> Option<usize> {
     lowering.tree.locals.iter().position(|l| lowering.are_same(l.of, of)
         && lowering.are_same(l.name, token))
 }
 
 /// The place of the actor of an instance, or `NONE` where it is an executor's.
-pub(crate) fn actor_of(lowering: &Lowering<'_>, instance: usize) -> usize {
+pub fn actor_of(lowering: &Lowering<'_>, instance: usize) -> usize {
     let Some(declared) = lowering.tree.instances.get(instance) else {
         return NONE;
     };
@@ -63,16 +63,16 @@ pub(crate) fn actor_of(lowering: &Lowering<'_>, instance: usize) -> usize {
 }
 
 /// The method at a place.
-pub(crate) fn method_at(lowering: &Lowering<'_>, place: usize) -> Option<MethodDecl> {
+pub fn method_at(lowering: &Lowering<'_>, place: usize) -> Option<MethodDecl> {
     lowering.tree.methods.get(place).copied()
 }
 
 /// The field at a place.
-pub(crate) fn field_at(lowering: &Lowering<'_>, place: usize) -> Option<FieldDecl> {
+pub fn field_at(lowering: &Lowering<'_>, place: usize) -> Option<FieldDecl> {
     lowering.tree.fields.get(place).copied()
 }
 
 /// The instance at a place.
-pub(crate) fn instance_at(lowering: &Lowering<'_>, place: usize) -> Option<InstanceDecl> {
+pub fn instance_at(lowering: &Lowering<'_>, place: usize) -> Option<InstanceDecl> {
     lowering.tree.instances.get(place).copied()
 }
