@@ -29,3 +29,15 @@ decreases-statement l = l.depth
 
 abbrev pub decreases-statements : goal.decreases-statements
 decreases-statements l = l.depth
+
+abbrev pub decreases-guarded : goal.decreases-guarded
+decreases-guarded l = l.depth
+
+abbrev pub decreases-loop_results : goal.decreases-loop_results
+decreases-loop_results l = l.depth
+
+abbrev pub decreases-tasked : goal.decreases-tasked
+decreases-tasked l = l.depth
+
+abbrev pub decreases-child : goal.decreases-child
+decreases-child l = l.depth
