@@ -66,7 +66,7 @@ head_text name title = concat (codes "error[" ∷ name ∷ codes "]: " ∷ title
 
 -- the file, the line and the column, which counts bytes from 1
 abbrev pub arrow_text : List ℕ → List ℕ → List ℕ → ℕ → List ℕ
-arrow_text gutter file number before = concat (gutter ∷ codes "--> " ∷ file ∷ codes ":" ∷ number ∷ codes ":" ∷ decimal (before + 1) ∷ codes "\n" ∷ [])
+arrow_text gutter file number column = concat (gutter ∷ codes "--> " ∷ file ∷ codes ":" ∷ number ∷ codes ":" ∷ decimal column ∷ codes "\n" ∷ [])
 
 -- a line with nothing on it
 abbrev pub bar_text : List ℕ → List ℕ
@@ -84,7 +84,7 @@ help_text gutter help = concat (gutter ∷ codes " = help: " ∷ help ∷ codes 
 -- to blame, on this line or beyond it
 abbrev pub place_text : List ℕ → List ℕ → List ℕ → List ℕ → List ℕ → ℕ → List ℕ
 place_text file gutter number left right many = concat (
-    arrow_text gutter file number (length left)
+    arrow_text gutter file number (length left + 1)
     ∷ bar_text gutter
     ∷ source_text number (left ++ right)
     ∷ mark_text gutter (length left) (min many (length right))

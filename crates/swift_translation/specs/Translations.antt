@@ -1,8 +1,8 @@
 -- What becomes of a Swift file (our own).
 use Rattle.std.specs.Prelude.{ℕ, List}
 use Rattle.swift_syntax.specs.declared.rule.Refusal.{Refusal}
-use Rattle.swift_translation.specs.declared.translate.Translation.{Translation}
-use Rattle.swift_translation.specs.declared.translate.Translation.TheVariants.{Script, Refused}
+use Rattle.swift_translation.specs.declared.file.Translation.{Translation}
+use Rattle.swift_translation.specs.declared.file.Translation.TheVariants.{Script, Refused}
 
 -- Where a file becomes a script, this holds of its text.
 abbrev pub IfScript : (List ℕ → Type 0) → Translation → Type 0

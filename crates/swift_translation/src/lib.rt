@@ -3,6 +3,8 @@
 
 // Actors with their fields, invariants and methods.
 mod actor;
+// From the text of a file to that of a script.
+mod file;
 // Methods that are put in where they are called.
 mod frame;
 // The line of a text on which a place lies.
@@ -13,8 +15,6 @@ mod naming;
 mod refused;
 // Instructions as statements.
 mod step;
-// From text to text.
-mod translate;
 // Values as expressions.
 mod value;
 // Words that a script keeps.
@@ -24,5 +24,5 @@ mod writer;
 // A script that is written.
 mod writing;
 
+pub use file::{Translation, translate};
 pub use refused::refusal_text;
-pub use translate::{Translation, translate};

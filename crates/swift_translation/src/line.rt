@@ -1,8 +1,8 @@
 //! The line of a text on which a place lies.
 
-ghost use Rattle.std.specs.Prelude.{◌≡◌, ◌≤◌, ◌++◌, IfOk, IfSome, drop, length, map, take};
+ghost use Rattle.std.specs.Prelude.{◌≡◌, ◌<◌, ◌≤◌, ◌+◌, ◌++◌, IfOk, IfSome, length, map, take};
 ghost use Rattle.std.specs.String.{string_bytes};
-ghost use Rattle.swift_translation.specs.Refusals.{after_feed, before_feed, feed_in, feeds, last_line, left_of, right_of, shown_byte, shown_line, skip_lines};
+ghost use Rattle.swift_translation.specs.Refusals.{after_feed, before_feed, feed_in, feeds, left_of, right_of, shown_byte, shown_line, skip_lines};
 
 use std::alloc::{AllocError, Global};
 
@@ -12,8 +12,8 @@ pub(crate) const SHOWN: usize = 200;
 /// The line of a text on which a place lies.
 #[derive(Clone, Copy)]
 pub(crate) struct Line<'a> {
-    /// How many lines end before it.
-    pub before: usize,
+    /// Its number, from 1.
+    pub number: usize,
     /// What stands on it to the left of the place.
     pub left: &'a [u8],
     /// What stands on it from the place on.
@@ -22,14 +22,14 @@ pub(crate) struct Line<'a> {
 
 /// The line on which a place lies. A place behind the text stands for its end. Linear in the text.
 pub(crate) fn line_at(text: &[u8], place: usize) -> Line<'_>
-    ensures before { result.before ≡ feeds (take place text.now) }
+    ensures number { result.number ≡ feeds (take place text.now) + 1 }
     ensures left { result.left.now ≡ left_of text.now place }
     ensures right { result.right.now ≡ right_of text.now place }
 {
     let (left, right) = text.split_at(place.min(text.len()));
     let before = feeds(left);
     Line {
-        before,
+        number: before + 1,
         left: from_line(left, before),
         right: first_line(right),
     }
@@ -37,7 +37,8 @@ pub(crate) fn line_at(text: &[u8], place: usize) -> Line<'_>
 
 // How many lines end in a text.
 fn feeds(text: &[u8]) -> usize
-    ensures { result ≡ feeds text.now }
+    ensures feeds { result ≡ feeds text.now }
+    ensures within { result ≤ length text.now }
 {
     text.iter().filter(|b| **b == b'\n').count()
 }
@@ -87,9 +88,11 @@ fn line_feed(text: &[u8]) -> Option<usize>
 ///
 /// `AllocError` where there is no memory for it.
 pub(crate) fn shown_line(alloc: Global, line: Line<'_>) -> Result<String, AllocError>
-    ensures { IfOk result (λ shown. string_bytes shown ≡ shown_line (line.left.now ++ line.right.now)) }
+    ensures { IfOk result (λ shown. string_bytes shown ≡ shown_line (line.entry.left.now ++ line.entry.right.now)) }
 {
-    let whole = [line.left, line.right].as_slice().concat(alloc)?;
+    let mut whole = Vec::new(alloc);
+    whole.extend_from_slice(line.left)?;
+    whole.extend_from_slice(line.right)?;
     shown(alloc, &whole[..whole.len().min(SHOWN)])
 }
 

@@ -23,7 +23,7 @@ pub fn refusal_text(
     ensures { IfOk result (λ said. IsSaidOf file.now text.now refusal said.items) }
 {
     let line = line_at(text, refusal.from);
-    let number = line.before.saturating_add(1).to_string(alloc)?;
+    let number = line.number.to_string(alloc)?;
     let gutter = " ".repeat(alloc, number.len())?;
     let many = refusal.to.saturating_sub(refusal.from);
     let head = head(alloc, refusal.rule.name(), refusal.rule.title())?;
@@ -34,7 +34,7 @@ pub fn refusal_text(
 }
 
 // The number of a rule, and what is wrong.
-fn head(alloc: Global, name: &str, title: &str) -> Result<String, AllocError>
+fn head<'a>(alloc: Global, name: &'a str, title: &'a str) -> Result<String, AllocError>
     ensures { IfOk result (λ said. string_bytes said ≡ head_text name.now title.now) }
 {
     let parts = ["error[", name, "]: ", title, "\n"];
@@ -50,10 +50,10 @@ fn place(
     line: Line<'_>,
     many: usize,
 ) -> Result<String, AllocError>
-    ensures { IfOk result (λ said. string_bytes said ≡ place_text file.now gutter.now number.now line.left.now line.right.now many) }
+    ensures { IfOk result (λ said. string_bytes said ≡ place_text file.now gutter.now number.now line.entry.left.now line.entry.right.now many) }
 {
     let before = line.left.len();
-    let arrow = arrow(alloc, gutter, file, number, before)?;
+    let arrow = arrow(alloc, gutter, file, number, before + 1)?;
     let bar = bar(alloc, gutter)?;
     let source = source(alloc, number, line)?;
     let mark = mark(alloc, gutter, before, many.min(line.right.len()))?;
@@ -68,16 +68,16 @@ fn place(
 }
 
 // The file, the line and the column.
-fn arrow(
+fn arrow<'a>(
     alloc: Global,
-    gutter: &str,
-    file: &str,
-    number: &str,
-    before: usize,
+    gutter: &'a str,
+    file: &'a str,
+    number: &'a str,
+    column: usize,
 ) -> Result<String, AllocError>
-    ensures { IfOk result (λ said. string_bytes said ≡ arrow_text gutter.now file.now number.now before) }
+    ensures { IfOk result (λ said. string_bytes said ≡ arrow_text gutter.now file.now number.now column) }
 {
-    let column = before.saturating_add(1).to_string(alloc)?;
+    let column = column.to_string(alloc)?;
     let parts = [
         gutter,
         "--> ",
@@ -101,7 +101,7 @@ fn bar(alloc: Global, gutter: &str) -> Result<String, AllocError>
 
 // A line of the file, with its number.
 fn source(alloc: Global, number: &str, line: Line<'_>) -> Result<String, AllocError>
-    ensures { IfOk result (λ said. string_bytes said ≡ source_text number.now (line.left.now ++ line.right.now)) }
+    ensures { IfOk result (λ said. string_bytes said ≡ source_text number.now (line.entry.left.now ++ line.entry.right.now)) }
 {
     let shown = shown_line(alloc, line)?;
     let parts = [number, " | ", shown.as_str(), "\n"];
@@ -122,7 +122,7 @@ fn mark(alloc: Global, gutter: &str, before: usize, many: usize) -> Result<Strin
 }
 
 // What to do.
-fn help(alloc: Global, gutter: &str, help: &str) -> Result<String, AllocError>
+fn help<'a>(alloc: Global, gutter: &'a str, help: &'a str) -> Result<String, AllocError>
     ensures { IfOk result (λ said. string_bytes said ≡ help_text gutter.now help.now) }
 {
     let parts = [gutter, " = help: ", help, "\n"];

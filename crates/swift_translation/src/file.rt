@@ -1,4 +1,4 @@
-//! From text to text.
+//! From the text of a file to that of a script.
 
 ghost use Rattle.std.specs.Prelude.{◌≤◌, All, IfOk, length};
 ghost use Rattle.swift_syntax.specs.Places.{IsBlamedIn, IsTokenOf};
