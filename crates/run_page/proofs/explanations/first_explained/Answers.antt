@@ -1,4 +1,4 @@
-use Rattle.std.proofs.Common.{◌≡◌, ℕ, ◌-◌, ◌+◌, ◌<◌, Bool, if◌then◌else◌, ap, sym, ◌∙◌, arith, drop, length}
+use Rattle.std.proofs.Common.{◌≡◌, ℕ, ◌-◌, ◌+◌, ◌<◌, Bool, if◌then◌else◌, ap, ◌∙◌, arith, drop, length}
 use Rattle.run_page.specs.RunJson.{applied_turns}
 use Rattle.run_page.specs.declared.explanations.TheConstants.{EXPLAINED}
 use Rattle.run_page.proofs.Applied.{counted_from, last_of}
