@@ -1,6 +1,6 @@
 //! The answer, as a text.
 
-ghost use Rattle.std.specs.Prelude.{◌≡◌, ◌<◌, ◌++◌, ◌^◌, IfOk, OnOk};
+ghost use Rattle.std.specs.Prelude.{◌≡◌, ◌<◌, ◌+◌, ◌++◌, ◌^◌, IfOk, OnOk, codes, decimal};
 ghost use Rattle.explorer_answers.specs.AnswerText.{answer_text, asked_text, failures_text, fails_text, first_text, none_text, verdict_at};
 
 use expectations::{Expectation, Verdict, put_failure, verdict};
@@ -8,6 +8,23 @@ use itoa::Buffer;
 use std::alloc::{AllocError, Global};
 use swift_explorer::{FoundOutcomes, RunOutcome, found_text, put_schedule};
 use swift_script::Script;
+
+fn put_number(out: &mut Vec<u8>, number: usize) -> Result<(), AllocError>
+    ensures { OnOk result (out.new.items ≡ out.old.items ++ decimal number) }
+{
+    let mut buffer = Buffer::new();
+    out.extend_from_slice(buffer.format(number).as_bytes())
+}
+
+// In which outcome, from 1, something fails.
+fn put_place(out: &mut Vec<u8>, place: usize) -> Result<(), AllocError>
+    requires { place < 2 ^ 63 }
+    ensures { OnOk result (out.new.items ≡ out.old.items ++ (codes "fails in outcome " ++ decimal (place + 1) ++ codes ": ")) }
+{
+    out.extend_from_slice(b"fails in outcome ")?;
+    put_number(out, place + 1)?;
+    out.extend_from_slice(b": ")
+}
 
 // An expectation that fails in the outcome at a place.
 fn put_fails(
@@ -23,10 +40,7 @@ fn put_fails(
     requires verdict { verdict ≡ verdict_at script.now expectation.now outcome.now }
     ensures { OnOk result (out.new.items ≡ out.old.items ++ fails_text script.now expectation.now place outcome.now) }
 {
-    let mut buffer = Buffer::new();
-    out.extend_from_slice(b"fails in outcome ")?;
-    out.extend_from_slice(buffer.format(place + 1).as_bytes())?;
-    out.extend_from_slice(b": ")?;
+    put_place(out, place)?;
     put_failure(
         alloc,
         out,

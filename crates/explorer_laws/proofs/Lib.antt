@@ -1,2 +1,3 @@
 mod Records
 pub mod OfRuns
+pub mod Meeting

@@ -1,9 +1,9 @@
 -- What a search that came to its end says of each run.
-use Rattle.std.proofs.Common.{◌≡◌, ℕ, Bool, true, false, Option, Some, None, List, IsTrue, refl, sym, subst, ◌∙◌}
-use Rattle.std.specs.Prelude.{All, Contains, is_some}
+use Rattle.std.proofs.Common.{◌≡◌, ℕ, false, Option, Some, None, List, refl, subst, ◌∙◌}
+use Rattle.std.specs.Prelude.{Contains, is_some}
 use Rattle.script_parser.specs.declared.limits.TheConstants.{NESTING}
 use Rattle.swift_journal.specs.Records.{RecordView}
-use Rattle.swift_history.specs.Histories.{ReportView, ran}
+use Rattle.swift_history.specs.Histories.{ran}
 use Rattle.swift_script.specs.Accepted.{IsAccepted}
 use Rattle.swift_script.specs.Scripts.{ScriptView}
 use Rattle.swift_script.proofs.Accepting.{same_spelled}

@@ -21,7 +21,7 @@ use Rattle.nuchapay.specs.declared.scheduled.NoRun.{NoRun}
 use Rattle.nuchapay.specs.declared.scheduled.NoRun.TheVariants.{NoOutcome, NoneBroken, Word, OtherText, Step, Unfinished}
 use Rattle.nuchapay.specs.declared.scheduled.ScheduledRun.{ScheduledRun}
 use Rattle.nuchapay.specs.Schedules.{AreSpelled}
-use Rattle.nuchapay.specs.Searches.{IsFound}
+use Rattle.explorer_answers.specs.Found.{IsFound}
 
 -- A report is that of a schedule: it is legal, and its log is that of the schedule's steps.
 pub record IsScheduledReport (script : ScriptView) (schedule : List Move) (report : Report) : Type 0 where

@@ -4,9 +4,9 @@ ghost use Rattle.std.specs.Prelude.{IfOk};
 ghost use Rattle.nuchapay.specs.Runs.{HasEndedWell, IsOfRun};
 
 use crate::values::{all_ended_well, run_text};
-use nuchapay_runs::picture::{PictureFault, picture_of, svg_text, write_trace};
 use nuchapay_tool::PictureFormat;
 use run_page::{Heading, page_text};
+use run_pictures::picture::{PictureFault, picture_of, svg_text, write_trace};
 use std::alloc::{AllocError, AllocGlobal, Global};
 use std::io::Write;
 use std::random::RandomSource;

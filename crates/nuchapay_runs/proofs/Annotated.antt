@@ -1,79 +1,90 @@
--- Texts with lines of notes in them, part by part.
-use Rattle.std.proofs.Common.{◌≡◌, ℕ, ◌+◌, ◌-◌, ◌≤◌, List, [], ◌∷◌, ◌++◌, take, drop, length, refl, sym, ap, ap₂, ◌∙◌, append_assoc, append-nil, drop-drop, take-add, take_all, arith}
-use Rattle.std.specs.Prelude.{slice_range}
-use Rattle.nuchapay_runs.specs.Notes.{AppendsAnnotated, AppendsNotes, IsAnnotated, NotedPart, note_line, note_lines, with_notes, without_notes}
+-- A report with what is said of each turn is the report, with lines of notes in it.
+use Rattle.std.proofs.Common.{◌≡◌, ℕ, ◌+◌, ℤ, List, [], ◌∷◌, ◌++◌, length, refl, sym, ap, ap₂, subst, ◌∙◌, append_assoc, append-nil}
+use Rattle.std.specs.Prelude.{codes, false, true, slice_get}
+use Rattle.swift_script.specs.Scripts.{ScriptView, actor_count}
+use Rattle.swift_journal.specs.Checkpoints.{CheckpointRoomView}
+use Rattle.swift_journal.specs.Records.{RecordView}
+use Rattle.swift_journal.specs.Replay.{fields_after}
+use Rattle.swift_report.specs.Text.{executor_text, executors_text, fields_text, folded_count, folded_text, heading_text, line_of, report_text, tasks_text, turn_text, turns_text}
+use Rattle.swift_report.specs.declared.report.Report.{Report}
+use Rattle.nuchapay_runs.specs.Noted.{broken_lines, fields_before, front_of, noted_executor, noted_executors, noted_text, noted_turn, noted_turns, notes_text}
+use Rattle.nuchapay_runs.specs.Notes.{IsAnnotated, NotedPart, change_lines, note_line, note_lines, with_notes, without_notes}
+use Rattle.run_pictures.specs.Values.{ValuesView, turn_values}
 
-pub without_append : (ps qs : List NotedPart) → without_notes (ps ++ qs) ≡ without_notes ps ++ without_notes qs
+without_append : (ps qs : List NotedPart) → without_notes (ps ++ qs) ≡ without_notes ps ++ without_notes qs
 without_append [] qs = refl
 without_append (p ∷ ps) qs = ap (λ (xs : List ℕ). p.part ++ xs) (without_append ps qs) ∙ sym (append_assoc p.part (without_notes ps) (without_notes qs))
 
-pub with_append : (ps qs : List NotedPart) → with_notes (ps ++ qs) ≡ with_notes ps ++ with_notes qs
+with_append : (ps qs : List NotedPart) → with_notes (ps ++ qs) ≡ with_notes ps ++ with_notes qs
 with_append [] qs = refl
 with_append (p ∷ ps) qs = ap (λ (xs : List ℕ). (p.part ++ note_lines p.notes) ++ xs) (with_append ps qs) ∙ sym (append_assoc (p.part ++ note_lines p.notes) (with_notes ps) (with_notes qs))
 
--- two parts of a text that meet
-pub range_join : (text : List ℕ) (a b c : ℕ) → a ≤ b → b ≤ c → slice_range text a b ++ slice_range text b c ≡ slice_range text a c
-range_join text a b c ab bc =
-    let whole : c - a ≡ (b - a) + (c - b) = omega arith in
-    let back : a + (b - a) ≡ b = omega arith in
-    ap (λ (xs : List ℕ). take (b - a) (drop a text) ++ take (c - b) xs) (ap (λ (n : ℕ). drop n text) (sym back) ∙ sym (drop-drop (b - a) a text))
-    ∙ sym (take-add (b - a) (c - b) (drop a text))
-    ∙ ap (λ (n : ℕ). take n (drop a text)) (sym whole)
-
--- nothing of a text
-pub none : (text : List ℕ) (at : ℕ) (old : List ℕ) → AppendsAnnotated text at at old old
-none text at old =
-    let zero : at - at ≡ 0 = omega arith in
-    ([], sym (ap (λ (n : ℕ). take n (drop at text)) zero), sym (append-nil old))
-
--- a part of a text as it is
-pub plain : (text : List ℕ) (a b : ℕ) (old new : List ℕ) → new ≡ old ++ slice_range text a b → AppendsAnnotated text a b old new
-plain text a b old new is =
-    let part = slice_range text a b in
-    (record { part = part; notes = [] } ∷ [], append-nil part, is ∙ ap (λ (xs : List ℕ). old ++ xs) (sym (append-nil (part ++ []) ∙ append-nil part)))
-
--- lines of notes after it
-pub noted : (text : List ℕ) (a b : ℕ) (old new after : List ℕ) → new ≡ old ++ slice_range text a b → AppendsNotes new after → AppendsAnnotated text a b old after
-noted text a b old new after is notes =
-    let part = slice_range text a b in
-    let lines = notes.0 in (
-      record { part = part; notes = lines } ∷ [],
-      append-nil part,
-      notes.1 ∙ ap (λ (xs : List ℕ). xs ++ note_lines lines) is ∙ append_assoc old part (note_lines lines) ∙ ap (λ (xs : List ℕ). old ++ xs) (sym (append-nil (part ++ note_lines lines))),
-    )
-
--- one part after another
-pub joined : (text : List ℕ) (a b c : ℕ) (old mid new : List ℕ) → a ≤ b → b ≤ c → AppendsAnnotated text a b old mid → AppendsAnnotated text b c mid new → AppendsAnnotated text a c old new
-joined text a b c old mid new ab bc first second =
-    let ps = first.0 in
-    let qs = second.0 in (
-      ps ++ qs,
-      without_append ps qs ∙ ap₂ (λ (xs ys : List ℕ). xs ++ ys) first.1 second.1 ∙ range_join text a b c ab bc,
-      second.2 ∙ ap (λ (xs : List ℕ). xs ++ with_notes qs) first.2 ∙ append_assoc old (with_notes ps) (with_notes qs) ∙ ap (λ (xs : List ℕ). old ++ xs) (sym (with_append ps qs)),
-    )
-
--- a text from its beginning to its end
-pub whole : (text : List ℕ) (at : ℕ) (mid new : List ℕ) → at ≤ length text → AppendsAnnotated text 0 at [] mid → new ≡ mid ++ slice_range text at (length text) → IsAnnotated text new
-whole text at mid new within first is =
-    let all = joined text 0 at (length text) [] mid new (omega arith) within first (plain text at (length text) mid new is) in
-    (all.0, all.1 ∙ take_all (length text - 0) text (omega arith), sym all.2)
-
--- no lines, and some after others
-pub no_notes : (old : List ℕ) → AppendsNotes old old
-no_notes old = ([], sym (append-nil old))
-
-pub lines_append : (xs ys : List (List ℕ)) → note_lines (xs ++ ys) ≡ note_lines xs ++ note_lines ys
+lines_append : (xs ys : List (List ℕ)) → note_lines (xs ++ ys) ≡ note_lines xs ++ note_lines ys
 lines_append [] ys = refl
 lines_append (x ∷ xs) ys = ap (λ (zs : List ℕ). note_line x ++ zs) (lines_append xs ys) ∙ sym (append_assoc (note_line x) (note_lines xs) (note_lines ys))
 
-pub more_notes : (old mid new : List ℕ) (lines : List (List ℕ)) → mid ≡ old ++ note_lines lines → AppendsNotes mid new → AppendsNotes old new
-more_notes old mid new lines first second =
-    (lines ++ second.0, second.1 ∙ ap (λ (xs : List ℕ). xs ++ note_lines second.0) first ∙ append_assoc old (note_lines lines) (note_lines second.0) ∙ ap (λ (xs : List ℕ). old ++ xs) (sym (lines_append lines second.0)))
+-- one text with notes after another
+joined : (a b c d : List ℕ) → IsAnnotated a b → IsAnnotated c d → IsAnnotated (a ++ c) (b ++ d)
+joined a b c d first second =
+    let ps = first.0 in
+    let qs = second.0 in
+    (ps ++ qs, without_append ps qs ∙ ap₂ (λ (xs ys : List ℕ). xs ++ ys) first.1 second.1, with_append ps qs ∙ ap₂ (λ (xs ys : List ℕ). xs ++ ys) first.2 second.2)
 
--- one line
-pub one_note : (old new words : List ℕ) → new ≡ old ++ note_line words → AppendsNotes old new
-one_note old new words is = (words ∷ [], is ∙ ap (λ (xs : List ℕ). old ++ xs) (sym (append-nil (note_line words))))
+-- a text with lines of notes after it
+noted : (a : List ℕ) (lines : List (List ℕ)) → IsAnnotated a (a ++ note_lines lines)
+noted a lines = (record { part = a; notes = lines } ∷ [], append-nil a, append-nil (a ++ note_lines lines))
 
--- the beginning of a text, after nothing
-pub first_part : (text lent : List ℕ) (at : ℕ) (old new : List ℕ) → lent ≡ text → old ≡ [] → new ≡ old ++ slice_range lent 0 at → AppendsAnnotated text 0 at [] new
-first_part text lent at old new same empty is = plain text 0 at [] new (is ∙ ap₂ (λ (o l : List ℕ). o ++ slice_range l 0 at) empty same)
+-- a text as it is
+plain : (a : List ℕ) → IsAnnotated a a
+plain a = (record { part = a; notes = [] } ∷ [], append-nil a, append-nil (a ++ []) ∙ append-nil a)
+
+-- what is said of a turn, as lines of notes
+notes_are_lines : (p : ScriptView) (e : ℕ) (before : List (List ℤ)) (v : ValuesView)
+    → note_lines (change_lines p e (front_of v.outcome) v.changes ++ broken_lines p e v.changes before v.outcome) ≡ notes_text p e before v
+notes_are_lines p e before v = lines_append (change_lines p e (front_of v.outcome) v.changes) (broken_lines p e v.changes before v.outcome)
+
+turn_is_noted : (p : ScriptView) (e k : ℕ) (before : List (List ℤ)) (r : RecordView) → IsAnnotated (turn_text p k (line_of r)) (noted_turn p e k before r)
+turn_is_noted p e k before r =
+    let v = turn_values p before r in
+    let line = turn_text p k (line_of r) in
+    let lines = change_lines p e (front_of v.outcome) v.changes ++ broken_lines p e v.changes before v.outcome in
+    subst (λ (notes : List ℕ). IsAnnotated line (line ++ notes)) (notes_are_lines p e before v) (noted line lines)
+
+turns_are_noted : (p : ScriptView) (e k : ℕ) (before : List (List ℤ)) (rs : List RecordView) → IsAnnotated (turns_text p k rs) (noted_turns p e k before rs)
+turns_are_noted p e k before [] = ([], refl, refl)
+turns_are_noted p e k before (r ∷ rs) =
+    joined (turn_text p k (line_of r)) (noted_turn p e k before r) (turns_text p (k + 1) rs) (noted_turns p e (k + 1) (fields_after p before r) rs)
+    (turn_is_noted p e k before r)
+    (turns_are_noted p e (k + 1) (fields_after p before r) rs)
+
+executor_is_noted : (p : ScriptView) (e folded : ℕ) (before : List (List ℤ)) (j : List RecordView) → IsAnnotated (executor_text p e folded j) (noted_executor p e folded before j)
+executor_is_noted p e folded before j =
+    let front = heading_text p e (folded + length j) ++ folded_text folded in
+    joined front front (turns_text p folded j) (noted_turns p e folded before j) (plain front) (turns_are_noted p e folded before j)
+
+executors_are_noted : (p : ScriptView) (cs : List CheckpointRoomView) (k : ℕ) (js : List (List RecordView)) → IsAnnotated (executors_text p cs k js) (noted_executors p cs k js)
+executors_are_noted p cs k [] = ([], refl, refl)
+executors_are_noted p cs k (j ∷ js) =
+    let c = slice_get cs k in
+    joined (executor_text p k (folded_count c) j) (noted_executor p k (folded_count c) (fields_before c) j) (executors_text p cs (k + 1) js) (noted_executors p cs (k + 1) js)
+    (executor_is_noted p k (folded_count c) (fields_before c) j)
+    (executors_are_noted p cs (k + 1) js)
+
+-- a first part, apart from four others
+apart : (j t ts f fs : List ℕ) → (((j ++ t) ++ ts) ++ f) ++ fs ≡ j ++ (((t ++ ts) ++ f) ++ fs)
+apart j t ts f fs =
+    ap (λ (x : List ℕ). (x ++ f) ++ fs) (append_assoc j t ts)
+    ∙ ap (λ (x : List ℕ). x ++ fs) (append_assoc j (t ++ ts) f)
+    ∙ append_assoc j ((t ++ ts) ++ f) fs
+
+-- the text with notes is the report with notes in it
+pub noted_is_annotated : (p : ScriptView) (r : Report) → IsAnnotated (report_text p r false) (noted_text p r)
+noted_is_annotated p r =
+    let cs = r.checkpoints.items in
+    let js = r.journals.items in
+    let front = codes "journals\n" in
+    let rest = report_text p r true in
+    let is = apart (front ++ executors_text p cs 0 js) (codes "tasks\n") (tasks_text p 0 r.endings.items) (codes "fields\n") (fields_text p r.fields.items 0 (actor_count p)) in
+    subst (λ (text : List ℕ). IsAnnotated text (noted_text p r)) (sym is)
+    (joined (front ++ executors_text p cs 0 js) (front ++ noted_executors p cs 0 js) rest rest
+    (joined front front (executors_text p cs 0 js) (noted_executors p cs 0 js) (plain front) (executors_are_noted p cs 0 js)) (plain rest))

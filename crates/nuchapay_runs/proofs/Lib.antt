@@ -1,7 +1,11 @@
-pub mod Annotated
-pub mod Keeping
-pub mod Past
-pub mod Rows
-pub mod More
-pub mod Standing
+mod Annotated
+mod Bound
+mod Explaining
+mod Holding
+mod Joined
+mod Meanwhile
+mod Noting
+mod Past
+mod Playing
+mod Standing
 mod TaskNaming

@@ -1,14 +1,10 @@
 -- A turn stands at a place.
-use Rattle.std.proofs.Common.{◌≡◌, ◌<◌, ℕ, List, [], ◌∷◌, length, get_or, arith}
+use Rattle.std.proofs.Common.{◌≡◌, ◌<◌, ℕ, List, length, get_or}
 use Rattle.std.proofs.lemmas.List.Elements.{Contains-get_or}
 use Rattle.swift_journal.specs.Records.{RecordView}
 use Rattle.swift_journal.specs.Checkpoints.{FoldedView}
 use Rattle.nuchapay_runs.specs.Explains.{HasFolded, HasTurn}
-
--- an element of a list that has one
-first_of : {X : Type 0} (xs : List X) (k : ℕ) → k < length xs → X
-first_of [] k lt = absurd (omega (arith, lt))
-first_of (x ∷ xs) k lt = x
+use Rattle.run_pictures.proofs.Ranges.{first_of}
 
 pub turn_at : (rs : List RecordView) (k task number : ℕ) → k < length rs → ((d : RecordView) → ((get_or rs k d).task ≡ task) × ((get_or rs k d).number ≡ number)) → HasTurn rs task number
 turn_at rs k task number lt is = (let d = first_of rs k lt in (get_or rs k d, Contains-get_or rs k d lt, (is d).0, (is d).1))

@@ -2,7 +2,7 @@
 use Rattle.std.specs.Prelude.{◌≡◌, ℕ, List, [], ◌∷◌, ◌++◌, codes, flat_map, map, slice_get, slice_range, unwrap_or}
 use Rattle.std.specs.Fmt.{signed_decimal}
 use Rattle.swift_script.specs.Scripts.{ScriptView, actor_name, executor_actors, field_name}
-use Rattle.nuchapay_runs.specs.declared.values.change.Change.{Change}
+use Rattle.run_pictures.specs.declared.values.change.Change.{Change}
 
 -- the actor at a place of an executor; the first one where there is none
 abbrev pub actor_at : ScriptView → ℕ → ℕ → ℕ
@@ -23,6 +23,10 @@ note_line words = codes "    " ++ words ++ codes "\n"
 -- the lines of notes, one after the other, each as `note_line` writes it
 abbrev pub note_lines : List (List ℕ) → List ℕ
 note_lines = flat_map note_line
+
+-- each change after these words
+abbrev pub change_lines : ScriptView → ℕ → List ℕ → List Change → List (List ℕ)
+change_lines p e front changes = map (λ c. front ++ change_text p e c) changes
 
 -- Only lines of notes are put after a text.
 abbrev pub AppendsNotes : List ℕ → List ℕ → Type 0

@@ -1,25 +1,37 @@
 //! One turn explained.
 
-ghost use Rattle.std.specs.Prelude.{IfOk};
-ghost use Rattle.nuchapay_runs.specs.Explains.{Explains, IsNotFolded};
+ghost use Rattle.std.specs.Prelude.{◌≡◌, ◌+◌, ◌<◌, ◌≤◌, length, map, slice_index_or, take, IfOk, IfSome};
+ghost use Rattle.script_code.specs.Instructions.{FollowsCode};
+ghost use Rattle.script_code.specs.Layout.{code_at};
+ghost use Rattle.script_code.specs.Seen.{rows_of};
+ghost use Rattle.script_compiler.specs.IsCompiled.{actor_number};
+ghost use Rattle.swift_script.specs.Scripts.{method_actor, method_code, method_count};
+ghost use Rattle.swift_journal.specs.Records.{RecordView, owned_view};
+ghost use Rattle.swift_journal.specs.Replay.{replay};
+ghost use Rattle.swift_report.specs.Text.{line_of};
+ghost use Rattle.run_pictures.specs.Values.{values_from, values_views};
+ghost use Rattle.nuchapay_runs.specs.Explains.{Explains, IsNotFolded, IsWhyAt, Tells};
+ghost use Rattle.nuchapay_runs.specs.KnownInside.{TellsAt, known_of};
+ghost use Rattle.nuchapay_runs.specs.LinesInside.{line_in};
+ghost use Rattle.nuchapay_runs.specs.SaysInside.{Says};
+ghost use Rattle.nuchapay_runs.specs.NamedInside.{names_view};
+ghost use Rattle.nuchapay_runs.specs.Why.{head_text, meantime_text, own_place, place_among, why_text};
 
-use crate::fields::make;
-use crate::invariants::invariants_of;
-use crate::lines::line_at;
+use crate::formula::NamesAt;
+use crate::line::write_turn;
 use crate::names::{Found, find_turn};
-use crate::notes::{write_broken, write_changes};
-use crate::printed::{method_text, method_word};
-use crate::report::heading_lines;
-use crate::statement::{NamesAt, write_statement, write_variable};
+use crate::printed::{method_text, method_word, parameters_of};
 use crate::text::Text;
-use crate::values::{Change, Outcome, TurnValues, copy_of, last_turn, turn_values};
+use crate::why::{write_ends, write_fields, write_found, write_meanwhile};
 use crate::words::Words;
+use run_pictures::picture::{TurnBox, box_at};
+use run_pictures::{TurnValues, fields_before, last_turn, turn_values};
 use script_code::Instruction;
 use std::alloc::{AllocError, Global};
-use swift_journal::{Journal, OwnedRecord};
-use swift_report::{Report, report_text};
+use swift_journal::{Checkpoint, Journal, OwnedRecord};
+use swift_report::Report;
 use swift_script::Script;
-use swift_types::{ActorId, ExecId, LocalId, TaskId};
+use swift_types::{ActorId, ExecId, MethodId, TaskId};
 
 /// What is known of a turn (our own).
 #[derive(Drop)]
@@ -32,30 +44,13 @@ pub enum Explained {
     Nowhere,
 }
 
-// A turn of an executor's journal.
-#[derive(Clone, Copy)]
-struct ExplainedTurn<'a> {
-    script: &'a Script,
-    executor: ExecId,
-    // The fields from before the journal.
-    start: &'a [Vec<i64>],
-    journal: &'a Journal,
-    place: usize,
-    // Its method: the actor, its place among those of the executor, the name, the number of parameters and the instructions.
-    actor: ActorId,
-    row: usize,
-    name: &'a [u8],
-    params: usize,
-    instructions: &'a [Instruction],
-}
-
-/// Explains a turn of a report on a script, by its task and its number there (the format is our own): the line of the report for it; its method, and at which
-/// statement it began and its frame goes on; what it began with, its
+/// Explains a turn of a report on a script, by its task and its number there (the format is our own): the line of the report for it; its
+/// method, and at which statement it began and its frame goes on; what it began with, its
 /// variables and the bindings that stood; the fields of its actor, and others that it changed; of a turn that was undone, what it would
 /// have left and which invariant is false there; and for each field of its actor that turns of other tasks changed since its task's last
 /// turn on that executor, a line for each of these turns.
 ///
-/// It costs what the report's text costs, and playing the turns of the executor's journal once.
+/// It costs a look over the script's text, and playing the turns of the executor's journal at most twice.
 ///
 /// # Errors
 ///
@@ -67,12 +62,13 @@ pub fn explain_turn(
     task: TaskId,
     number: u32,
 ) -> Result<Explained, AllocError>
-    ensures { IfOk result (Explains report.now task.0 number) }
+    ensures stands { IfOk result (Explains report.now task.0 number) }
+    ensures told { IfOk result (Tells script.now report.now task.0 number) }
 {
     match find_turn(report, task, number) {
         Found::Folded => Ok(Explained::Folded),
         Found::Nowhere => Ok(Explained::Nowhere),
-        Found::Journal(executor, place) => explain_at(alloc, script, report, executor, place),
+        Found::Journal(executor, place) => { explain_at(alloc, script, report, executor, place) }
     }
 }
 
@@ -84,7 +80,8 @@ fn explain_at(
     executor: usize,
     place: usize,
 ) -> Result<Explained, AllocError>
-    ensures { IfOk result IsNotFolded }
+    ensures folded { IfOk result IsNotFolded }
+    ensures told { IfOk result (TellsAt script.now report.now executor place) }
 {
     let Some(journal) = report.journals.get(executor) else {
         return Ok(Explained::Nowhere);
@@ -92,7 +89,7 @@ fn explain_at(
     let Some(checkpoint) = report.checkpoints.get(executor) else {
         return Ok(Explained::Nowhere);
     };
-    let Ok(number) = u32::try_from(executor) else {
+    let Ok(executor) = u32::try_from(executor) else {
         return Ok(Explained::Nowhere);
     };
     if place >= journal.len() {
@@ -102,80 +99,18 @@ fn explain_at(
     if method.0 as usize >= script.method_count() {
         return Ok(Explained::Nowhere);
     }
-    let actor = script.method_actor(method);
-    let turn = ExplainedTurn {
-        script,
-        executor: ExecId(number),
-        start: checkpoint.fields(),
-        journal,
-        place,
-        actor,
-        row: row_of(script.executor_actors(ExecId(number)), actor),
-        name: script.method_name(method),
-        params: script.method_params(method) as usize,
-        instructions: script.instructions(method),
-    };
-    let record = journal.read(alloc, place)?;
-    let lines = lines_before(report, executor).saturating_add(place);
-    let text = report_text(alloc, script, report, false)?;
+    let executor = ExecId(executor);
+    let position = checkpoint.len() + place;
     let said = turn_text(
-        alloc,
-        &turn,
-        &record,
-        line_at(&text, lines),
-        last_turn(journal, place),
+        alloc, script, executor, checkpoint, position, journal, place, method,
     )?;
     Ok(Explained::Found(said))
 }
 
-// The text of a turn, with its line in the report, where the last turn of its task there was at this place.
-fn turn_text(
-    alloc: Global,
-    turn: &ExplainedTurn<'_>,
-    record: &OwnedRecord,
-    line: &[u8],
-    last: Option<usize>,
-) -> Result<Vec<u8>, AllocError> {
-    let said = Words::new(alloc, line)?;
-    let printed = Words::new(alloc, turn.script.printed())?;
-    let values = turn_values(alloc, turn.script, turn.start, turn.journal)?;
-    let mut out = Text::new(alloc);
-    out.say(line);
-    write_begin(&mut out, turn, &printed, record, &said);
-    out.part(fields_text(alloc, turn, &printed, &values));
-    write_meanwhile(&mut out, turn, last, record.task.0, &values);
-    out.into_bytes()
-}
-
-// The method of a turn, at which statement it began and its frame goes on, what it began with, its variables and the bindings.
-fn write_begin(
-    out: &mut Text,
-    turn: &ExplainedTurn<'_>,
-    printed: &Words<'_>,
-    record: &OwnedRecord,
-    line: &Words<'_>,
-) {
-    let word = method_word(printed, turn.actor.0 as usize, turn.name);
-    let names = NamesAt {
-        script: turn.script,
-        printed,
-        word,
-        params: turn.params,
-        executor: turn.executor,
-        actor: turn.actor,
-    };
-    out.say(b"\nmethod\n    ");
-    out.say(method_text(printed, word));
-    write_ends(out, &names, turn.instructions, record);
-    out.say(b"\nbegan with\n    ");
-    write_resume(out, line);
-    write_env(out, record);
-    write_variables(out, &names, &record.frame.variables);
-    write_bindings(out, turn.script, record);
-}
-
 // The place of an actor among those of its executor.
-fn row_of(actors: &[ActorId], actor: ActorId) -> usize {
+fn place_among(actors: &[ActorId], actor: ActorId) -> usize
+    ensures { result ≡ place_among (map actor_number actors.now) actor.0 }
+{
     for place in 0..actors.len() {
         if actors[place] == actor {
             return place;
@@ -184,223 +119,169 @@ fn row_of(actors: &[ActorId], actor: ActorId) -> usize {
     actors.len()
 }
 
-// How many lines of a report stand before those of the turns of an executor's journal.
-fn lines_before(report: &Report, executor: usize) -> usize {
-    let mut lines: usize = 1;
-    for (place, journal) in report.journals.iter().enumerate() {
-        if let Some(checkpoint) = report.checkpoints.get(place) {
-            lines = lines.saturating_add(heading_lines(checkpoint));
-        }
-        if place == executor {
-            return lines;
-        }
-        lines = lines.saturating_add(journal.len());
-    }
-    lines
+// A turn that is explained.
+#[derive(Clone, Copy)]
+struct ExplainedTurn<'a> {
+    names: NamesAt<'a>,
+    // The text of its method, and the instructions.
+    method: &'a [u8],
+    instructions: &'a [Instruction],
+    // Its place among all turns of its executor, those of the journal, and its place among these.
+    position: usize,
+    journal: &'a Journal,
+    place: usize,
+    // What the report's line says of it, and what it was.
+    line: TurnBox,
+    found: &'a OwnedRecord,
+    // The fields from before it, what it did to them, and what each turn of the journal did.
+    before: &'a [Vec<i64>],
+    own: &'a TurnValues,
+    values: &'a [TurnValues],
+    // The place of the last turn of its task.
+    last: Option<usize>,
 }
 
-// What a turn began with, as its line has it: what stands between the six words in front and the arrow.
-fn write_resume(out: &mut Text, line: &Words<'_>) {
-    let arrow = line.find(b"->", 6);
-    out.say(line.from_to(6, arrow.saturating_sub(1)));
-    out.say(b"\n")
-}
-
-// What a turn was given.
-fn write_env(out: &mut Text, record: &OwnedRecord) {
-    out.say(b"    priority ");
-    out.number(record.env.priority.number());
-    if record.env.cancelled {
-        out.say(b", cancelled\n")
-    } else {
-        out.say(b", not cancelled\n")
-    }
-}
-
-// At which statement a turn began, and at which its frame goes on, where it does.
-fn write_ends(
-    out: &mut Text,
-    names: &NamesAt<'_>,
-    instructions: &[Instruction],
-    record: &OwnedRecord,
-) {
-    out.say(b"\n    began at ");
-    write_statement(out, names, instructions, record.frame.instruction as usize);
-    if let Some(after) = &record.after {
-        out.say(b"\n    goes on at ");
-        write_statement(out, names, instructions, after.instruction as usize);
-    }
-}
-
-// A line for each variable: a parameter by its name, any other by its number.
-fn write_variables(out: &mut Text, names: &NamesAt<'_>, variables: &[i64]) {
-    for (place, value) in variables.iter().enumerate() {
-        out.say(b"    ");
-        write_variable(out, names, place);
-        out.say(b" ");
-        out.number(*value);
-        out.say(b"\n");
-    }
-}
-
-fn write_binding(out: &mut Text, script: &Script, local: LocalId, value: i64) {
-    out.say(b"    @");
-    out.say(script.local_name(local));
-    out.say(b" ");
-    out.number(value);
-    out.say(b"\n")
-}
-
-// A line for each binding that stood, the outermost first.
-fn write_bindings(out: &mut Text, script: &Script, record: &OwnedRecord) {
-    for place in 0..record.outer.depth() {
-        let (local, value) = record.outer.entry(place);
-        write_binding(out, script, local, value);
-    }
-    for binding in &record.frame.own {
-        write_binding(out, script, binding.local, binding.value);
-    }
-}
-
-// The fields from before a turn.
-fn fields_before(
+// The text of the turn at a place of a journal, which is one of this method.
+fn turn_text(
     alloc: Global,
-    turn: &ExplainedTurn<'_>,
-    values: &[TurnValues],
-) -> Result<Vec<Vec<i64>>, AllocError> {
-    let mut fields = copy_of(alloc, turn.start)?;
-    for place in 0..turn.place.min(values.len()) {
-        let values = &values[place];
-        if let Outcome::Kept = values.outcome {
-            make(&mut fields, &values.changes);
-        }
-    }
-    Ok(fields)
-}
-
-// The value of a field after changes, if one of them is of it.
-fn changed_to(changes: &[Change], actor: usize, field: usize) -> Option<i64> {
-    for change in changes {
-        if change.actor == actor && change.field == field {
-            return Some(change.after);
-        }
-    }
-    None
-}
-
-// The fields of a turn's actor before it, and those that it changed, its actor's or another one's.
-fn write_row(out: &mut Text, turn: &ExplainedTurn<'_>, fields: &[Vec<i64>], changes: &[Change]) {
-    out.say(b"fields\n");
-    if let Some(row) = fields.get(turn.row) {
-        for (field, value) in row.iter().enumerate() {
-            out.say(b"    ");
-            out.place(turn.script, turn.executor, turn.row, field);
-            out.say(b" ");
-            out.number(*value);
-            if let Some(after) = changed_to(changes, turn.row, field) {
-                out.say(b" -> ");
-                out.number(after);
-            }
-            out.say(b"\n");
-        }
-    }
-    for change in changes {
-        if change.actor != turn.row {
-            out.say(b"    ");
-            out.change(turn.script, turn.executor, change);
-            out.say(b"\n");
-        }
-    }
-}
-
-// The fields, and of a turn that was undone what it would have left.
-fn fields_text(
-    alloc: Global,
-    turn: &ExplainedTurn<'_>,
-    printed: &Words<'_>,
-    values: &[TurnValues],
-) -> Result<Vec<u8>, AllocError> {
-    let Some(own) = values.get(turn.place) else {
-        return Ok(Vec::new(alloc));
+    script: &Script,
+    executor: ExecId,
+    start: &Checkpoint,
+    position: usize,
+    journal: &Journal,
+    place: usize,
+    method: MethodId,
+) -> Result<Vec<u8>, AllocError>
+    requires place { place < length journal.now }
+    requires position { position ≡ length start.now.view.folded + place }
+    requires method { method.0 < method_count script.now }
+    requires of_method { (d : RecordView) → method.0 ≡ (slice_index_or journal.now place d).frame.method }
+    ensures { IfOk result (λ text. IsWhyAt script.now executor.0 start.now journal.now place text.items) }
+{
+    let found = journal.read(alloc, place)?;
+    let actor = script.method_actor(method);
+    let printed = Words::new(alloc, script.printed())?;
+    let word = method_word(&printed, actor.0 as usize, script.method_name(method));
+    let params = script.method_params(method) as usize;
+    let variables = parameters_of(alloc, &printed, word, params)?;
+    let before = fields_before(alloc, script, start.fields(), journal, place)?;
+    let values = turn_values(alloc, script, start.fields(), journal)?;
+    let names = NamesAt {
+        script,
+        executor,
+        actor,
+        variables: &variables,
     };
-    let mut fields = fields_before(alloc, turn, values)?;
+    let body = method_text(&printed, word);
+    let instructions = script.instructions(method);
+    why_text(
+        alloc,
+        names,
+        body,
+        instructions,
+        start,
+        position,
+        journal,
+        place,
+        &found,
+        &before,
+        &values,
+    )
+}
+
+// The text of the turn at a place of a journal, of which this is known.
+fn why_text(
+    alloc: Global,
+    names: NamesAt<'_>,
+    method: &[u8],
+    instructions: &[Instruction],
+    start: &Checkpoint,
+    position: usize,
+    journal: &Journal,
+    place: usize,
+    found: &OwnedRecord,
+    before: &[Vec<i64>],
+    values: &[TurnValues],
+) -> Result<Vec<u8>, AllocError>
+    requires place { place < length journal.now }
+    requires position { position ≡ length start.now.view.folded + place }
+    requires actor { names.actor.0 ≡ method_actor names.script.now found.now.frame.method.0 }
+    requires instructions { FollowsCode instructions.now (method_code names.script.now found.now.frame.method.0) (code_at (method_code names.script.now found.now.frame.method.0)) }
+    requires found { (d : RecordView) → owned_view found.now ≡ slice_index_or journal.now place d }
+    requires before { rows_of before.now ≡ replay names.script.now start.now.view.fields (take place journal.now) }
+    requires values { values_views values.now ≡ values_from names.script.now start.now.view.fields journal.now }
+    ensures { IfOk result (λ text. IsWhyAt names.entry.script.now names.entry.executor.0 start.now journal.now place text.items) }
+{
+    let turn = ExplainedTurn {
+        names,
+        method,
+        instructions,
+        position,
+        journal,
+        place,
+        line: box_at(journal, names.executor.0 as usize, place),
+        found,
+        before,
+        own: &values[place],
+        values,
+        last: last_turn(journal, place),
+    };
     let mut out = Text::new(alloc);
-    if let Outcome::Kept = own.outcome {
-        write_row(&mut out, turn, &fields, &own.changes);
-    } else {
-        write_row(&mut out, turn, &fields, &[]);
-        out.part(undone_text(alloc, turn, printed, &mut fields, own));
-    }
+    write_why(&mut out, alloc, &turn);
     out.into_bytes()
 }
 
-// What a turn that was undone would have left, where that is another thing than it found.
-fn undone_text(
-    alloc: Global,
-    turn: &ExplainedTurn<'_>,
-    printed: &Words<'_>,
-    fields: &mut [Vec<i64>],
-    own: &TurnValues,
-) -> Result<Vec<u8>, AllocError> {
-    if own.changes.is_empty() {
-        return Ok(Vec::new(alloc));
-    }
-    let invariants = invariants_of(alloc, turn.script, printed, turn.executor)?;
-    let mut out = Vec::from_slice(alloc, b"would have left\n")?;
-    write_changes(&mut out, turn.script, turn.executor, b"", &own.changes)?;
-    write_broken(
-        &mut out,
-        alloc,
-        turn.script,
-        turn.executor,
-        &invariants,
-        fields,
-        own,
-    )?;
-    Ok(out)
+// The line of the report, the method, and where in it the turn began and its frame goes on.
+fn write_head(out: &mut Text, turn: &ExplainedTurn<'_>)
+    requires line { line_in turn.now.line ≡ line_of (owned_view turn.now.found.now) }
+    ensures { Says out.old out.new (head_text (known_of turn.now)) }
+{
+    write_turn(out, turn.names.script, turn.position, &turn.line);
+    out.say(b"method\n    ");
+    out.say(turn.method);
+    write_ends(out, &turn.names, turn.instructions, turn.found)
 }
 
-// A line for each change of a field of a turn's actor since the last turn of its task there.
-fn write_meanwhile(
-    out: &mut Text,
-    turn: &ExplainedTurn<'_>,
-    last: Option<usize>,
-    task: u32,
-    values: &[TurnValues],
-) {
-    let Some(last) = last else {
-        return;
-    };
-    for place in last.saturating_add(1)..turn.place.min(values.len()).min(turn.journal.len()) {
-        let other = &values[place];
-        if let Outcome::Kept = other.outcome {
-            write_changed(out, turn, task, place, &other.changes);
-        }
+// The changes of fields of the turn's actor, which stands at this place of its executor, since the last turn of its task there.
+fn write_since(out: &mut Text, turn: &ExplainedTurn<'_>, actor: usize)
+    requires last { IfSome turn.now.last (λ last. last < turn.now.place) }
+    requires turns { turn.now.place ≤ length turn.now.journal.now }
+    requires values { turn.now.place ≤ length turn.now.values.now }
+    requires actor { actor ≡ own_place (names_view turn.now.names) }
+    ensures { Says out.old out.new (meantime_text (known_of turn.now)) }
+{
+    if let Some(last) = turn.last {
+        write_meanwhile(
+            out,
+            turn.names.script,
+            turn.names.executor,
+            actor,
+            turn.found.task,
+            turn.journal,
+            turn.values,
+            last + 1,
+            turn.place,
+        )
     }
 }
 
-// A line for each change of a field of a turn's actor that the turn at a place made.
-fn write_changed(
-    out: &mut Text,
-    turn: &ExplainedTurn<'_>,
-    task: u32,
-    place: usize,
-    changes: &[Change],
-) {
-    if place >= turn.journal.len() {
-        return;
-    }
-    for change in changes {
-        if change.actor == turn.row {
-            out.say(b"changed while t");
-            out.number(task);
-            out.say(b" was waiting: ");
-            out.change(turn.script, turn.executor, change);
-            out.say(b" by t");
-            out.number(turn.journal.task(place).0);
-            out.say(b".");
-            out.number(turn.journal.number(place));
-            out.say(b"\n");
-        }
-    }
+// The whole text.
+fn write_why(out: &mut Text, alloc: Global, turn: &ExplainedTurn<'_>)
+    requires line { line_in turn.now.line ≡ line_of (owned_view turn.now.found.now) }
+    requires last { IfSome turn.now.last (λ last. last < turn.now.place) }
+    requires turns { turn.now.place ≤ length turn.now.journal.now }
+    requires values { turn.now.place ≤ length turn.now.values.now }
+    ensures { Says out.old out.new (why_text (known_of turn.now)) }
+{
+    let NamesAt {
+        script,
+        executor,
+        actor,
+        ..
+    } = turn.names;
+    let actor = place_among(script.executor_actors(executor), actor);
+    write_head(out, turn);
+    write_found(out, &turn.names, turn.found);
+    write_fields(out, alloc, script, executor, actor, turn.before, turn.own);
+    write_since(out, turn, actor)
 }

@@ -1,35 +1,17 @@
-//! Fields as they are after some turns.
+//! Fields as a turn leaves them.
 
-use crate::values::Change;
+ghost use Rattle.std.specs.Prelude.{◌≡◌};
+ghost use Rattle.script_code.specs.Seen.{rows_of};
+ghost use Rattle.script_code.specs.Value.{field_at};
+ghost use Rattle.nuchapay_runs.specs.False.{is_change_of, value_left};
+
+use run_pictures::Change;
 use script_code::FieldPlace;
 
-// Sets a field, where it is there.
-fn set_field(fields: &mut [Vec<i64>], actor: usize, field: usize, value: i64) {
-    if actor >= fields.len() {
-        return;
-    }
-    let row = &mut fields[actor];
-    if field < row.len() {
-        row[field] = value;
-    }
-}
-
-/// Makes changes.
-pub fn make(fields: &mut [Vec<i64>], changes: &[Change]) {
-    for change in changes {
-        set_field(fields, change.actor, change.field, change.after);
-    }
-}
-
-/// Takes changes back.
-pub fn take_back(fields: &mut [Vec<i64>], changes: &[Change]) {
-    for change in changes {
-        set_field(fields, change.actor, change.field, change.before);
-    }
-}
-
-/// The value of a field; 0 where it is not there.
-pub fn value_at(fields: &[Vec<i64>], place: FieldPlace) -> i64 {
+// The value of a field; 0 where it is not there.
+fn value_at(fields: &[Vec<i64>], place: FieldPlace) -> i64
+    ensures { result ≡ field_at (rows_of fields.now) place }
+{
     match fields.get(place.actor as usize) {
         Some(row) => match row.get(place.field as usize) {
             Some(value) => *value,
@@ -37,4 +19,22 @@ pub fn value_at(fields: &[Vec<i64>], place: FieldPlace) -> i64 {
         },
         None => 0,
     }
+}
+
+fn is_change_of(change: &Change, place: FieldPlace) -> bool
+    ensures { result ≡ is_change_of change.now place }
+{
+    change.actor == place.actor as usize && change.field == place.field as usize
+}
+
+/// What a turn with these changes leaves in a field, where these are the fields from before it; 0 where the field is not there.
+pub(crate) fn value_left(changes: &[Change], before: &[Vec<i64>], place: FieldPlace) -> i64
+    ensures { result ≡ value_left changes.now (rows_of before.now) place }
+{
+    for change in changes {
+        if is_change_of(change, place) {
+            return change.after;
+        }
+    }
+    value_at(before, place)
 }

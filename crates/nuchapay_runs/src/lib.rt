@@ -1,23 +1,23 @@
-//! What is told of a run: what its turns did to the fields, that in words, below each turn of a report or of one turn with what came before
-//! it, and the run as a picture.
+//! What is told of a run in words: below each turn of a report what it did to the fields, one turn with what came before it, and the names
+//! of tasks.
 #![tactic(auto)]
 
 // One turn explained.
 mod explained;
-// Fields as they are after some turns.
+// Fields as a turn leaves them.
 mod fields;
+// Expressions in words.
+mod formula;
 // The invariants of an executor's actors.
 mod invariants;
-// Lines of a text.
-mod lines;
+// The lines of a report, one by one.
+mod line;
 // Where a turn stands.
 mod names;
 // What is said of one turn in a report.
 mod notes;
 // Numbers in decimal.
 mod number;
-// A run as a picture.
-pub mod picture;
 // Parts of a printed form.
 mod printed;
 // The report with what is said of each turn.
@@ -28,8 +28,8 @@ mod statement;
 mod task_names;
 // Texts that are being written.
 mod text;
-// What turns did to the fields.
-mod values;
+// What is told of one turn.
+mod why;
 // The words of a text.
 mod words;
 
@@ -37,4 +37,3 @@ pub use explained::{Explained, explain_turn};
 pub use notes::write_change;
 pub use report::report_with_values;
 pub use task_names::{find_task, task_name};
-pub use values::{Change, Outcome, TurnValues, last_turn, turn_values};

@@ -3,7 +3,7 @@
 ghost use Rattle.std.specs.Prelude.{◌≡◌, ◌<◌, IfSome, IsTrue, length, slice_index_or};
 ghost use Rattle.swift_journal.specs.Checkpoints.{FoldedView};
 ghost use Rattle.swift_journal.specs.Records.{RecordView};
-ghost use Rattle.nuchapay_runs.specs.Explains.{HasFolded, HasTurn, Stands};
+ghost use Rattle.nuchapay_runs.specs.Explains.{HasFolded, IsTurnAt, Stands};
 
 use swift_journal::{Checkpoint, Journal};
 use swift_report::Report;
@@ -38,7 +38,7 @@ fn is_folded(checkpoint: &Checkpoint, place: usize, task: TaskId, number: u32) -
 
 // The place of a turn in a journal.
 fn place_of(journal: &Journal, task: TaskId, number: u32) -> Option<usize>
-    ensures { IfSome result (λ place. HasTurn journal.now task.0 number) }
+    ensures { IfSome result (λ place. IsTurnAt journal.now place task.0 number) }
 {
     for place in 0..journal.len() {
         if is_turn(journal, place, task, number) {

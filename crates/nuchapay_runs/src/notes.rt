@@ -1,12 +1,18 @@
 //! What is said of one turn in a report.
 
-ghost use Rattle.std.specs.Prelude.{◌≡◌, ◌++◌, map, OnOk};
-ghost use Rattle.nuchapay_runs.specs.Notes.{AppendsNotes, actor_at as actor_among, change_text, note_line, note_lines, place_text};
+ghost use Rattle.std.specs.Prelude.{◌≡◌, ◌++◌, OnOk};
+ghost use Rattle.script_code.specs.Seen.{rows_of};
+ghost use Rattle.nuchapay_runs.specs.False.{false_lines, false_text};
+ghost use Rattle.nuchapay_runs.specs.Noted.{broken_lines, front_of, notes_text};
+ghost use Rattle.nuchapay_runs.specs.Notes.{actor_at as actor_among, change_lines, change_text, note_line, note_lines, place_text};
+ghost use Rattle.nuchapay_runs.specs.OwnedInside.{owned_if, owned_of};
+ghost use Rattle.nuchapay_runs.specs.SaysInside.{Says};
+ghost use Rattle.run_pictures.specs.Values.{values_view};
 
-use crate::fields::{make, take_back};
-use crate::invariants::{Invariant, false_text};
+use crate::invariants::{OwnedInvariant, invariant_among, write_false};
 use crate::number::number;
-use crate::values::{Change, Outcome, TurnValues};
+use crate::text::Text;
+use run_pictures::{Change, Outcome, TurnValues};
 use std::alloc::{AllocError, Global};
 use swift_script::Script;
 use swift_types::{ActorId, ExecId};
@@ -57,74 +63,126 @@ pub fn write_change(
     number(out, change.after)
 }
 
-/// Appends a line for each of these changes, which says so much in front.
-pub(crate) fn write_changes(
-    out: &mut Vec<u8>,
+// A change after these words.
+fn write_fronted(out: &mut Text, script: &Script, executor: ExecId, front: &[u8], change: &Change)
+    ensures { Says out.old out.new (front.now ++ change_text script.now executor.0 change.now) }
+{
+    out.say(front);
+    out.change(script, executor, change)
+}
+
+/// Goes on with the line of a change, which says so much in front.
+pub(crate) fn write_change_line(
+    out: &mut Text,
+    script: &Script,
+    executor: ExecId,
+    front: &[u8],
+    change: &Change,
+)
+    ensures { Says out.old out.new (note_line (front.now ++ change_text script.now executor.0 change.now)) }
+{
+    out.say(b"    ");
+    write_fronted(out, script, executor, front, change);
+    out.say(b"\n")
+}
+
+/// Goes on with a line for each of these changes, which says so much in front.
+pub(crate) fn write_lines(
+    out: &mut Text,
     script: &Script,
     executor: ExecId,
     front: &[u8],
     changes: &[Change],
-) -> Result<(), AllocError>
-    ensures { OnOk result (out.new.items ≡ out.old.items ++ note_lines (map (λ c. front.now ++ change_text script.now executor.0 c) changes.now)) }
+)
+    ensures { Says out.old out.new (note_lines (change_lines script.now executor.0 front.now changes.now)) }
 {
     for change in changes {
-        out.extend_from_slice(b"    ")?;
-        out.extend_from_slice(front)?;
-        write_change(out, script, executor, change)?;
-        out.extend_from_slice(b"\n")?;
+        write_change_line(out, script, executor, front, change);
     }
-    Ok(())
 }
 
-// Appends a line of a note.
-fn write_line(out: &mut Vec<u8>, words: &[u8]) -> Result<(), AllocError>
-    ensures { OnOk result (out.new.items ≡ out.old.items ++ note_line words.now) }
+// Goes on with the line of an invariant that a turn would have left false.
+fn write_false_note(
+    out: &mut Text,
+    alloc: Global,
+    script: &Script,
+    executor: ExecId,
+    before: &[Vec<i64>],
+    changes: &[Change],
+    invariant: OwnedInvariant<'_>,
+)
+    ensures { Says out.old out.new (note_line (false_text script.now executor.0 changes.now (rows_of before.now) (owned_of invariant.entry))) }
 {
-    out.extend_from_slice(b"    ")?;
-    out.extend_from_slice(words)?;
-    out.extend_from_slice(b"\n")
+    out.say(b"    ");
+    write_false(out, alloc, script, executor, changes, before, invariant);
+    out.say(b"\n")
 }
 
-/// Appends a line that says which invariant a turn would have left false, if it is one, on these fields from before it.
+// Goes on with a line that says which invariant a turn would have left false, where there is one.
+#[tactic(auto, using(crate::proofs::Joined::one_line))]
+fn write_false_line(
+    out: &mut Text,
+    alloc: Global,
+    script: &Script,
+    executor: ExecId,
+    before: &[Vec<i64>],
+    changes: &[Change],
+    invariant: Option<OwnedInvariant<'_>>,
+)
+    ensures { Says out.old out.new (note_lines (false_lines script.now executor.0 changes.now (rows_of before.now) (owned_if invariant.entry))) }
+{
+    if let Some(invariant) = invariant {
+        write_false_note(out, alloc, script, executor, before, changes, invariant)
+    }
+}
+
+/// Goes on with a line that says which invariant a turn would have left false, if it is one, where these are the fields from before it.
 pub(crate) fn write_broken(
-    out: &mut Vec<u8>,
+    out: &mut Text,
     alloc: Global,
     script: &Script,
     executor: ExecId,
-    invariants: &[Invariant<'_>],
-    fields: &mut [Vec<i64>],
+    before: &[Vec<i64>],
     turn: &TurnValues,
-) -> Result<(), AllocError>
-    ensures { OnOk result (AppendsNotes out.old.items out.new.items) }
+)
+    ensures { Says out.old out.new (note_lines (broken_lines script.now executor.0 turn.now.changes.items (rows_of before.now) turn.now.outcome)) }
 {
-    let Outcome::Broke(place) = turn.outcome else {
-        return Ok(());
-    };
-    make(fields, &turn.changes);
-    let said = false_text(alloc, script, executor, invariants, place, fields)?;
-    take_back(fields, &turn.changes);
-    write_line(out, &said)?;
-    Ok(())
+    if let Outcome::Broke(place) = turn.outcome {
+        let invariant = invariant_among(script, script.executor_actors(executor), place);
+        write_false_line(
+            out,
+            alloc,
+            script,
+            executor,
+            before,
+            &turn.changes,
+            invariant,
+        )
+    }
 }
 
-/// Appends what is said below the line of a turn: which fields it changed; of one that was undone, what it would have left, and which
-/// invariant is false there. The fields are those from before it, and then those after it.
+// What stands before a change.
+fn front_of(outcome: Outcome) -> &'static [u8]
+    ensures { result.now ≡ front_of outcome }
+{
+    match outcome {
+        Outcome::Kept => b"",
+        Outcome::Undone | Outcome::Broke(_) => b"would have left ",
+    }
+}
+
+/// Goes on with what is said below the line of a turn: which fields it changed; of one that was undone, what it would have left, and which
+/// invariant is false there. The fields are those from before it.
 pub(crate) fn write_notes(
-    out: &mut Vec<u8>,
+    out: &mut Text,
     alloc: Global,
     script: &Script,
     executor: ExecId,
-    invariants: &[Invariant<'_>],
-    fields: &mut [Vec<i64>],
+    before: &[Vec<i64>],
     turn: &TurnValues,
-) -> Result<(), AllocError>
-    ensures { OnOk result (AppendsNotes out.old.items out.new.items) }
+)
+    ensures { Says out.old out.new (notes_text script.now executor.0 (rows_of before.now) (values_view turn.now)) }
 {
-    if let Outcome::Kept = turn.outcome {
-        make(fields, &turn.changes);
-        return write_changes(out, script, executor, b"", &turn.changes);
-    }
-    write_changes(out, script, executor, b"would have left ", &turn.changes)?;
-    write_broken(out, alloc, script, executor, invariants, fields, turn)?;
-    Ok(())
+    write_lines(out, script, executor, front_of(turn.outcome), &turn.changes);
+    write_broken(out, alloc, script, executor, before, turn)
 }

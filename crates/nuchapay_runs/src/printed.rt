@@ -1,6 +1,7 @@
 //! Parts of the printed form of a script.
 
 use crate::words::Words;
+use std::alloc::{AllocError, Global};
 
 // The place of the word `actor` of the actor at a place, in text order.
 fn actor_word(printed: &Words<'_>, actor: usize) -> usize {
@@ -11,15 +12,8 @@ fn actor_word(printed: &Words<'_>, actor: usize) -> usize {
     place
 }
 
-/// The test of the invariant of an actor that has one.
-pub fn invariant_text<'a>(printed: &Words<'a>, actor: usize) -> &'a [u8] {
-    let word = printed.find(b"invariant", actor_word(printed, actor));
-    let end = printed.find(b";", word);
-    printed.from_to(word.saturating_add(1), end.saturating_sub(1))
-}
-
 /// The place of the word `func` of a method of an actor; past the last word where it is not there.
-pub fn method_word(printed: &Words<'_>, actor: usize, name: &[u8]) -> usize {
+pub(crate) fn method_word(printed: &Words<'_>, actor: usize, name: &[u8]) -> usize {
     for place in actor_word(printed, actor)..printed.len() {
         if printed.word(place) == b"func".as_slice()
             && printed.word(place.saturating_add(1)) == name
@@ -31,7 +25,7 @@ pub fn method_word(printed: &Words<'_>, actor: usize, name: &[u8]) -> usize {
 }
 
 /// The text of the method whose word `func` stands at a place.
-pub fn method_text<'a>(printed: &Words<'a>, word: usize) -> &'a [u8] {
+pub(crate) fn method_text<'a>(printed: &Words<'a>, word: usize) -> &'a [u8] {
     let mut depth: usize = 0;
     for place in word..printed.len() {
         match printed.word(place) {
@@ -48,11 +42,25 @@ pub fn method_text<'a>(printed: &Words<'a>, word: usize) -> &'a [u8] {
     &[]
 }
 
-/// The name of a parameter of that method, by its place among them.
-pub fn parameter<'a>(printed: &Words<'a>, word: usize, place: usize) -> &'a [u8] {
+// The name of a parameter of that method, by its place among them.
+fn parameter<'a>(printed: &Words<'a>, word: usize, place: usize) -> &'a [u8] {
     // `func NAME ( A , B , C )`
     printed.word(
         word.saturating_add(3)
             .saturating_add(place.saturating_mul(2)),
     )
+}
+
+/// The names of the first `count` parameters of that method.
+pub(crate) fn parameters_of<'a>(
+    alloc: Global,
+    printed: &Words<'a>,
+    word: usize,
+    count: usize,
+) -> Result<Vec<&'a [u8]>, AllocError> {
+    let mut names = Vec::with_capacity(alloc, count)?;
+    for place in 0..count {
+        names.push(parameter(printed, word, place))?;
+    }
+    Ok(names)
 }

@@ -1,21 +1,27 @@
 -- What a command line asks for (our own).
 use Rattle.std.specs.Prelude.{◌≤◌}
 use Rattle.swift_types.specs.declared.limits.TheConstants.{WORKERS}
+use Rattle.nuchapay_tool.specs.declared.requests.Question.{Question}
+use Rattle.nuchapay_tool.specs.declared.requests.Question.TheVariants.{Run, RunJson, Values, Why, Check, Print, Show, Scheduled, Swift, Explore, ExploreBroken, Rerun}
 use Rattle.nuchapay_tool.specs.declared.requests.Request.{Request}
-use Rattle.nuchapay_tool.specs.declared.requests.Request.TheVariants.{Run, RunJson, Values, Why, Check, Explain, Print, Show, Scheduled, Swift, Explore, ExploreBroken, Rerun}
+use Rattle.nuchapay_tool.specs.declared.requests.Request.TheVariants.{Explain, Ask}
+
+-- a run that is asked about is one on 1 to 8 workers
+abbrev pub IsOnCrew : Question → Type 0
+IsOnCrew (Run workers quiet) = (1 ≤ workers) × (workers ≤ WORKERS)
+IsOnCrew (RunJson workers quiet) = (1 ≤ workers) × (workers ≤ WORKERS)
+IsOnCrew (Values workers) = (1 ≤ workers) × (workers ≤ WORKERS)
+IsOnCrew (Why name workers) = (1 ≤ workers) × (workers ≤ WORKERS)
+IsOnCrew (Check colour) = Unit {0}
+IsOnCrew (Print pretty) = Unit {0}
+IsOnCrew (Show workers format) = (1 ≤ workers) × (workers ≤ WORKERS)
+IsOnCrew (Scheduled schedule form) = Unit {0}
+IsOnCrew Swift = Unit {0}
+IsOnCrew (Explore limit expected without_fault json) = Unit {0}
+IsOnCrew (ExploreBroken limit) = Unit {0}
+IsOnCrew (Rerun limit outcome) = Unit {0}
 
 -- A run is asked for on 1 to 8 workers.
 abbrev pub HasCrew : Request → Type 0
-HasCrew (Run source workers quiet) = (1 ≤ workers) × (workers ≤ WORKERS)
-HasCrew (RunJson source workers quiet) = (1 ≤ workers) × (workers ≤ WORKERS)
-HasCrew (Values source workers) = (1 ≤ workers) × (workers ≤ WORKERS)
-HasCrew (Why source name workers) = (1 ≤ workers) × (workers ≤ WORKERS)
-HasCrew (Check source colour) = Unit {0}
 HasCrew (Explain topic) = Unit {0}
-HasCrew (Print source pretty) = Unit {0}
-HasCrew (Show source workers format) = (1 ≤ workers) × (workers ≤ WORKERS)
-HasCrew (Scheduled source schedule form) = Unit {0}
-HasCrew (Swift source) = Unit {0}
-HasCrew (Explore source limit expected without_fault) = Unit {0}
-HasCrew (ExploreBroken source limit) = Unit {0}
-HasCrew (Rerun source limit outcome) = Unit {0}
+HasCrew (Ask source question) = IsOnCrew question

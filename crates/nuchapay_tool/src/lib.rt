@@ -52,7 +52,7 @@ pub use laid::pretty;
 pub use page::{Page, ScriptPair, explain};
 pub use pages::page_of;
 pub use printed::print;
-pub use requests::{PictureFormat, Request, RunForm, ScheduleChoice, Source};
+pub use requests::{PictureFormat, Question, Request, RunForm, ScheduleChoice, Source};
 pub use topic::{RunRefusal, Topic, TurnFault, find_topic};
 pub use translated::translate;
 pub use turn_names::{TurnName, TurnWord, turn_name, turn_word};

@@ -52,43 +52,45 @@ pub enum RunForm<'a> {
 /// What a command line asks for (our own).
 #[derive(Drop)]
 pub enum Request<'a> {
-    /// To run a script, on how many threads (1 to 8 where `request` made it), and whether without its journals.
-    Run(Source<'a>, u32, bool),
-    /// To run a script, as `Run` does, with the report as JSON.
-    RunJson(Source<'a>, u32, bool),
-    /// To run a script on this number of threads, and to say of each turn what it did to the fields.
-    Values(Source<'a>, u32),
-    /// To run a script on this number of threads, and to explain one of its turns.
-    Why(Source<'a>, TurnWord<'a>, u32),
-    /// To say whether a text is a script, and why not; with colours where the last word says so.
-    Check(Source<'a>, bool),
     /// To explain a refusal or a fault.
     Explain(Topic),
-    /// To print the printed form of a script; laid out for people where the last word says so.
-    Print(Source<'a>, bool),
-    /// To run a script on this number of threads, and to show the run as a picture in this format.
-    Show(Source<'a>, u32, PictureFormat),
-    /// To run a script by a schedule, and to say this of the run.
-    Scheduled {
-        source: Source<'a>,
-        schedule: ScheduleChoice<'a>,
-        form: RunForm<'a>,
-    },
-    /// To print the Swift program of a script.
-    Swift(Source<'a>),
-    /// To search the histories of a script for outcomes, and to keep at most so many histories; and whether each of them is as these
-    /// expectations say, and perhaps without a root that ends with a fault.
+    /// To answer a question about the script that comes from there.
+    Ask(Source<'a>, Question<'a>),
+}
+
+/// What is asked about a script (our own).
+#[derive(Drop)]
+pub enum Question<'a> {
+    /// Its run, on how many threads (1 to 8 where `request` made it), and whether without its journals.
+    Run(u32, bool),
+    /// Its run, as `Run` has it, with the report as JSON.
+    RunJson(u32, bool),
+    /// Its run on this number of threads, and what each turn did to the fields.
+    Values(u32),
+    /// One of the turns of its run on this number of threads, explained.
+    Why(TurnWord<'a>, u32),
+    /// Whether its text is a script, and why not; with colours where this says so.
+    Check(bool),
+    /// Its printed form; laid out for people where this says so.
+    Print(bool),
+    /// Its run on this number of threads, as a picture in this format.
+    Show(u32, PictureFormat),
+    /// This of its run by a schedule.
+    Scheduled(ScheduleChoice<'a>, RunForm<'a>),
+    /// Its Swift program.
+    Swift,
+    /// The outcomes of its histories, of which at most so many are kept; and whether each of them is as these expectations say, and perhaps
+    /// without a root that ends with a fault; as JSON where this says so.
     Explore {
-        source: Source<'a>,
         limit: u32,
         expected: Vec<&'a str>,
         without_fault: bool,
+        json: bool,
     },
-    /// To search as `Explore` does, and to print the schedule to a turn that is undone by an invariant.
-    ExploreBroken(Source<'a>, u32),
-    /// To search as `Explore` does, and to run the schedule of one of the outcomes again, by its number from 1.
+    /// The schedule to a turn that is undone by an invariant, by a search that keeps at most so many histories.
+    ExploreBroken(u32),
+    /// The run of the schedule of one of the outcomes that such a search finds, by its number from 1.
     Rerun {
-        source: Source<'a>,
         limit: u32,
         outcome: u32,
     },

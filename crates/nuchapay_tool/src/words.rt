@@ -5,7 +5,7 @@ ghost use Rattle.swift_types.specs.declared.limits.TheConstants.{WORKERS};
 ghost use Rattle.nuchapay_tool.specs.Requests.{HasCrew};
 ghost use Rattle.nuchapay_tool.specs.declared.requests.Source.TheVariants.{File, Stdin};
 
-use crate::requests::{PictureFormat, Request, RunForm, ScheduleChoice, Source};
+use crate::requests::{PictureFormat, Question, Request, RunForm, ScheduleChoice, Source};
 use crate::schedule_words::chosen_schedule;
 use crate::topic::find_topic;
 use crate::turn_names::{TurnWord, turn_word};
@@ -54,14 +54,14 @@ fn workers<'a>(alloc: Global) -> Arg<'a> {
 }
 
 fn report_format<'a>(alloc: Global) -> Arg<'a> {
-    option(
-        alloc,
-        "format",
-        "FORMAT",
-        "Prints the report as text, or as JSON",
-    )
-    .value_parser(["text", "json"].as_slice())
-    .default_value("text")
+    text_or_json(alloc, "Prints the report as text, or as JSON")
+}
+
+// Whether something is printed as text, which is meant where this is missing, or as JSON.
+fn text_or_json<'a>(alloc: Global, help: &'a str) -> Arg<'a> {
+    option(alloc, "format", "FORMAT", help)
+        .value_parser(["text", "json"].as_slice())
+        .default_value("text")
 }
 
 fn picture_format<'a>(alloc: Global) -> Arg<'a> {
@@ -230,7 +230,9 @@ fn explore_command<'a>(alloc: Global) -> Result<Command<'a>, AllocError> {
         option(alloc, "expect", "EXPR", expect).action(ArgAction::Append),
     );
     let no_fault = "Fails where a root ends with a fault in an outcome";
-    with_arg(words, flag(alloc, "no-fault", no_fault))
+    let words = with_arg(words, flag(alloc, "no-fault", no_fault));
+    let format = "Prints what was found as text, or as JSON";
+    with_arg(words, text_or_json(alloc, format))
 }
 
 // The words that the program takes, with one command more, as `with_arg`.
@@ -296,13 +298,13 @@ fn run_request<'a>(matches: &ArgMatches<'a>) -> Result<Request<'a>, Refused>
     if let Some(schedule) = chosen_schedule(matches)? {
         return Ok(scheduled(matches, schedule, form));
     }
-    let source = source(matches);
     let workers = workers_of(matches);
-    Ok(match form {
-        RunForm::Json(quiet) => Request::RunJson(source, workers, quiet),
-        RunForm::Values => Request::Values(source, workers),
-        _ => Request::Run(source, workers, matches.get_flag("quiet")),
-    })
+    let question = match form {
+        RunForm::Json(quiet) => Question::RunJson(workers, quiet),
+        RunForm::Values => Question::Values(workers),
+        _ => Question::Run(workers, matches.get_flag("quiet")),
+    };
+    Ok(Request::Ask(source(matches), question))
 }
 
 // What `run` is to say of a run.
@@ -332,11 +334,7 @@ fn scheduled<'a>(
 ) -> Request<'a>
     ensures { HasCrew result }
 {
-    Request::Scheduled {
-        source: source(matches),
-        schedule,
-        form,
-    }
+    Request::Ask(source(matches), Question::Scheduled(schedule, form))
 }
 
 // Whether a report is to be JSON.
@@ -365,7 +363,8 @@ fn show_request<'a>(matches: &ArgMatches<'a>) -> Result<Request<'a>, Refused>
     if let Some(schedule) = chosen_schedule(matches)? {
         return Ok(scheduled(matches, schedule, RunForm::Picture(format)));
     }
-    Ok(Request::Show(source(matches), workers_of(matches), format))
+    let question = Question::Show(workers_of(matches), format);
+    Ok(Request::Ask(source(matches), question))
 }
 
 // What the words of `why` ask for, if they name a turn, or a schedule to one.
@@ -379,7 +378,10 @@ fn why_request<'a>(matches: &ArgMatches<'a>) -> Result<Request<'a>, Refused>
         }
     }
     match name {
-        Some(name) => Ok(Request::Why(source(matches), name, workers_of(matches))),
+        Some(name) => {
+            let question = Question::Why(name, workers_of(matches));
+            Ok(Request::Ask(source(matches), question))
+        }
         None => Err(Refused {
             kind: ErrorKind::MissingRequiredArgument,
             said: "TURN is missing: t1.0 is the first turn of task 1. It may be missing only beside --broken",
@@ -406,7 +408,7 @@ fn check_request<'a>(matches: &ArgMatches<'a>) -> Result<Request<'a>, Refused>
     ensures { IfOk result HasCrew }
 {
     match is_second(matches, "color", "never", "always") {
-        Some(colour) => Ok(Request::Check(source(matches), colour)),
+        Some(colour) => Ok(Request::Ask(source(matches), Question::Check(colour))),
         None => Err(Refused {
             kind: ErrorKind::InvalidValue,
             said: "a colour is always or never",
@@ -438,7 +440,8 @@ fn requested<'a>(alloc: Global, matches: &ArgMatches<'a>) -> Result<Request<'a>,
         return check_request(found);
     }
     if let Some(found) = matches.subcommand_matches("print") {
-        return Ok(Request::Print(source(found), found.get_flag("pretty")));
+        let question = Question::Print(found.get_flag("pretty"));
+        return Ok(Request::Ask(source(found), question));
     }
     if let Some(found) = matches.subcommand_matches("show") {
         return show_request(found);
@@ -447,7 +450,7 @@ fn requested<'a>(alloc: Global, matches: &ArgMatches<'a>) -> Result<Request<'a>,
         return why_request(found);
     }
     if let Some(found) = matches.subcommand_matches("swift") {
-        return Ok(Request::Swift(source(found)));
+        return Ok(Request::Ask(source(found), Question::Swift));
     }
     if let Some(found) = matches.subcommand_matches("explore") {
         return explore_request(alloc, found);
@@ -466,33 +469,74 @@ fn expected<'a>(alloc: Global, found: &ArgMatches<'a>) -> Result<Vec<&'a str>, A
     }
 }
 
-// The search that is asked for.
+// The search that is asked for. What is expected is asked of all outcomes, so there is no place for it beside one schedule.
 fn explore_request<'a>(alloc: Global, found: &ArgMatches<'a>) -> Result<Request<'a>, Refused>
     ensures { IfOk result HasCrew }
 {
-    let limit = found.get_one::<u32>("limit").unwrap_or(100_000);
-    if found.get_flag("broken") {
-        return Ok(Request::ExploreBroken(source(found), limit));
+    let outcome = found.get_one::<u32>("schedule");
+    let broken = found.get_flag("broken");
+    if outcome.is_none() && !broken {
+        return expecting_request(alloc, found);
     }
-    if let Some(outcome) = found.get_one::<u32>("schedule") {
-        return Ok(Request::Rerun {
-            source: source(found),
-            limit,
-            outcome,
+    if found.get_flag("no-fault") || found.get_strs("expect").is_some() {
+        return Err(Refused {
+            kind: ErrorKind::ArgumentConflict,
+            said: "--expect and --no-fault are asked of all outcomes: they have no place beside --broken or --schedule",
         });
     }
-    match expected(alloc, found) {
-        Ok(expected) => Ok(Request::Explore {
-            source: source(found),
-            limit,
-            expected,
-            without_fault: found.get_flag("no-fault"),
-        }),
-        Err(AllocError) => Err(Refused {
+    if is_json(found) {
+        return Err(Refused {
+            kind: ErrorKind::ArgumentConflict,
+            said: "--format json is for all outcomes, and not for --broken or --schedule",
+        });
+    }
+    schedule_request(found, outcome, broken)
+}
+
+// The schedule that is asked for, of which there may be one.
+fn schedule_request<'a>(
+    found: &ArgMatches<'a>,
+    outcome: Option<u32>,
+    broken: bool,
+) -> Result<Request<'a>, Refused>
+    ensures { IfOk result HasCrew }
+{
+    let limit = searched(found);
+    let question = match outcome {
+        Some(outcome) if !broken => Question::Rerun { limit, outcome },
+        None => Question::ExploreBroken(limit),
+        Some(_) => {
+            return Err(Refused {
+                kind: ErrorKind::ArgumentConflict,
+                said: "--broken and --schedule each name a schedule: give one of them",
+            });
+        }
+    };
+    Ok(Request::Ask(source(found), question))
+}
+
+// The outcomes that are asked for, and what is expected of them.
+fn expecting_request<'a>(alloc: Global, found: &ArgMatches<'a>) -> Result<Request<'a>, Refused>
+    ensures { IfOk result HasCrew }
+{
+    let Ok(expected) = expected(alloc, found) else {
+        return Err(Refused {
             kind: ErrorKind::Io,
             said: "no memory for the words",
-        }),
-    }
+        });
+    };
+    let question = Question::Explore {
+        limit: searched(found),
+        expected,
+        without_fault: found.get_flag("no-fault"),
+        json: is_json(found),
+    };
+    Ok(Request::Ask(source(found), question))
+}
+
+// How many states a search keeps.
+fn searched(found: &ArgMatches<'_>) -> u32 {
+    found.get_one::<u32>("limit").unwrap_or(100_000)
 }
 
 // Whether the second of two words is what an argument says, and not the first, which is meant where it is missing; none where it is
@@ -513,8 +557,9 @@ fn is_second(matches: &ArgMatches<'_>, argument: &str, first: &str, second: &str
 /// - `run`, `why` and `show` with one of `--outcome K`, `--schedule TURNS` and `--broken`, and with `--limit N` as for `explore`, beside the
 ///   first and the last of these; `--workers` is refused beside them;
 /// - `swift`, with a file;
-/// - `explore`, with a file, `--limit N` from 1 to 10,000,000, 100,000 where it is not given, `--schedule K` from 1 to 10,000,000,
-///   `--expect EXPR`, also more than once, and `--no-fault`;
+/// - `explore`, with a file, `--limit N` from 1 to 10,000,000, 100,000 where it is not given, and either one of `--schedule K`, from 1 to
+///   10,000,000, and `--broken`, or `--expect EXPR`, also more than once, `--no-fault`, and `--format` with `text` or `json`, `text` where
+///   it is not given;
 /// - `show`, with a file, `--workers N`, and `--format` with `svg`, `html` or `trace`, `svg` where it is not given;
 /// - `check`, with a file and `--color always` or `never`, which is meant where it is not given;
 /// - `print`, with a file and `--pretty`;

@@ -34,7 +34,7 @@ page_bytes p r h told = front_text ++ escaped (report_json p r false) ++ MIDDLE.
 -- A text is the page of a run, where in what is of the run no byte can begin or end markup.
 pub record IsPage (p : ScriptView) (r : Report) (h : Heading) (text : List ℕ) : Type 0 where
   pub told : List ExplainedTurn
-  pub explained : IsToldOfRun r told
+  pub explained : IsToldOfRun p r told
   pub is : text ≡ page_bytes p r h told
   pub plain_report : IsPlain (escaped (report_json p r false))
   pub plain_more : IsPlain (escaped (more_json p r h told))

@@ -10,14 +10,14 @@ use Rattle.swift_events.specs.declared.event.Event.TheVariants.{Root, Begin, App
 use Rattle.swift_journal.specs.Checkpoints.{CheckpointRoomView}
 use Rattle.swift_journal.specs.Records.{RecordView}
 use Rattle.swift_report.specs.declared.report.Report.{Report}
-use Rattle.nuchapay_runs.specs.Explains.{Explains}
+use Rattle.nuchapay_runs.specs.Explains.{Explains, Tells}
 use Rattle.nuchapay_runs.specs.Notes.{change_text}
-use Rattle.nuchapay_runs.specs.Values.{ValuesView, values_from}
+use Rattle.run_pictures.specs.Values.{ValuesView, values_from}
 use Rattle.nuchapay_runs.specs.declared.explained.Explained.{Explained}
 use Rattle.nuchapay_runs.specs.declared.explained.Explained.TheVariants as said
-use Rattle.nuchapay_runs.specs.declared.values.change.Change.{Change}
-use Rattle.nuchapay_runs.specs.declared.values.change.Outcome.{Outcome}
-use Rattle.nuchapay_runs.specs.declared.values.change.Outcome.TheVariants.{Kept, Undone, Broke}
+use Rattle.run_pictures.specs.declared.values.change.Change.{Change}
+use Rattle.run_pictures.specs.declared.values.change.Outcome.{Outcome}
+use Rattle.run_pictures.specs.declared.values.change.Outcome.TheVariants.{Kept, Undone, Broke}
 use Rattle.run_page.specs.Escapes.{quoted}
 use Rattle.run_page.specs.declared.explanations.TheConstants.{EXPLAINED}
 use Rattle.run_page.specs.declared.more.Heading.{Heading}
@@ -159,23 +159,23 @@ told_of task number (said.Found text) = record { task = task; number = number; t
 told_of task number said.Folded = []
 told_of task number said.Nowhere = []
 
--- This stands in a page of a turn: what explains it.
-abbrev pub IsTold : Report → ℕ → ℕ → List ExplainedTurn → Type 0
-IsTold r task number told = (said : Explained) × Explains r task number said × (told ≡ told_of task number said)
+-- This stands in a page of a turn: what explains it, which is the text of `why`.
+abbrev pub IsTold : ScriptView → Report → ℕ → ℕ → List ExplainedTurn → Type 0
+IsTold p r task number told = (said : Explained) × Explains r task number said × Tells p r task number said × (told ≡ told_of task number said)
 
 -- This stands in a page of a turn, if there is one.
-abbrev pub IsToldOfOne : Report → Option (TaskId × ℕ) → List ExplainedTurn → Type 0
-IsToldOfOne r (Some turn) told = IsTold r turn.0.0 turn.1 told
-IsToldOfOne r None told = told ≡ []
+abbrev pub IsToldOfOne : ScriptView → Report → Option (TaskId × ℕ) → List ExplainedTurn → Type 0
+IsToldOfOne p r (Some turn) told = IsTold p r turn.0.0 turn.1 told
+IsToldOfOne p r None told = told ≡ []
 
 -- This stands in a page of turns: what explains each, in order.
-abbrev pub AreTold : Report → List (TaskId × ℕ) → List ExplainedTurn → Type 0
-AreTold r [] told = told ≡ []
-AreTold r (turn ∷ turns) told = (first : List ExplainedTurn) × (rest : List ExplainedTurn) × IsTold r turn.0.0 turn.1 first × AreTold r turns rest × (told ≡ first ++ rest)
+abbrev pub AreTold : ScriptView → Report → List (TaskId × ℕ) → List ExplainedTurn → Type 0
+AreTold p r [] told = told ≡ []
+AreTold p r (turn ∷ turns) told = (first : List ExplainedTurn) × (rest : List ExplainedTurn) × IsTold p r turn.0.0 turn.1 first × AreTold p r turns rest × (told ≡ first ++ rest)
 
 -- What is told of a run: what explains each of the last turns of its log.
-abbrev pub IsToldOfRun : Report → List ExplainedTurn → Type 0
-IsToldOfRun r told = AreTold r (last_turns r.log.events) told
+abbrev pub IsToldOfRun : ScriptView → Report → List ExplainedTurn → Type 0
+IsToldOfRun p r told = AreTold p r (last_turns r.log.events) told
 
 -- A text is appended that has something told in it.
 abbrev pub AppendsTold : (List ExplainedTurn → Type 0) → (List ExplainedTurn → List ℕ) → List ℕ → List ℕ → Type 0

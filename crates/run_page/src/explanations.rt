@@ -35,7 +35,7 @@ fn explanation(
     task: TaskId,
     number: u32,
 ) -> Result<(), AllocError>
-    ensures { OnOk result (AppendsTold (IsTold report.now task.0 number) all_explained_json out.old.items out.new.items) }
+    ensures { OnOk result (AppendsTold (IsTold script.now report.now task.0 number) all_explained_json out.old.items out.new.items) }
 {
     match explain_turn(alloc, script, report, task, number)? {
         Explained::Found(said) => explained(out, task, number, &said),
@@ -61,7 +61,7 @@ fn explanation_of(
     report: &Report,
     turn: Option<(TaskId, u32)>,
 ) -> Result<(), AllocError>
-    ensures { OnOk result (AppendsTold (IsToldOfOne report.now turn) all_explained_json out.old.items out.new.items) }
+    ensures { OnOk result (AppendsTold (IsToldOfOne script.now report.now turn) all_explained_json out.old.items out.new.items) }
 {
     match turn {
         Some((task, number)) => explanation(alloc, out, script, report, task, number),
@@ -93,7 +93,7 @@ pub(crate) fn explanations(
     script: &Script,
     report: &Report,
 ) -> Result<(), AllocError>
-    ensures { OnOk result (AppendsTold (IsToldOfRun report.now) all_explained_json out.old.items out.new.items) }
+    ensures { OnOk result (AppendsTold (IsToldOfRun script.now report.now) all_explained_json out.old.items out.new.items) }
 {
     for place in first_explained(&report.log)..report.log.len() {
         let turn = applied_turn(report.log.event(place));

@@ -51,7 +51,7 @@ pub(crate) fn more(
     report: &Report,
     head: Heading<'_>,
 ) -> Result<(), AllocError>
-    ensures { OnOk result (AppendsTold (IsToldOfRun report.now) (more_json script.now report.now head.entry) out.old.items out.new.items) }
+    ensures { OnOk result (AppendsTold (IsToldOfRun script.now report.now) (more_json script.now report.now head.entry) out.old.items out.new.items) }
 {
     put_heading(out, head)?;
     run(alloc, out, script, report)?;

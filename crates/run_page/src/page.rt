@@ -35,7 +35,7 @@ fn more_part(
     report: &Report,
     heading: Heading<'_>,
 ) -> Result<(), AllocError>
-    ensures { OnOk result (AppendsTold (IsToldOfRun report.now) (λ told. escaped (more_json script.now report.now heading.entry told)) out.old.items out.new.items) }
+    ensures { OnOk result (AppendsTold (IsToldOfRun script.now report.now) (λ told. escaped (more_json script.now report.now heading.entry told)) out.old.items out.new.items) }
 {
     let mut json = Vec::new(alloc);
     more(alloc, &mut json, script, report, heading)?;
@@ -49,7 +49,7 @@ fn parts(
     report: &Report,
     heading: Heading<'_>,
 ) -> Result<(), AllocError>
-    ensures { OnOk result (AppendsTold (IsToldOfRun report.now) (page_bytes script.now report.now heading.entry) out.old.items out.new.items) }
+    ensures { OnOk result (AppendsTold (IsToldOfRun script.now report.now) (page_bytes script.now report.now heading.entry) out.old.items out.new.items) }
 {
     front(out)?;
     report_part(alloc, out, script, report)?;

@@ -3,11 +3,12 @@
 ghost use Rattle.std.specs.Prelude.{◌≡◌, ◌<◌, ◌^◌, ◌++◌, OnOk, codes};
 ghost use Rattle.swift_script.specs.Scripts.{executor_count};
 ghost use Rattle.nuchapay_runs.specs.Notes.{change_text};
-ghost use Rattle.nuchapay_runs.specs.Values.{values_view, values_views};
+ghost use Rattle.run_pictures.specs.Values.{values_view, values_views};
 ghost use Rattle.run_page.specs.RunJson.{all_values_json, change_json, changes_json, comma, executor_json, listed_json, outcome_word, turn_json, turns_json};
 
 use crate::append::{comma, say};
-use nuchapay_runs::{Change, Outcome, TurnValues, turn_values, write_change};
+use nuchapay_runs::write_change;
+use run_pictures::{Change, Outcome, TurnValues, turn_values};
 use std::alloc::{AllocError, Global};
 use swift_report::Report;
 use swift_script::Script;

@@ -13,13 +13,13 @@ use Rattle.swift_explorer.specs.declared.completion.StepFault.TheVariants.{NotMa
 use Rattle.swift_explorer.specs.Outcomes.{IsLogOf}
 
 -- What is said of task `t`, which a step is of, is so by this log. That it waits is said where it was made, has not ended, and has no
--- turn under way; that there is another cause is always so.
+-- turn under way; of another task only that it has one, and not where; and that there is another cause is always so.
 abbrev pub IsFaultOf : List Event → ℕ → StepFault → Type 0
 IsFaultOf log t NotMade = (life_of t log).origin ≡ None
 IsFaultOf log t Ended = is_some (life_of t log).ending ≡ true
 IsFaultOf log t UnderWay = is_begun (life_of t log).stage ≡ true
 IsFaultOf log t NotBegun = is_begun (life_of t log).stage ≡ false
-IsFaultOf log t Waits = (is_some (life_of t log).ending ≡ false) × (is_begun (life_of t log).stage ≡ false)
+IsFaultOf log t Waits = (is_some (life_of t log).origin ≡ true) × (is_some (life_of t log).ending ≡ false) × (is_begun (life_of t log).stage ≡ false)
 IsFaultOf log t (Busy u) = is_begun (life_of u.0 log).stage ≡ true
 IsFaultOf log t Other = Unit {0}
 

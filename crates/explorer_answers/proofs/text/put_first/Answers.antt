@@ -1,8 +1,8 @@
-use Rattle.std.proofs.Common.{rules, ◌≡◌, ◌++◌, true, false, List, sym, ap, ◌∙◌}
+use Rattle.std.proofs.Common.{rules, ◌≡◌, true, sym, ap, ◌∙◌}
 use Rattle.std.specs.Prelude.{get_or}
 use Rattle.expectations.specs.Answers.{is_so}
 use Rattle.explorer_answers.specs.AnswerText.{verdict_at}
-use Rattle.explorer_answers.proofs.Failing.{first_here, first_later}
+use Rattle.explorer_answers.proofs.Failing.{first_later}
 use Rattle.explorer_answers.proofs.text.put_first.Goals as goal
 
 pub loop-place-preserved : goal.loop-place-preserved

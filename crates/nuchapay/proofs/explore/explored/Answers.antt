@@ -4,7 +4,7 @@ use Rattle.swift_script.specs.Accepted.{IsAccepted}
 use Rattle.swift_script.specs.Scripts.{ScriptView}
 use Rattle.expectations.specs.Questions.{IsAsked}
 use Rattle.explorer_answers.specs.Answered.{answer_of}
-use Rattle.explorer_answers.specs.AnswerText.{answer_text}
+use Rattle.nuchapay.specs.Searches.{said_of}
 use Rattle.nuchapay.proofs.explore.explored.Goals as goal
 
 pub returns : goal.returns
@@ -21,5 +21,5 @@ returns c =
         is_asked = subst (λ (p : ScriptView). IsAsked p c.args.text.now (map (λ w. w.now) c.args.words.now) c.args.without_fault asked) c.deref.ensures c.in_ok-asked.ensures;
         answered = c.in_ok-answer.ensures ∙ ap (λ (p : ScriptView). answer_of p asked found) c.deref-2.ensures;
       };
-      printed = c.in_ok-text.ensures ∙ ap (λ (p : ScriptView). answer_text p asked found) c.deref-4.ensures;
+      printed = c.in_ok-text.ensures ∙ ap (λ (p : ScriptView). said_of c.args.json p asked found) c.deref-4.ensures;
     }

@@ -1,4 +1,4 @@
-use Rattle.std.proofs.Common.{rules, ◌≡◌, ◌++◌, OnOk, ℕ, suc, ◌+◌, ◌-◌, ◌<◌, length, List, take, sym, subst, ap, ◌∙◌, arith}
+use Rattle.std.proofs.Common.{rules, ◌≡◌, ◌++◌, OnOk, ℕ, suc, ◌+◌, ◌-◌, ◌<◌, length, List, take, sym, subst, ap, append_assoc, ◌∙◌, arith}
 use Rattle.std.specs.Prelude.{None, Some, codes, decimal}
 use Rattle.std.proofs.lemmas.Result.{on_ok_weaker}
 use Rattle.nuchapay_runs.specs.TaskNames.{made_of, name_within}
@@ -24,11 +24,12 @@ returns-in_ok-extend_from_slice-in-Some t c =
     let lt : c.args.task.0 < length es = omega arith in
     let many : c.made_of.result ≡ made_of (take (c.args.task.0 + 1) es) maker = search rules in
     let told : List ℕ = name ++ (codes "/" ++ decimal (made_of (take (c.args.task.0 + 1) es) maker)) in
-    let named : name_within c.args.tasks p es c.args.task.0 ≡ told = name_at p es c.args.tasks before c.args.task.0 _ (Some maker) more lt (sym c.in-Some.ensures) in
+    let made = decimal (made_of (take (c.args.task.0 + 1) es) maker) in
+    let named : name_within c.args.tasks p es c.args.task.0 ≡ told = name_at p es c.args.tasks before c.args.task.0 _ (Some maker) more lt (sym c.in-Some.ensures) ∙ append_assoc name (codes "/") made in
     let numbered : told ≡ name ++ (codes "/" ++ decimal c.made_of.result) = ap (λ (n : ℕ). name ++ (codes "/" ++ decimal n)) (sym many) in
     subst (λ (l : List ℕ). OnOk c.number.result (c.number.new.out.items ≡ c.args.out.now.items ++ l)) (sym (named ∙ numbered))
     (on_ok_weaker c.number.result
-        (λ (last : c.number.new.out.items ≡ c.extend_from_slice-in-Some.new.self.items ++ decimal c.made_of.result).
-            put_name c.args.out.now.items c.write_within.new.out.items _ c.number.new.out.items name (codes "/") (decimal c.made_of.result)
-            c.in_ok-write_within-in-Some.ensures c.in_ok-extend_from_slice-in-Some.ensures.items last)
-        c.number.ensures)
+    (λ (last : c.number.new.out.items ≡ c.extend_from_slice-in-Some.new.self.items ++ decimal c.made_of.result).
+    put_name c.args.out.now.items c.write_within.new.out.items _ c.number.new.out.items name (codes "/") (decimal c.made_of.result)
+    c.in_ok-write_within-in-Some.ensures c.in_ok-extend_from_slice-in-Some.ensures.items last)
+    c.number.ensures)

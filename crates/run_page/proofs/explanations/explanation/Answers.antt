@@ -1,10 +1,14 @@
 use Rattle.std.proofs.Common.{subst}
-use Rattle.nuchapay_runs.specs.Explains.{Explains}
+use Rattle.nuchapay_runs.specs.Explains.{Explains, Tells}
 use Rattle.run_page.proofs.Explained.{one}
 use Rattle.run_page.proofs.explanations.explanation.Goals as goal
 
 pub returns-in-Found : goal.returns-in-Found
 returns-in-Found c =
+    let p = c.args.script.now in
     let r = c.args.report.now in
-    let is = subst (λ x. Explains r c.args.task.0 c.args.number x) c.in-Found.is c.in_ok-said.ensures in
-    one c.explained.result r c.args.task.0 c.args.number c.in-Found.said _ _ c.deref.result.now is c.deref.ensures.value c.explained.ensures
+    let t = c.args.task.0 in
+    let n = c.args.number in
+    let is = subst (λ x. Explains r t n x) c.in-Found.is c.in_ok-said.ensures.stands in
+    let tells = subst (λ x. Tells p r t n x) c.in-Found.is c.in_ok-said.ensures.told in
+    one c.explained.result p r t n c.in-Found.said _ _ c.deref.result.now is tells c.deref.ensures.value c.explained.ensures

@@ -4,7 +4,7 @@ use Rattle.run_page.proofs.explanations.explanations.Given as goal
 
 abbrev pub invariant-loop-place : goal.invariant-loop-place
 invariant-loop-place l = record {
-  told : (rest : List ExplainedTurn) (whole : List ℕ) → AreTold l.report (applied_turns (drop l.place l.report.log.events)) rest → whole ≡ l.out.items ++ all_explained_json rest →
-      AppendsTold (IsToldOfRun l.report) all_explained_json l.initial.out.items whole;
+  told : (rest : List ExplainedTurn) (whole : List ℕ) → AreTold l.script l.report (applied_turns (drop l.place l.report.log.events)) rest → whole ≡ l.out.items ++ all_explained_json rest →
+      AppendsTold (IsToldOfRun l.script l.report) all_explained_json l.initial.out.items whole;
   end : l.place-end ≡ length l.report.log.events;
 }

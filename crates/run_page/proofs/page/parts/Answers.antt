@@ -17,4 +17,4 @@ returns c =
     let first = onto x0 c.front.new.out.items x2 front_text json c.in_ok-front.ensures c.in_ok-report_part.ensures in
     let before = onto x0 x2 x3 (front_text ++ json) MIDDLE.now first c.in_ok-say_text.ensures in
     let text : List ExplainedTurn → List ℕ = λ told. escaped (more_json c.args.script.now r c.args.heading told) in
-    between c.back.result (IsToldOfRun r) text x0 x3 c.more_part.new.out.items c.back.new.out.items (front_text ++ json ++ MIDDLE.now) back_text before c.in_ok-more_part.ensures c.back.ensures
+    between c.back.result (IsToldOfRun c.args.script.now r) text x0 x3 c.more_part.new.out.items c.back.new.out.items (front_text ++ json ++ MIDDLE.now) back_text before c.in_ok-more_part.ensures c.back.ensures

@@ -1,5 +1,5 @@
 use Rattle.std.proofs.Common.{◌≡◌, ◌++◌, drop}
-use Rattle.nuchapay_runs.specs.Values.{values_views}
+use Rattle.run_pictures.specs.Values.{values_views}
 use Rattle.run_page.specs.RunJson.{turns_json}
 use Rattle.run_page.proofs.values.turns.Given as goal
 

@@ -1,8 +1,7 @@
-use Rattle.std.proofs.Common.{rules, ◌≡◌, ◌∙◌, List, ◌∷◌, [], ◌++◌, append_assoc, sym, subst, ap}
+use Rattle.std.proofs.Common.{sym, subst, ap}
 use Rattle.std.specs.Arc.{arc_value}
 use Rattle.swift_script.specs.Scripts.{ScriptView}
 use Rattle.swift_explorer.specs.HistoryInside.{IsPath}
-use Rattle.swift_explorer.proofs.Paths.{path_some}
 use Rattle.swift_explorer.proofs.completion.go_to_the_end.Goals as goal
 
 pub push_step-requires : goal.push_step-requires

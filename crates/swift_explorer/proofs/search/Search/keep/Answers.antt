@@ -1,4 +1,4 @@
-use Rattle.std.proofs.Common.{rules, ◌≡◌, ◌<◌, length, true, false, arith}
+use Rattle.std.proofs.Common.{rules, ◌≡◌, ◌<◌, length, true, arith}
 use Rattle.std.specs.List.{list_any}
 use Rattle.std.specs.Str.{bytes_eq}
 use Rattle.swift_explorer.specs.declared.search.Node.{Node}

@@ -1,0 +1,16 @@
+-- A text that grows piece by piece.
+use Rattle.std.proofs.Common.{◌≡◌, ℕ, List, ◌++◌, ap, ◌∙◌, append_assoc}
+use Rattle.std.specs.Prelude.{Result, Ok, Err, OnOk, if◌then◌else◌, is_ok}
+
+-- after a text stands one more piece
+onto : (x0 x1 x2 text piece : List ℕ) → x1 ≡ x0 ++ text → x2 ≡ x1 ++ piece → x2 ≡ x0 ++ (text ++ piece)
+onto x0 x1 x2 text piece before more = more ∙ ap (λ (xs : List ℕ). xs ++ piece) before ∙ append_assoc x0 text piece
+
+pub three_pieces : {A E : Type 0} (r : Result A E) (x0 x1 x2 x3 a b c : List ℕ) → x1 ≡ x0 ++ a → x2 ≡ x1 ++ b → x3 ≡ (if is_ok r then x2 ++ c else x2) → OnOk r (x3 ≡ x0 ++ ((a ++ b) ++ c))
+three_pieces (Ok u) x0 x1 x2 x3 a b c first second last = onto x0 x2 x3 (a ++ b) c (onto x0 x1 x2 a b first second) last
+three_pieces (Err e) x0 x1 x2 x3 a b c first second last = tt
+
+pub four_pieces : {A E : Type 0} (r : Result A E) (x0 x1 x2 x3 x4 a b c d : List ℕ) → x1 ≡ x0 ++ a → x2 ≡ x1 ++ b → x3 ≡ x2 ++ c → x4 ≡ (if is_ok r then x3 ++ d else x3)
+    → OnOk r (x4 ≡ x0 ++ (((a ++ b) ++ c) ++ d))
+four_pieces (Ok u) x0 x1 x2 x3 x4 a b c d first second third last = onto x0 x3 x4 ((a ++ b) ++ c) d (onto x0 x2 x3 (a ++ b) c (onto x0 x1 x2 a b first second) third) last
+four_pieces (Err e) x0 x1 x2 x3 x4 a b c d first second third last = tt

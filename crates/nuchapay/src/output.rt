@@ -1,0 +1,26 @@
+//! What the program writes, and how it ends.
+
+use crate::values::Said;
+use swift_report::write_all;
+use swift_tool::{ToolFault, status};
+
+/// Says what went wrong, if anything did. The status to end with.
+pub fn tell(rt: &HostRuntime, ended: Result<bool, ToolFault>) -> u8 {
+    if let Err(fault) = ended {
+        let _ = eprintln!(rt; "nuchapay: {fault}");
+    }
+    status(&ended)
+}
+
+/// Writes a text to standard output.
+pub fn write_out(rt: &HostRuntime, text: &[u8]) -> Result<bool, ToolFault> {
+    write_all(&mut rt.stdout(), text)?;
+    Ok(true)
+}
+
+/// Writes what is said of a run. Whether each task ended with a value.
+pub fn write_said(rt: &HostRuntime, said: Result<Said, ToolFault>) -> Result<bool, ToolFault> {
+    let said = said?;
+    write_all(&mut rt.stdout(), &said.text)?;
+    Ok(said.is_well)
+}

@@ -1,0 +1,56 @@
+//! What is said of a search.
+
+use crate::explore::{ExploreFault, Explored, Rerun};
+use crate::output::{tell, write_out};
+use expectations::{Answer, Misread};
+use swift_report::write_all;
+use swift_tool::ToolFault;
+use swift_workers::RunFault;
+
+/// Writes what a search says. The status to end with: that of the answer, 2 or 3 for an expectation that is none, of the command line or
+/// of a comment, and 5 where no memory was left.
+pub fn say_explored(rt: &HostRuntime, found: Result<Explored, ExploreFault>) -> u8 {
+    match found {
+        Ok(Explored { answer, text }) => match write_all(&mut rt.stdout(), &text) {
+            Ok(()) => answer.status(),
+            Err(device) => tell(rt, Err(ToolFault::from(device))),
+        },
+        Err(ExploreFault::Script(fault)) => tell(rt, Err(ToolFault::from(fault))),
+        Err(ExploreFault::Misread(fault)) => say_misread(rt, fault),
+        Err(ExploreFault::Memory) => {
+            let _ = tell(rt, Err(ToolFault::Run(RunFault::Memory)));
+            Answer::Undecided.status()
+        }
+    }
+}
+
+// Says what is wrong with an expectation. The status to end with.
+fn say_misread(rt: &HostRuntime, fault: Misread) -> u8 {
+    let Misread {
+        number,
+        line,
+        byte,
+        kind,
+    } = fault;
+    if line == 0 {
+        let _ = eprintln!(rt; "nuchapay: expectation {number} at byte {byte}: {kind}");
+        2
+    } else {
+        let _ = eprintln!(rt;
+            "nuchapay: line {line}: expectation {number} at byte {byte} of its line: {kind}"
+        );
+        3
+    }
+}
+
+/// Writes the run of an outcome's schedule. The status to end with.
+pub fn say_rerun(rt: &HostRuntime, outcome: u32, found: Result<Rerun, ToolFault>) -> u8 {
+    match found {
+        Ok(Rerun::Report(said)) => tell(rt, write_out(rt, &said)),
+        Ok(Rerun::Nowhere(many)) => {
+            let _ = eprintln!(rt; "nuchapay: there is no outcome {outcome}: {many} were found");
+            2
+        }
+        Err(fault) => tell(rt, Err(fault)),
+    }
+}

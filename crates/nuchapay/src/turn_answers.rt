@@ -1,0 +1,42 @@
+//! What is said of a turn.
+
+use crate::output::{tell, write_out};
+use crate::values::AskedTurn;
+use nuchapay_runs::Explained;
+use nuchapay_tool::{TurnName, TurnWord};
+use swift_tool::ToolFault;
+
+/// Says what is known of the turn that a word names. The status to end with.
+pub fn say_turn(rt: &HostRuntime, word: TurnWord<'_>, found: Result<AskedTurn, ToolFault>) -> u8 {
+    match found {
+        Ok(AskedTurn::Turn(name, found)) => say_explained(rt, name, found),
+        Ok(AskedTurn::NoTask) => say_no_task(rt, Some(word)),
+        Err(fault) => tell(rt, Err(fault)),
+    }
+}
+
+/// Says that there is no such task. The status to end with.
+pub fn say_no_task(rt: &HostRuntime, word: Option<TurnWord<'_>>) -> u8 {
+    if let Some(TurnWord::Named(name, _)) = word {
+        let _ = eprintln!(rt; "nuchapay: the run has no task {name}");
+    }
+    2
+}
+
+/// Says what is known of the turn that was meant. The status to end with.
+pub fn say_explained(rt: &HostRuntime, name: TurnName, found: Explained) -> u8 {
+    let TurnName { task, number } = name;
+    match found {
+        Explained::Found(said) => tell(rt, write_out(rt, &said)),
+        Explained::Folded => {
+            let _ = eprintln!(rt;
+                "nuchapay: t{task}.{number} was folded into a checkpoint, which keeps no fields of it"
+            );
+            2
+        }
+        Explained::Nowhere => {
+            let _ = eprintln!(rt; "nuchapay: the run has no turn t{task}.{number}");
+            2
+        }
+    }
+}

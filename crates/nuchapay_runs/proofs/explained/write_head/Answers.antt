@@ -1,0 +1,11 @@
+use Rattle.std.proofs.Common.{ap}
+use Rattle.swift_report.specs.Text.{turn_text}
+use Rattle.swift_report.specs.declared.line.Line.{Line}
+use Rattle.nuchapay_runs.proofs.Joined.{both, same}
+use Rattle.nuchapay_runs.proofs.explained.write_head.Goals as goal
+
+pub returns : goal.returns
+returns c =
+    let t = c.args.turn.now in
+    let line = ap (λ (l : Line). turn_text t.names.script.now t.position l) c.requires.line in
+    both (both (both (same line c.write_turn.ensures) c.say.ensures) c.say-2.ensures) c.write_ends.ensures

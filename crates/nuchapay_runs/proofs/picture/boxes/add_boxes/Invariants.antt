@@ -1,9 +1,0 @@
-use Rattle.std.proofs.Common.{◌≡◌, ◌++◌, drop, length, map}
-use Rattle.nuchapay_runs.specs.Boxes.{box_of}
-use Rattle.nuchapay_runs.proofs.picture.boxes.add_boxes.Given as goal
-
-abbrev pub invariant-loop-place : goal.invariant-loop-place
-invariant-loop-place l = record {
-  boxes : l.boxes.items ++ map (box_of l.executor) (drop l.place l.journal) ≡ l.initial.boxes.items ++ map (box_of l.executor) l.journal;
-  end : l.place-end ≡ length l.journal;
-}

@@ -1,6 +1,0 @@
-use Rattle.std.proofs.Common.{◌≡◌, ◌++◌, drop}
-use Rattle.nuchapay_runs.specs.Boxes.{boxes_of}
-use Rattle.nuchapay_runs.proofs.picture.boxes.boxes_of.Given as goal
-
-abbrev pub invariant-loop-executor : goal.invariant-loop-executor
-invariant-loop-executor l = l.boxes.items ++ boxes_of l.executor (drop l.executor l.journals) ≡ boxes_of 0 l.journals

@@ -1,0 +1,7 @@
+use Rattle.std.proofs.Common.{drop}
+use Rattle.nuchapay_runs.specs.Noted.{noted_executors}
+use Rattle.nuchapay_runs.proofs.Joined.{UpTo}
+use Rattle.nuchapay_runs.proofs.report.write_noted_executors.Given as goal
+
+abbrev pub invariant-loop-place : goal.invariant-loop-place
+invariant-loop-place l = UpTo l.initial.out l.out (noted_executors l.script l.checkpoints l.place (drop l.place l.journals)) (noted_executors l.script l.checkpoints 0 l.journals)

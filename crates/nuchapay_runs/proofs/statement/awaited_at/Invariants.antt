@@ -1,0 +1,6 @@
+use Rattle.std.proofs.Common.{◌≡◌, drop}
+use Rattle.nuchapay_runs.specs.Statements.{awaited_at}
+use Rattle.nuchapay_runs.proofs.statement.awaited_at.Given as goal
+
+abbrev pub invariant-loop-instruction : goal.invariant-loop-instruction
+invariant-loop-instruction l = awaited_at (drop l.instruction-index l.instructions) l.line ≡ awaited_at l.instructions l.line

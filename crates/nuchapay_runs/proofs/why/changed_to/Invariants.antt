@@ -1,0 +1,6 @@
+use Rattle.std.proofs.Common.{◌≡◌, drop}
+use Rattle.nuchapay_runs.specs.Why.{changed_to}
+use Rattle.nuchapay_runs.proofs.why.changed_to.Given as goal
+
+abbrev pub invariant-loop-change : goal.invariant-loop-change
+invariant-loop-change l = changed_to (drop l.change-index l.changes) l.actor l.field ≡ changed_to l.changes l.actor l.field

@@ -1,0 +1,8 @@
+use Rattle.std.proofs.Common.{drop}
+use Rattle.nuchapay_runs.specs.NamedInside.{names_view}
+use Rattle.nuchapay_runs.specs.Why.{variables_text}
+use Rattle.nuchapay_runs.proofs.Joined.{UpTo}
+use Rattle.nuchapay_runs.proofs.why.write_variables.Given as goal
+
+abbrev pub invariant-loop-place : goal.invariant-loop-place
+invariant-loop-place l = UpTo l.initial.out l.out (variables_text (names_view l.names) l.place (drop l.place l.variables)) (variables_text (names_view l.names) 0 l.variables)

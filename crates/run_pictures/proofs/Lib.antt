@@ -1,0 +1,6 @@
+pub mod Answered
+pub mod Keeping
+mod More
+pub mod Past
+pub mod Ranges
+mod Rows

@@ -1,0 +1,6 @@
+use Rattle.std.proofs.Common.{◌≡◌, ◌++◌, drop}
+use Rattle.run_pictures.specs.Values.{row_differences}
+use Rattle.run_pictures.proofs.values.differences.add_row.Given as goal
+
+abbrev pub invariant-loop-field : goal.invariant-loop-field
+invariant-loop-field l = l.changes.items ++ row_differences l.actor l.field (drop l.field l.before) (drop l.field l.after) ≡ l.initial.changes.items ++ row_differences l.actor 0 l.before l.after

@@ -1,0 +1,10 @@
+use Rattle.std.proofs.Common.{◌≡◌, ◌++◌, drop}
+use Rattle.script_code.specs.Seen.{rows_of}
+use Rattle.run_pictures.specs.Values.{values_from, values_views}
+use Rattle.run_pictures.proofs.values.turns.turn_values.Given as goal
+
+abbrev pub invariant-loop-place : goal.invariant-loop-place
+invariant-loop-place l = record {
+  values : values_views l.turns.items ++ values_from l.script (rows_of l.player.fields.items) (drop l.place l.journal) ≡ values_from l.script (rows_of l.start) l.journal;
+  same : rows_of l.player.turn.fields.items ≡ rows_of l.player.fields.items;
+}
