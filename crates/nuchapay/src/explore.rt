@@ -47,7 +47,7 @@ pub(crate) fn search_all(
 
 /// What a search says (our own).
 #[derive(Drop)]
-pub struct Explored {
+pub struct SearchAnswer {
     /// What it says to what was expected.
     pub answer: Answer,
     /// That, and what it has found, as a text.
@@ -100,7 +100,7 @@ pub fn explored(
     limit: u32,
     words: &[&str],
     without_fault: bool,
-) -> Result<Explored, ExploreFault>
+) -> Result<SearchAnswer, ExploreFault>
     ensures { IfOk result (λ x. IsExplored text.now limit (map (λ w. w.now) words.now) without_fault x.answer x.text.items) }
 {
     let alloc = rt.alloc();
@@ -109,7 +109,7 @@ pub fn explored(
     let found = search_all(rt, &script, limit as usize)?;
     let answer = answered(alloc, &script, &asked, &found)?;
     let text = answer_text(alloc, &script, &asked, &found)?;
-    Ok(Explored { answer, text })
+    Ok(SearchAnswer { answer, text })
 }
 
 /// The run of an outcome's schedule.
