@@ -30,6 +30,7 @@ _nuchapay() {
         explore:--limit) words='' ;;
         explore:--schedule) words='' ;;
         explore:--expect) words='' ;;
+        explore:--format) words='text json' ;;
         *)
             case $command:$word:$place in
                 :-*) words='--version --help' ;;
@@ -48,7 +49,7 @@ _nuchapay() {
                 show:*:0) files='*.actors' ;;
                 swift:-*) words='--help' ;;
                 swift:*:0) files='*.actors' ;;
-                explore:-*) words='--limit --broken --schedule --expect --no-fault --help' ;;
+                explore:-*) words='--limit --broken --schedule --expect --no-fault --format --help' ;;
                 explore:*:0) files='*.actors' ;;
                 help:-*) words='--help' ;;
                 help:*:0) words='run why check explain print show swift explore help' ;;

@@ -51,6 +51,7 @@ complete -c nuchapay -n '__fish_seen_subcommand_from explore' -l broken -d 'Prin
 complete -c nuchapay -n '__fish_seen_subcommand_from explore' -l schedule -x -d 'Runs the schedule of outcome K again, and prints the whole report'
 complete -c nuchapay -n '__fish_seen_subcommand_from explore' -l expect -x -d 'Fails where EXPR, over Actor.field and the values of roots, is 0 in an outcome'
 complete -c nuchapay -n '__fish_seen_subcommand_from explore' -l no-fault -d 'Fails where a root ends with a fault in an outcome'
+complete -c nuchapay -n '__fish_seen_subcommand_from explore' -l format -x -a 'text json' -d 'Prints what was found as text, or as JSON'
 complete -c nuchapay -n '__fish_seen_subcommand_from explore' -l help -d 'Print help'
 complete -c nuchapay -n '__fish_seen_subcommand_from explore' -k -a '(__fish_complete_suffix .actors)'
 complete -c nuchapay -n '__fish_seen_subcommand_from help' -l help -d 'Print help'

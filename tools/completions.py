@@ -92,6 +92,7 @@ NUCHAPAY = (
             Option("schedule", "Runs the schedule of outcome K again, and prints the whole report", "K"),
             Option("expect", "Fails where EXPR, over Actor.field and the values of roots, is 0 in an outcome", "EXPR"),
             Option("no-fault", "Fails where a root ends with a fault in an outcome"),
+            Option("format", "Prints what was found as text, or as JSON", "FORMAT", ("text", "json")),
         ),
     ),
     Command("help", "Print this message or the help of the given subcommand(s)", ("[COMMAND]",)),

@@ -1,13 +1,16 @@
 #!/usr/bin/env python3
-"""Whether `nuchapay run --format json` says of a run what its text says.
+"""Whether `nuchapay run --format json` says of a run what its text says, and `nuchapay explore --format json` of a search.
 
     tools/reports.py NUCHAPAY
 
 Each script of the examples is run twice, without its arguments, on one worker: with its report as text, and as JSON. The text is made
-again from what json.loads reads, and has to be the same, with the same status; so with --quiet. Status 0 where all agree.
+again from what json.loads reads, and has to be the same, with the same status; so with --quiet. Each example of `explore` that lists
+outcomes is searched twice as well: from the JSON its outcomes are made again as the text has them, with their schedules, and the status
+has to be that of the answer. Status 0 where all agree.
 """
 import json
 import os
+import re
 import subprocess
 import sys
 
@@ -67,10 +70,64 @@ def faults(program, path, words):
             yield f"the JSON says\n{text}"
 
 
+# The status of a search that answers so.
+STATUSES = {"holds": 0, "fails": 1, "undecided": 5}
+
+
+def turns(steps):
+    """The words of a schedule: a turn that ends right after it begins is one, and another one has a word for its begin and one for its end."""
+    steps = [step for step in steps if step["is"] != "add"]
+    for before, step, after in zip([None, *steps], steps, [*steps[1:], None]):
+        name = f"t{step['task']}.{step['turn']}"
+        if step["is"] == "begin":
+            yield name if after and (after["is"], after["task"]) == ("run", step["task"]) else name + ".."
+        elif not before or (before["is"], before["task"]) != ("begin", step["task"]):
+            yield ".." + name
+
+
+def outcome_lines(outcome):
+    yield f"outcome {outcome['outcome']}"
+    yield " ".join(["schedule", *turns(outcome["schedule"])])
+    yield from lines(outcome["end"])
+
+
+def search_faults(program, name):
+    """What the JSON of a search says otherwise than its text."""
+    words = [program, *examples.arguments(name)]
+    ran = [subprocess.run([*words, *more], cwd=os.path.dirname(name), capture_output=True, check=False) for more in ([], ["--format", "json"])]
+    if (ran[0].returncode, ran[0].stderr) != (ran[1].returncode, ran[1].stderr):
+        yield f"status {ran[1].returncode} and not {ran[0].returncode}, and it says {ran[1].stderr!r}"
+        return
+    found = json.loads(ran[1].stdout)
+    if STATUSES[found["answer"]] != ran[0].returncode:
+        yield f"it answers {found['answer']}"
+    text = ran[0].stdout.decode()
+    listed = re.split(r"(?m)^(?=outcome \d+$)", text)[1:]
+    made = ["".join(line + "\n" for line in outcome_lines(outcome)) for outcome in found["outcomes"]]
+    if [part.strip() for part in listed] != [part.strip() for part in made]:
+        yield "it lists other outcomes"
+    undone = found["undone"] and " ".join(["schedule", *turns(found["undone"])])
+    if undone and undone not in text.split("\noutcome ")[0].splitlines():
+        yield "it has another turn that is undone"
+
+
+def searches():
+    """The examples of `explore` that list outcomes."""
+    for name in examples.names():
+        words = examples.arguments(name) if examples.is_second(name) else []
+        if words[:1] == [b"explore"] and os.path.exists(name + ".out") and not {b"--broken", b"--schedule", b"--format"} & {*words}:
+            yield name
+
+
 def main():
     if len(sys.argv) != 2:
         sys.exit(__doc__)
     program, count, failed = os.path.abspath(sys.argv[1]), 0, 0
+    for name in searches():
+        count += 1
+        for fault in search_faults(program, name):
+            failed += 1
+            print(f"{os.path.relpath(name, examples.TOP)}: {fault}")
     for name in examples.names():
         path = name + ".actors"
         if not os.path.exists(path):

@@ -103,7 +103,8 @@ fn put_answer(
 /// What a search says to expectations, as one JSON value (the format is our own): the answer; whether the search came to its end, and how
 /// many histories it kept; a schedule to a turn that `invariant` undoes, or `null`; each expectation, with what comes of it in each
 /// outcome; and the outcomes, each with its schedule, and with its tasks and fields as `report_json` has them. All of it is UTF-8 where
-/// the expectations are, and ASCII but for these. Linear in that text, times the length of a schedule.
+/// the expectations are, and ASCII but for these. Linear in the tasks and fields of the outcomes, times the expectations, and in the
+/// schedules, times the length of each.
 ///
 /// # Errors
 ///

@@ -43,8 +43,8 @@ pub record HoldsAtEnd (p : ScriptView) (report : ReportView) (text : List ℕ) :
 abbrev pub HasEachValue : ScriptView → ReportView → Type 0
 HasEachValue p report = (root : ℕ) → root < root_count p → has_value report.endings root ≡ true
 
--- All that is asked holds at the end of a report: the expectations of these words and those of the comments of the script's text, and, where
--- this is asked, that each root has ended with a value.
+-- All that is asked holds at the end of a report: the expectations of these words and those of the comments of the script's text, and,
+-- where this is asked, that each root has ended with a value.
 pub record MeetsAll (p : ScriptView) (bytes : List ℕ) (words : List (List ℕ)) (without_fault : Bool) (report : ReportView) : Type 0 where
   pub tests : All (HoldsAtEnd p report) (words ++ expected bytes)
   pub roots : without_fault ≡ true → HasEachValue p report

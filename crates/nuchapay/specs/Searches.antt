@@ -1,9 +1,11 @@
 -- What commands say of a search.
-use Rattle.std.specs.Prelude.{◌≡◌, ◌⊎◌, ◌<◌, ℕ, ◌+◌, Bool, Some, false, List, length, slice_get}
+use Rattle.std.specs.Prelude.{◌≡◌, ◌⊎◌, ◌<◌, ℕ, ◌+◌, Bool, Some, false, true, List, length, slice_get}
 use Rattle.expectations.specs.declared.answer.Answer.{Answer}
+use Rattle.expectations.specs.declared.expectation.Expectation.{Expectation}
 use Rattle.explorer_answers.specs.Answered.{IsAnswer}
 use Rattle.explorer_answers.specs.AnswerText.{answer_text}
 use Rattle.explorer_answers.specs.Found.{IsFoundOf}
+use Rattle.explorer_json.specs.AnswerJson.{answer_json}
 use Rattle.swift_script.specs.Scripts.{ScriptView}
 use Rattle.swift_history.specs.Histories.{IsLegal}
 use Rattle.swift_certificate.specs.Reports.{report_view}
@@ -23,11 +25,16 @@ pub record IsScheduleText (script : ScriptView) (schedule : List Move) (text : L
   pub log : IsLogOf script schedule report.log.events
   pub printed : text ≡ report_text script report false
 
+-- what is printed of an answer to what is asked, and of all that was found: JSON or text
+abbrev pub said_of : Bool → ScriptView → List Expectation → FoundOutcomes → List ℕ
+said_of true script asked found = answer_json script asked found
+said_of false script asked found = answer_text script asked found
+
 -- What a search says of the script that these bytes spell, of whose histories at most `limit` are kept, to the expectations of these words
--- and of its comments, and perhaps that no root ends with a fault: the answer, and a text of it and of all that was found.
-pub record IsExplored (bytes : List ℕ) (limit : ℕ) (words : List (List ℕ)) (without_fault : Bool) (answer : Answer) (text : List ℕ) : Type 0 where
+-- and of its comments, and perhaps that no root ends with a fault: the answer, and a text of it and of all that was found, as JSON or not.
+pub record IsExplored (bytes : List ℕ) (limit : ℕ) (words : List (List ℕ)) (without_fault json : Bool) (answer : Answer) (text : List ℕ) : Type 0 where
   pub is : IsAnswer bytes limit words without_fault answer
-  pub printed : text ≡ answer_text is.script is.asked is.found
+  pub printed : text ≡ said_of json is.script is.asked is.found
 
 -- A text is that of the schedule of the outcome with this number, of those that were found, from 1.
 pub record IsTextOfOutcome (bytes : List ℕ) (limit number : ℕ) (text : List ℕ) : Type 0 where

@@ -3,11 +3,12 @@
 ghost use Rattle.std.specs.Prelude.{◌≡◌, ◌⊎◌, ◌<◌, ◌+◌, IfOk, IfSome, None, map};
 ghost use Rattle.std.specs.Arc.{arc_value};
 ghost use Rattle.explorer_answers.specs.Found.{IsFound};
-ghost use Rattle.nuchapay.specs.Searches.{IsExplored, IsRerun, IsScheduleText};
+ghost use Rattle.nuchapay.specs.Searches.{IsExplored, IsRerun, IsScheduleText, said_of};
 
 use crate::scheduled::scheduled_report;
-use expectations::{Answer, ExpectationError, Misread, ask};
+use expectations::{Answer, Expectation, ExpectationError, Misread, ask};
 use explorer_answers::{answer_text, answered};
+use explorer_json::answer_json;
 use std::alloc::{AllocError, AllocFailed, Global};
 use std::sync::Arc;
 use swift_explorer::{Exploration, FoundOutcomes, Move};
@@ -92,23 +93,42 @@ impl From<ExpectationError> for ExploreFault {
     }
 }
 
+// What a search says that has found this, as JSON or as text.
+fn said_of(
+    alloc: Global,
+    script: &Script,
+    asked: &[Expectation],
+    found: &FoundOutcomes,
+    json: bool,
+) -> Result<Vec<u8>, AllocError>
+    ensures { IfOk result (λ text. text.items ≡ said_of json script.now asked.now found.now) }
+{
+    if json {
+        answer_json(alloc, script, asked, found)
+    } else {
+        answer_text(alloc, script, asked, found)
+    }
+}
+
 /// What a search of the histories of a script says, of which at most `limit` are kept, to the expectations of these words and of the
-/// script's comments, and perhaps that no root ends with a fault. How far it is, it says on standard error now and then.
+/// script's comments, and perhaps that no root ends with a fault; as JSON where this says so. How far it is, it says on standard error now
+/// and then.
 pub fn explored(
     rt: &HostRuntime,
     text: &[u8],
     limit: u32,
     words: &[&str],
     without_fault: bool,
+    json: bool,
 ) -> Result<SearchAnswer, ExploreFault>
-    ensures { IfOk result (λ x. IsExplored text.now limit (map (λ w. w.now) words.now) without_fault x.answer x.text.items) }
+    ensures { IfOk result (λ x. IsExplored text.now limit (map (λ w. w.now) words.now) without_fault json x.answer x.text.items) }
 {
     let alloc = rt.alloc();
     let script = Arc::new(alloc, read(alloc, text)?)?;
     let asked = ask(alloc, &script, text, words, without_fault)?;
     let found = search_all(rt, &script, limit as usize)?;
     let answer = answered(alloc, &script, &asked, &found)?;
-    let text = answer_text(alloc, &script, &asked, &found)?;
+    let text = said_of(alloc, &script, &asked, &found, json)?;
     Ok(SearchAnswer { answer, text })
 }
 

@@ -1,19 +1,34 @@
 //! The text of a script.
 
+use crate::output::tell;
 use nuchapay_tool::{Source, read_input};
+use std::alloc::AllocError;
 use std::fs::File;
 use std::io;
+use swift_report::write_all;
+use swift_tool::ToolFault;
+use swift_translation::{Translation, refusal_text, translate};
 
 /// Why there is no script.
 #[derive(Drop)]
 pub enum NoScript {
     /// It could not be read.
     Unread(io::Error),
+    /// It is a Swift file that the subset does not take. This says why, and where.
+    Refused(Vec<u8>),
+    /// No memory was left for the script that a Swift file becomes.
+    Memory,
 }
 
 impl From<io::Error> for NoScript {
     fn from(error: io::Error) -> NoScript {
         NoScript::Unread(error)
+    }
+}
+
+impl From<AllocError> for NoScript {
+    fn from(_fault: AllocError) -> NoScript {
+        NoScript::Memory
     }
 }
 
@@ -25,10 +40,25 @@ pub fn name_of(source: Source<'_>) -> &str {
     }
 }
 
-/// The text of a script.
+/// Whether a file of this name is read as Swift.
+pub fn is_swift(name: &str) -> bool {
+    name.ends_with(".swift")
+}
+
+/// The text of a script; of a Swift file that of the script that it becomes.
 pub fn script(rt: &HostRuntime, source: Source<'_>) -> Result<Vec<u8>, NoScript> {
     let text = text_of(rt, source)?;
-    Ok(text)
+    let name = name_of(source);
+    if !is_swift(name) {
+        return Ok(text);
+    }
+    match translate(rt.alloc(), &text)? {
+        Translation::Script(script) => Ok(script),
+        Translation::Refused(refusal) => {
+            let said = refusal_text(rt.alloc(), name, &text, refusal)?;
+            Err(NoScript::Refused(said))
+        }
+    }
 }
 
 // What stands in a file, or comes from standard input.
@@ -50,5 +80,10 @@ pub fn say_no_script(rt: &HostRuntime, source: Source<'_>, why: NoScript) -> u8 
             let _ = eprintln!(rt; "nuchapay: {name}: {error}");
             4
         }
+        NoScript::Refused(said) => match write_all(&mut rt.stderr(), &said) {
+            Ok(()) => 3,
+            Err(_) => 4,
+        },
+        NoScript::Memory => tell(rt, Err(ToolFault::from(AllocError))),
     }
 }

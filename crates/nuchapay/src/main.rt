@@ -31,7 +31,7 @@ mod turn_answers;
 mod values;
 
 use crate::explore::{explored, rerun_text};
-use crate::input::{name_of, say_no_script, script};
+use crate::input::{is_swift, name_of, say_no_script, script};
 use crate::output::{tell, write_out, write_said};
 use crate::schedule_answers::{say_broken, say_scheduled};
 use crate::scheduled::broken_line;
@@ -112,6 +112,8 @@ where
             say_turn(host, word, explained_turn(rt, text, word, workers))
         }
         Question::Check(colour) => say_check(host, name, text, colour),
+        // What a Swift file becomes is laid out, and says from which lines each method is.
+        Question::Print(_) if is_swift(name) => tell(host, write_out(host, text)),
         Question::Print(is_pretty) => tell(host, write_printed(host, text, is_pretty)),
         Question::Show(workers, format) => {
             tell(host, show_run(rt, text, name, workers, format, out))
@@ -122,7 +124,11 @@ where
             limit,
             expected,
             without_fault,
-        } => say_explored(host, explored(host, text, limit, &expected, without_fault)),
+            json,
+        } => say_explored(
+            host,
+            explored(host, text, limit, &expected, without_fault, json),
+        ),
         Question::ExploreBroken(limit) => say_broken(host, limit, broken_line(host, text, limit)),
         Question::Rerun { limit, outcome } => {
             say_rerun(host, outcome, rerun_text(host, text, limit, outcome))

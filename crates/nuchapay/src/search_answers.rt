@@ -1,6 +1,6 @@
 //! What is said of a search.
 
-use crate::explore::{ExploreFault, SearchAnswer, Rerun};
+use crate::explore::{ExploreFault, Rerun, SearchAnswer};
 use crate::output::{tell, write_out};
 use expectations::{Answer, Misread};
 use swift_report::write_all;

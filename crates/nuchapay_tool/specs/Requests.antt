@@ -17,7 +17,7 @@ IsOnCrew (Print pretty) = Unit {0}
 IsOnCrew (Show workers format) = (1 ≤ workers) × (workers ≤ WORKERS)
 IsOnCrew (Scheduled schedule form) = Unit {0}
 IsOnCrew Swift = Unit {0}
-IsOnCrew (Explore limit expected without_fault) = Unit {0}
+IsOnCrew (Explore limit expected without_fault json) = Unit {0}
 IsOnCrew (ExploreBroken limit) = Unit {0}
 IsOnCrew (Rerun limit outcome) = Unit {0}
 

@@ -80,11 +80,12 @@ pub enum Question<'a> {
     /// Its Swift program.
     Swift,
     /// The outcomes of its histories, of which at most so many are kept; and whether each of them is as these expectations say, and perhaps
-    /// without a root that ends with a fault.
+    /// without a root that ends with a fault; as JSON where this says so.
     Explore {
         limit: u32,
         expected: Vec<&'a str>,
         without_fault: bool,
+        json: bool,
     },
     /// The schedule to a turn that is undone by an invariant, by a search that keeps at most so many histories.
     ExploreBroken(u32),

@@ -54,14 +54,14 @@ fn workers<'a>(alloc: Global) -> Arg<'a> {
 }
 
 fn report_format<'a>(alloc: Global) -> Arg<'a> {
-    option(
-        alloc,
-        "format",
-        "FORMAT",
-        "Prints the report as text, or as JSON",
-    )
-    .value_parser(["text", "json"].as_slice())
-    .default_value("text")
+    text_or_json(alloc, "Prints the report as text, or as JSON")
+}
+
+// Whether something is printed as text, which is meant where this is missing, or as JSON.
+fn text_or_json<'a>(alloc: Global, help: &'a str) -> Arg<'a> {
+    option(alloc, "format", "FORMAT", help)
+        .value_parser(["text", "json"].as_slice())
+        .default_value("text")
 }
 
 fn picture_format<'a>(alloc: Global) -> Arg<'a> {
@@ -230,7 +230,9 @@ fn explore_command<'a>(alloc: Global) -> Result<Command<'a>, AllocError> {
         option(alloc, "expect", "EXPR", expect).action(ArgAction::Append),
     );
     let no_fault = "Fails where a root ends with a fault in an outcome";
-    with_arg(words, flag(alloc, "no-fault", no_fault))
+    let words = with_arg(words, flag(alloc, "no-fault", no_fault));
+    let format = "Prints what was found as text, or as JSON";
+    with_arg(words, text_or_json(alloc, format))
 }
 
 // The words that the program takes, with one command more, as `with_arg`.
@@ -482,6 +484,12 @@ fn explore_request<'a>(alloc: Global, found: &ArgMatches<'a>) -> Result<Request<
             said: "--expect and --no-fault are asked of all outcomes: they have no place beside --broken or --schedule",
         });
     }
+    if is_json(found) {
+        return Err(Refused {
+            kind: ErrorKind::ArgumentConflict,
+            said: "--format json is for all outcomes, and not for --broken or --schedule",
+        });
+    }
     schedule_request(found, outcome, broken)
 }
 
@@ -521,6 +529,7 @@ fn expecting_request<'a>(alloc: Global, found: &ArgMatches<'a>) -> Result<Reques
         limit: searched(found),
         expected,
         without_fault: found.get_flag("no-fault"),
+        json: is_json(found),
     };
     Ok(Request::Ask(source(found), question))
 }
@@ -549,7 +558,8 @@ fn is_second(matches: &ArgMatches<'_>, argument: &str, first: &str, second: &str
 ///   first and the last of these; `--workers` is refused beside them;
 /// - `swift`, with a file;
 /// - `explore`, with a file, `--limit N` from 1 to 10,000,000, 100,000 where it is not given, and either one of `--schedule K`, from 1 to
-///   10,000,000, and `--broken`, or `--expect EXPR`, also more than once, and `--no-fault`;
+///   10,000,000, and `--broken`, or `--expect EXPR`, also more than once, `--no-fault`, and `--format` with `text` or `json`, `text` where
+///   it is not given;
 /// - `show`, with a file, `--workers N`, and `--format` with `svg`, `html` or `trace`, `svg` where it is not given;
 /// - `check`, with a file and `--color always` or `never`, which is meant where it is not given;
 /// - `print`, with a file and `--pretty`;

@@ -1,0 +1,28 @@
+use Rattle.swift_expressions.proofs.value.+value.Given as goal
+
+abbrev pub decreases-binary : goal.decreases-binary
+decreases-binary l = l.depth
+
+abbrev pub decreases-shortcut : goal.decreases-shortcut
+decreases-shortcut l = l.depth
+
+abbrev pub decreases-choice : goal.decreases-choice
+decreases-choice l = l.depth
+
+abbrev pub decreases-awaited : goal.decreases-awaited
+decreases-awaited l = l.depth
+
+abbrev pub decreases-tried : goal.decreases-tried
+decreases-tried l = l.depth
+
+abbrev pub decreases-prefixed : goal.decreases-prefixed
+decreases-prefixed l = l.depth
+
+abbrev pub decreases-otherwise : goal.decreases-otherwise
+decreases-otherwise l = l.depth
+
+abbrev pub decreases-lower_operands : goal.decreases-lower_operands
+decreases-lower_operands l = l.depth
+
+abbrev pub decreases-value : goal.decreases-value
+decreases-value l = l.depth

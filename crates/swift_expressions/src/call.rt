@@ -1,0 +1,292 @@
+//! Calls of methods.
+
+use crate::code::{Instruction, Kind, NONE, Target, Value, Wait};
+use crate::lowering::{Fallback, Lowering};
+use crate::naming::{actor_of, instance_named, method_at, method_named};
+use crate::operands::Operands;
+use crate::scope::{Standing, binding_at, find};
+use crate::typed::{Typed, kind_of, refused, with_kind};
+use crate::waits::{group_next, wait, wait_for_all, want_await, want_try};
+use swift_syntax::{Access, MethodDecl, Receiver, Rule};
+
+/// What is called.
+#[derive(Clone, Copy)]
+pub(crate) enum Called {
+    /// Nothing, where a refusal was noted.
+    Nothing,
+    /// A method of the own actor.
+    Own(usize),
+    /// A method of an instance.
+    Other(usize, usize),
+    /// `Task.yield`
+    Yield,
+    /// `Task.sleep`
+    Sleep,
+    /// `Task.checkCancellation`
+    Check,
+    /// `next` of the group at a place in scope.
+    Next(usize),
+    /// `waitForAll` of the group at a place in scope.
+    WaitForAll(usize),
+    /// `cancel` or `cancelAll` of the variable.
+    Cancel(usize),
+}
+
+/// What is called, and whether it takes values.
+#[derive(Clone, Copy)]
+pub(crate) struct Method {
+    /// What is called.
+    pub called: Called,
+    /// Whether its arguments are values.
+    pub takes_operands: bool,
+}
+
+fn as_method(called: Called) -> Method {
+    let takes_operands = matches!(called, Called::Own(_) | Called::Other(..));
+    Method {
+        called,
+        takes_operands,
+    }
+}
+
+// A method of the own actor.
+fn own_method(lowering: &mut Lowering<'_>, token: usize) -> Method {
+    let actor = lowering.setting.actor;
+    match method_named(lowering, actor, token) {
+        Some(place) => as_method(Called::Own(place)),
+        None => {
+            let rule = rule_of_unknown(lowering, token);
+            lowering.refuse(rule, token);
+            as_method(Called::Nothing)
+        }
+    }
+}
+
+// Why nothing of this name can be called.
+fn rule_of_unknown(lowering: &Lowering<'_>, token: usize) -> Rule {
+    if lowering
+        .tree
+        .actors
+        .iter()
+        .any(|a| lowering.are_same(a.name, token))
+    {
+        return Rule::ActorValue;
+    }
+    if lowering.setting.is_closure {
+        Rule::Captured
+    } else {
+        Rule::UnknownName
+    }
+}
+
+// A method of the type `Task`.
+fn task_method(lowering: &mut Lowering<'_>, token: usize) -> Method {
+    if lowering.spells(token, "yield") {
+        return as_method(Called::Yield);
+    }
+    if lowering.spells(token, "sleep") {
+        return as_method(Called::Sleep);
+    }
+    if lowering.spells(token, "checkCancellation") {
+        return as_method(Called::Check);
+    }
+    lowering.refuse(Rule::UnknownName, token);
+    as_method(Called::Nothing)
+}
+
+// A method of the task or group at a place in scope.
+fn scope_method(lowering: &mut Lowering<'_>, place: usize, token: usize) -> Method {
+    let Some(found) = binding_at(lowering, place) else {
+        return as_method(Called::Nothing);
+    };
+    if found.standing == Standing::Group {
+        if lowering.spells(token, "next") {
+            return as_method(Called::Next(place));
+        }
+        if lowering.spells(token, "waitForAll") {
+            return as_method(Called::WaitForAll(place));
+        }
+        if lowering.spells(token, "cancelAll") {
+            return as_method(Called::Cancel(found.variable));
+        }
+    }
+    if found.standing == Standing::Task && lowering.spells(token, "cancel") {
+        return as_method(Called::Cancel(found.variable));
+    }
+    lowering.refuse(Rule::UnknownName, token);
+    as_method(Called::Nothing)
+}
+
+/// What a call names.
+pub(crate) fn method_of(lowering: &mut Lowering<'_>, receiver: Receiver, token: usize) -> Method {
+    let of = match receiver {
+        Receiver::Nobody | Receiver::Own => return own_method(lowering, token),
+        Receiver::Named(of) => of,
+    };
+    if let Some(place) = find(lowering, of) {
+        return scope_method(lowering, place, token);
+    }
+    if lowering.spells(of, "Task") {
+        return task_method(lowering, token);
+    }
+    let Some(instance) = instance_named(lowering, of) else {
+        lowering.refuse(Rule::UnknownName, of);
+        return as_method(Called::Nothing);
+    };
+    let actor = actor_of(lowering, instance);
+    match method_named(lowering, actor, token) {
+        Some(place) => as_method(Called::Other(instance, place)),
+        None => {
+            lowering.refuse(Rule::UnknownName, token);
+            as_method(Called::Nothing)
+        }
+    }
+}
+
+/// Whether an argument has the label of a parameter.
+pub fn has_label(lowering: &Lowering<'_>, label: usize, wanted: usize) -> bool {
+    if label == 0 || wanted == 0 {
+        return label == wanted;
+    }
+    lowering.are_same(label, wanted)
+}
+
+/// Refuses arguments other than these parameters want.
+pub fn want_arguments(
+    lowering: &mut Lowering<'_>,
+    first_param: usize,
+    params_end: usize,
+    first: usize,
+    given: Operands,
+    token: usize,
+) {
+    if given.count != params_end.saturating_sub(first_param) {
+        lowering.refuse(Rule::Arguments, token);
+        return;
+    }
+    let mut place = first;
+    let mut operand = given.first;
+    for number in first_param..params_end {
+        let (Some(argument), Some(param), Some(found)) = (
+            lowering.tree.argument(place),
+            lowering.tree.params.get(number).copied(),
+            lowering.operand_at(operand),
+        ) else {
+            return;
+        };
+        if !has_label(lowering, argument.label, param.label) {
+            lowering.refuse(Rule::Arguments, token);
+        }
+        if found.kind != kind_of(param.value_type) {
+            lowering.refuse(Rule::WrongType, token);
+        }
+        place = argument.next;
+        operand = found.next;
+    }
+}
+
+// A call of a method of the own actor.
+fn call_own(
+    lowering: &mut Lowering<'_>,
+    place: usize,
+    declared: MethodDecl,
+    given: Operands,
+    token: usize,
+) -> Typed {
+    let kind = kind_of(declared.result);
+    if declared.is_async {
+        want_await(lowering, token);
+    }
+    if let Fallback::Fault(_) = lowering.setting.fallback {
+        if !declared.is_async {
+            lowering.refuse(Rule::NotYet, token);
+        }
+        return wait(lowering, Wait::Own(place, given.first), kind);
+    }
+    if kind == Kind::Void {
+        lowering.put(Instruction::Inline(Target::Nothing, place, given.first, token));
+        return with_kind(lowering, Value::Number(0), kind);
+    }
+    let variable = lowering.temporary();
+    let target = Target::Declare(variable);
+    lowering.put(Instruction::Inline(target, place, given.first, token));
+    with_kind(lowering, Value::Variable(variable), kind)
+}
+
+// A call of a declared method.
+fn call_method(
+    lowering: &mut Lowering<'_>,
+    place: usize,
+    instance: Option<usize>,
+    first: usize,
+    given: Operands,
+    token: usize,
+) -> Typed {
+    let Some(declared) = method_at(lowering, place) else {
+        return refused(lowering, Rule::UnknownName, token);
+    };
+    let MethodDecl {
+        first_param,
+        params_end,
+        ..
+    } = declared;
+    want_arguments(lowering, first_param, params_end, first, given, token);
+    if declared.is_throwing {
+        want_try(lowering, token);
+    }
+    match instance {
+        Some(instance) => {
+            if declared.access == Access::Private {
+                lowering.refuse(Rule::Private, token);
+            }
+            want_await(lowering, token);
+            let what = Wait::Method(instance, place, given.first);
+            wait(lowering, what, kind_of(declared.result))
+        }
+        None => call_own(lowering, place, declared, given, token),
+    }
+}
+
+// `Task.sleep`: any delay is among the orders that are searched.
+fn sleep(lowering: &mut Lowering<'_>, token: usize) {
+    want_await(lowering, token);
+    want_try(lowering, token);
+    let is_caught = matches!(lowering.setting.fallback, Fallback::Fault(_));
+    lowering.setting.fallback = Fallback::None;
+    lowering.put(Instruction::Yield);
+    if !is_caught {
+        lowering.put(Instruction::Check);
+    }
+}
+
+/// A call, with its arguments lowered where it takes values.
+pub(crate) fn call(
+    lowering: &mut Lowering<'_>,
+    method: Method,
+    first: usize,
+    given: Operands,
+    token: usize,
+) -> Typed {
+    match method.called {
+        Called::Own(place) => return call_method(lowering, place, None, first, given, token),
+        Called::Other(instance, place) => {
+            return call_method(lowering, place, Some(instance), first, given, token);
+        }
+        Called::Next(place) => return group_next(lowering, place, token),
+        Called::WaitForAll(place) => return wait_for_all(lowering, place, token),
+        Called::Nothing => {}
+        Called::Yield => {
+            want_await(lowering, token);
+            lowering.put(Instruction::Yield);
+        }
+        Called::Sleep => sleep(lowering, token),
+        Called::Check => {
+            want_try(lowering, token);
+            if lowering.take_fault() == NONE {
+                lowering.put(Instruction::Check);
+            }
+        }
+        Called::Cancel(variable) => lowering.put(Instruction::Cancel(variable)),
+    }
+    with_kind(lowering, Value::Number(0), Kind::Void)
+}

@@ -1,0 +1,69 @@
+//! Which expressions do something, or may change what is read beside them.
+
+use crate::lowering::Lowering;
+use swift_syntax::{ExprForm, Tree};
+
+// Whether an argument of a list does something.
+fn arguments_act(tree: &Tree, first: usize) -> bool {
+    let mut place = first;
+    for _ in 0..tree.arguments.len() {
+        match tree.argument(place) {
+            Some(argument) => {
+                if acts_at(tree, argument.value, DEPTH) {
+                    return true;
+                }
+                place = argument.next;
+            }
+            None => return false,
+        }
+    }
+    false
+}
+
+// Whether an expression does something.
+fn acts_at(tree: &Tree, place: usize, depth: u32) -> bool {
+    if depth == 0 {
+        return true;
+    }
+    match tree.expr(place).form {
+        ExprForm::Call(..) | ExprForm::Await(_) | ExprForm::TryOptional(_) => true,
+        ExprForm::Negate(inner) | ExprForm::Not(inner) | ExprForm::Try(inner) => {
+            acts_at(tree, inner, depth - 1)
+        }
+        ExprForm::Binary(_, left, right)
+        | ExprForm::Both(left, right)
+        | ExprForm::Otherwise(left, right) => {
+            acts_at(tree, left, depth - 1) || acts_at(tree, right, depth - 1)
+        }
+        // It becomes a statement.
+        ExprForm::Choice(..) => true,
+        // A field of another actor, or the value of a task.
+        ExprForm::Member(_) => true,
+        ExprForm::Missing
+        | ExprForm::Number(_)
+        | ExprForm::Truth(_)
+        | ExprForm::Text
+        | ExprForm::Name
+        | ExprForm::OwnMember
+        | ExprForm::Case => false,
+    }
+}
+
+/// How deep expressions and statements are looked into.
+pub const DEPTH: u32 = 400;
+
+/// Whether an expression itself becomes more than a value.
+pub fn is_acting(lowering: &Lowering<'_>, place: usize) -> bool {
+    acts_at(lowering.tree, place, DEPTH)
+}
+
+/// Whether an expression becomes more than a value: a call, a wait, a choice, or a part that is one. `await x` of an `async let` has the
+/// keyword somewhere on its left, so a name under an `await` counts too. Fields of instances in an expectation are values.
+pub(crate) fn acts(lowering: &Lowering<'_>, place: usize) -> bool {
+    !lowering.setting.is_expectation && (is_acting(lowering, place) || lowering.setting.is_awaited)
+}
+
+/// Whether one of these arguments does.
+pub(crate) fn any_acts(lowering: &Lowering<'_>, first: usize) -> bool {
+    arguments_act(lowering.tree, first)
+}

@@ -1,0 +1,339 @@
+//! A lowering under way.
+
+use crate::code::{Code, Instruction, Kind, NONE, Operand, Unit, UnitKind, Value, Variable};
+use crate::scope::Binding;
+use crate::typed::Typed;
+use std::alloc::Global;
+use swift_syntax::{Breach, Rule, Token, TokenKind, Tree};
+
+/// What stands for a value that does not come.
+#[derive(Clone, Copy)]
+pub enum Fallback {
+    /// Nothing.
+    None,
+    /// A value, where what is awaited ends with a fault.
+    Fault(usize),
+    /// A value, where a group has no child left.
+    Nil(usize),
+}
+
+/// Where a `return` goes.
+#[derive(Clone, Copy)]
+pub enum Returns {
+    /// Out of the unit.
+    Unit,
+    /// Out of a closure that stands in the unit, to a variable; only from this many open blocks.
+    Closure(usize, usize),
+}
+
+/// What holds of the place that is lowered.
+#[derive(Clone, Copy)]
+pub struct Setting {
+    /// The unit.
+    pub unit: usize,
+    /// The actor whose fields stand here, or `NONE`.
+    pub actor: usize,
+    /// From which place on the scope is seen.
+    pub boundary: usize,
+    /// Whether the unit may wait.
+    pub is_async: bool,
+    /// Whether the unit may throw.
+    pub is_throwing: bool,
+    /// Whether it is a closure, or `main`.
+    pub is_closure: bool,
+    /// Whether it is an expectation: then it reads fields of instances as they are at the end.
+    pub is_expectation: bool,
+    /// Whether `await` covers what is lowered.
+    pub is_awaited: bool,
+    /// Whether `try` covers what is lowered.
+    pub is_tried: bool,
+    /// What stands for the value of the next wait.
+    pub fallback: Fallback,
+    /// What the unit gives; none where that is not known.
+    pub result: Option<Kind>,
+    /// Where a `return` goes.
+    pub returns: Returns,
+    /// Whether something that may throw was met, outside of what catches it.
+    pub has_thrown: bool,
+    /// From which place on the names in scope are those of the innermost block.
+    pub block_start: usize,
+    /// How many blocks are open.
+    pub blocks: usize,
+    /// How many loops of the unit are open.
+    pub loops: usize,
+    /// How many groups of `async let` are open in the unit.
+    pub groups: usize,
+}
+
+/// What was lowered, and where.
+#[derive(Drop)]
+pub struct Lowering<'a> {
+    /// The text of the file.
+    pub text: &'a [u8],
+    /// Its tokens.
+    pub tokens: &'a [Token],
+    /// Its tree.
+    pub tree: &'a Tree,
+    /// What was lowered.
+    pub code: Code,
+    /// The names in scope, those of inner blocks last.
+    pub scope: Vec<Binding>,
+    /// What holds of the place that is lowered.
+    pub setting: Setting,
+    /// The first rule that is broken.
+    pub refused: Option<Breach>,
+}
+
+/// The beginning of a unit that may not wait and not throw.
+pub fn setting_of(unit: usize, actor: usize) -> Setting {
+    Setting {
+        unit,
+        actor,
+        boundary: 0,
+        is_async: false,
+        is_throwing: false,
+        is_closure: false,
+        is_expectation: false,
+        is_awaited: false,
+        is_tried: false,
+        fallback: Fallback::None,
+        result: None,
+        returns: Returns::Unit,
+        has_thrown: false,
+        block_start: 0,
+        blocks: 0,
+        loops: 0,
+        groups: 0,
+    }
+}
+
+impl<'a> Lowering<'a> {
+    /// Nothing of a file is lowered.
+    pub fn new(alloc: Global, text: &'a [u8], tokens: &'a [Token], tree: &'a Tree) -> Lowering<'a> {
+        Lowering {
+            text,
+            tokens,
+            tree,
+            code: Code::new(alloc),
+            scope: Vec::new(alloc),
+            setting: setting_of(NONE, NONE),
+            refused: None,
+        }
+    }
+
+    /// Notes that a token breaks a rule, unless a refusal was noted before.
+    pub fn refuse(&mut self, rule: Rule, place: usize) {
+        if self.refused.is_none() {
+            self.refused = Some(Breach { rule, token: place });
+        }
+    }
+
+    fn note(&mut self, is_grown: bool) {
+        if !is_grown {
+            self.refuse(Rule::Memory, 0);
+        }
+    }
+
+    /// The bytes of a token; none where there is no such token.
+    pub fn bytes(&self, place: usize) -> &'a [u8] {
+        match self.tokens.get(place) {
+            Some(token) => self.text.get(token.from..token.to).unwrap_or(b""),
+            None => b"",
+        }
+    }
+
+    /// Whether a token has these bytes.
+    pub fn spells(&self, place: usize, name: &str) -> bool {
+        self.bytes(place) == name.as_bytes()
+    }
+
+    /// Whether two tokens have the same bytes.
+    pub fn are_same(&self, left: usize, right: usize) -> bool {
+        self.bytes(left) == self.bytes(right)
+    }
+
+    /// Whether a token is a name.
+    pub fn is_name(&self, place: usize) -> bool {
+        match self.tokens.get(place) {
+            Some(token) => matches!(token.kind, TokenKind::Name),
+            None => false,
+        }
+    }
+
+    /// Puts a value into its table. Its place.
+    pub fn value(&mut self, value: Value) -> usize {
+        let place = self.code.values.len();
+        let is_grown = self.code.values.push(value).is_ok();
+        self.note(is_grown);
+        place
+    }
+
+    /// The value at a place.
+    pub fn value_at(&self, place: usize) -> Value {
+        match self.code.values.get(place) {
+            Some(value) => *value,
+            None => Value::Number(0),
+        }
+    }
+
+    /// Puts a number into the table of values. Its place.
+    pub fn number(&mut self, number: i64) -> usize {
+        self.value(Value::Number(number))
+    }
+
+    /// Takes what stands for the value of the next wait where that ends with a fault, or `NONE`.
+    pub fn take_fault(&mut self) -> usize {
+        let found = self.setting.fallback;
+        self.setting.fallback = Fallback::None;
+        match found {
+            Fallback::Fault(value) => value,
+            Fallback::None => NONE,
+            Fallback::Nil(_) => {
+                self.refuse(Rule::NotYet, 0);
+                NONE
+            }
+        }
+    }
+
+    /// Puts an instruction after the others.
+    pub fn put(&mut self, instruction: Instruction) {
+        let is_grown = self.code.instructions.push(instruction).is_ok();
+        self.note(is_grown);
+    }
+
+    /// How many instructions there are.
+    pub fn here(&self) -> usize {
+        self.code.instructions.len()
+    }
+
+    /// The operand at a place.
+    pub fn operand_at(&self, place: usize) -> Option<Operand> {
+        self.code.operands.get(place).copied()
+    }
+
+    /// Puts an operand into its table, and after another one where there is one. Its place.
+    pub fn operand(&mut self, given: Typed, last: usize) -> usize {
+        let place = self.code.operands.len();
+        if let Some(before) = self.code.operands.get_mut(last) {
+            before.next = place;
+        }
+        let Typed { value, kind } = given;
+        let is_grown = self
+            .code
+            .operands
+            .push(Operand {
+                value,
+                kind,
+                next: NONE,
+            })
+            .is_ok();
+        self.note(is_grown);
+        place
+    }
+
+    // How many variables of the unit have the name of a token, and one more where a field of the actor has it.
+    fn duplicates(&self, token: usize) -> usize {
+        let unit = self.setting.unit;
+        let mut many: usize = 0;
+        for variable in self.code.variables.iter() {
+            if variable.unit == unit
+                && variable.token != 0
+                && self.are_same(variable.token, token)
+            {
+                many = many.saturating_add(1);
+            }
+        }
+        for field in self.tree.fields.iter() {
+            if field.actor == self.setting.actor && self.are_same(field.name, token) {
+                many = many.saturating_add(1);
+            }
+        }
+        many
+    }
+
+    /// A variable of the unit, with the name of a token, or without one where that is 0. Its place.
+    pub fn variable(&mut self, token: usize, is_param: bool) -> usize {
+        let place = self.code.variables.len();
+        let duplicate = if token == 0 {
+            0
+        } else {
+            self.duplicates(token)
+        };
+        let unit = self.setting.unit;
+        let is_grown = self
+            .code
+            .variables
+            .push(Variable {
+                unit,
+                token,
+                duplicate,
+                is_param,
+            })
+            .is_ok();
+        self.note(is_grown);
+        place
+    }
+
+    /// A variable without a name.
+    pub fn temporary(&mut self) -> usize {
+        self.variable(0, false)
+    }
+
+    /// Puts a variable into scope.
+    pub fn bind(&mut self, binding: Binding) {
+        let is_grown = self.scope.push(binding).is_ok();
+        self.note(is_grown);
+    }
+
+    /// A unit, put into its table. Its place.
+    pub fn unit(&mut self, kind: UnitKind, actor: usize, token: usize) -> usize {
+        let place = self.code.units.len();
+        let is_grown = self
+            .code
+            .units
+            .push(Unit {
+                kind,
+                actor,
+                from: 0,
+                to: 0,
+                needs_done: false,
+                returns_inside: false,
+                token,
+                end: token,
+            })
+            .is_ok();
+        self.note(is_grown);
+        place
+    }
+
+    /// Gives a variable without a name the name of a token. Whether it had none.
+    pub fn name_variable(&mut self, place: usize, token: usize) -> bool {
+        let duplicate = self.duplicates(token);
+        let unit = self.setting.unit;
+        match self.code.variables.get_mut(place) {
+            Some(variable) => {
+                if variable.token != 0 || variable.unit != unit {
+                    return false;
+                }
+                variable.token = token;
+                variable.duplicate = duplicate;
+                true
+            }
+            None => false,
+        }
+    }
+
+    /// Notes that something of the unit may follow a `return`.
+    pub fn need_done(&mut self) {
+        if let Some(unit) = self.code.units.get_mut(self.setting.unit) {
+            unit.needs_done = true;
+        }
+    }
+
+    /// Notes that a `return` of the unit stands in a group's block.
+    pub fn return_inside(&mut self) {
+        if let Some(unit) = self.code.units.get_mut(self.setting.unit) {
+            unit.returns_inside = true;
+        }
+    }
+}

@@ -1,0 +1,78 @@
+//! Names.
+
+use crate::code::NONE;
+use crate::lowering::Lowering;
+use swift_syntax::{FieldDecl, InstanceDecl, MethodDecl};
+
+/// The place of the method of an actor with the bytes of a token.
+pub fn method_named(lowering: &Lowering<'_>, actor: usize, token: usize) -> Option<usize> {
+    lowering
+        .tree
+        .methods
+        .iter()
+        .position(|m| m.actor == actor && lowering.are_same(m.name, token))
+}
+
+/// The place of the field of an actor with the bytes of a token.
+pub fn field_named(lowering: &Lowering<'_>, actor: usize, token: usize) -> Option<usize> {
+    lowering
+        .tree
+        .fields
+        .iter()
+        .position(|f| f.actor == actor && lowering.are_same(f.name, token))
+}
+
+/// The place of the instance with the bytes of a token.
+pub fn instance_named(lowering: &Lowering<'_>, token: usize) -> Option<usize> {
+    lowering
+        .tree
+        .instances
+        .iter()
+        .position(|i| lowering.are_same(i.name, token))
+}
+
+/// The place of the constant with the bytes of a token.
+pub fn constant_named(lowering: &Lowering<'_>, token: usize) -> Option<usize> {
+    lowering
+        .tree
+        .constants
+        .iter()
+        .position(|c| lowering.are_same(c.name, token))
+}
+
+/// The place of the task local of an enum, each with the bytes of a token.
+pub fn local_named(lowering: &Lowering<'_>, of: usize, token: usize) -> Option<usize> {
+    lowering.tree.locals.iter().position(|l| lowering.are_same(l.of, of)
+        && lowering.are_same(l.name, token))
+}
+
+/// The place of the actor of an instance, or `NONE` where it is an executor's.
+pub fn actor_of(lowering: &Lowering<'_>, instance: usize) -> usize {
+    let Some(declared) = lowering.tree.instances.get(instance) else {
+        return NONE;
+    };
+    match lowering
+        .tree
+        .actors
+        .iter()
+        .position(|a| lowering.are_same(a.name, declared.of))
+    {
+        Some(actor) => actor,
+        None => NONE,
+    }
+}
+
+/// The method at a place.
+pub fn method_at(lowering: &Lowering<'_>, place: usize) -> Option<MethodDecl> {
+    lowering.tree.methods.get(place).copied()
+}
+
+/// The field at a place.
+pub fn field_at(lowering: &Lowering<'_>, place: usize) -> Option<FieldDecl> {
+    lowering.tree.fields.get(place).copied()
+}
+
+/// The instance at a place.
+pub fn instance_at(lowering: &Lowering<'_>, place: usize) -> Option<InstanceDecl> {
+    lowering.tree.instances.get(place).copied()
+}

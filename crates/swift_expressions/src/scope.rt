@@ -1,0 +1,140 @@
+//! What stands in scope.
+
+use crate::code::Kind;
+use crate::lowering::Lowering;
+use swift_syntax::Rule;
+
+/// What a name in scope stands for.
+#[derive(Clone, Copy, PartialEq, Eq)]
+pub enum Standing {
+    /// A value that never changes.
+    Constant,
+    /// A value that may be assigned.
+    Variable,
+    /// A task.
+    Task,
+    /// A group.
+    Group,
+    /// The one child of an `async let`.
+    Child,
+}
+
+/// A name in scope.
+#[derive(Clone, Copy)]
+pub struct Binding {
+    /// The token of its name.
+    pub token: usize,
+    /// What it stands for.
+    pub standing: Standing,
+    /// Its variable.
+    pub variable: usize,
+    /// The type of its value, or of the value of what it names.
+    pub kind: Kind,
+    /// Whether what it names may end with a fault.
+    pub is_throwing: bool,
+    /// Of a group, the variable that counts its children.
+    pub count: usize,
+    /// How many loops are open where it begins.
+    pub loops: usize,
+    /// Whether it is awaited.
+    pub is_used: bool,
+    /// Whether a child may have been left out of the group.
+    pub is_partial: bool,
+}
+
+/// The place of the innermost name in scope with the bytes of a token.
+pub fn find(lowering: &Lowering<'_>, token: usize) -> Option<usize> {
+    let mut found = None;
+    for (place, binding) in lowering.scope.iter().enumerate() {
+        if place >= lowering.setting.boundary && lowering.are_same(binding.token, token) {
+            found = Some(place);
+        }
+    }
+    found
+}
+
+/// The name in scope at a place.
+pub fn binding_at(lowering: &Lowering<'_>, place: usize) -> Option<Binding> {
+    lowering.scope.get(place).copied()
+}
+
+/// The innermost name in scope with the bytes of a token.
+pub fn standing_at(lowering: &Lowering<'_>, token: usize) -> Option<Binding> {
+    match find(lowering, token) {
+        Some(place) => binding_at(lowering, place),
+        None => None,
+    }
+}
+
+/// Notes that the name in scope at a place is awaited.
+pub fn mark_used(lowering: &mut Lowering<'_>, place: usize) {
+    if let Some(binding) = lowering.scope.get_mut(place) {
+        binding.is_used = true;
+    }
+}
+
+/// Notes that a child may have been left out of the group at a place.
+pub fn mark_partial(lowering: &mut Lowering<'_>, place: usize) {
+    if let Some(binding) = lowering.scope.get_mut(place) {
+        binding.is_partial = true;
+    }
+}
+
+// Refuses a task that is not awaited.
+fn refuse_left(lowering: &mut Lowering<'_>, from: usize) {
+    let mut left = None;
+    for (place, binding) in lowering.scope.iter().enumerate() {
+        if place >= from && binding.standing == Standing::Task && !binding.is_used {
+            left = Some(binding.token);
+        }
+    }
+    if let Some(token) = left {
+        lowering.refuse(Rule::TaskLeft, token);
+    }
+}
+
+/// Ends the names in scope from a place on.
+pub fn leave(lowering: &mut Lowering<'_>, from: usize) {
+    refuse_left(lowering, from);
+    lowering.scope.truncate(from);
+}
+
+/// A value in scope, with the name of a token.
+pub fn declare(
+    lowering: &mut Lowering<'_>,
+    token: usize,
+    variable: usize,
+    kind: Kind,
+    is_var: bool,
+) {
+    let standing = if is_var {
+        Standing::Variable
+    } else {
+        Standing::Constant
+    };
+    declare_as(lowering, token, standing, variable, kind, false, variable);
+}
+
+/// A name in scope. Tasks, groups and values are alike here.
+pub fn declare_as(
+    lowering: &mut Lowering<'_>,
+    token: usize,
+    standing: Standing,
+    variable: usize,
+    kind: Kind,
+    is_throwing: bool,
+    count: usize,
+) {
+    let loops = lowering.setting.loops;
+    lowering.bind(Binding {
+        token,
+        standing,
+        variable,
+        kind,
+        is_throwing,
+        count,
+        loops,
+        is_used: false,
+        is_partial: false,
+    });
+}

@@ -1,0 +1,75 @@
+//! Values with their types.
+
+use crate::code::{Instruction, Kind, Value};
+use crate::lowering::Lowering;
+use swift_syntax::{ExprForm, Rule, ValueType};
+
+/// The kind of a type.
+pub fn kind_of(found: ValueType) -> Kind {
+    match found {
+        ValueType::Int => Kind::Int,
+        ValueType::Bool => Kind::Bool,
+        ValueType::Void => Kind::Void,
+    }
+}
+
+/// A value with its type.
+#[derive(Clone, Copy)]
+pub struct Typed {
+    /// The place of the value.
+    pub value: usize,
+    /// Its type.
+    pub kind: Kind,
+}
+
+/// What stands for a value where a refusal was noted.
+pub fn refused(lowering: &mut Lowering<'_>, rule: Rule, token: usize) -> Typed {
+    lowering.refuse(rule, token);
+    let value = lowering.number(0);
+    Typed {
+        value,
+        kind: Kind::Int,
+    }
+}
+
+/// A value of a kind.
+pub fn with_kind(lowering: &mut Lowering<'_>, value: Value, kind: Kind) -> Typed {
+    let value = lowering.value(value);
+    Typed { value, kind }
+}
+
+/// Refuses a value of another kind than is wanted.
+pub fn want(lowering: &mut Lowering<'_>, found: Typed, kind: Kind, token: usize) {
+    if found.kind != kind {
+        lowering.refuse(Rule::WrongType, token);
+    }
+}
+
+/// The value of a literal.
+pub fn literal(lowering: &mut Lowering<'_>, place: usize) -> (i64, Kind) {
+    let expr = lowering.tree.expr(place);
+    match expr.form {
+        ExprForm::Number(number) => (number, Kind::Int),
+        ExprForm::Truth(truth) => (i64::from(truth), Kind::Bool),
+        ExprForm::Negate(inner) => match lowering.tree.expr(inner).form {
+            ExprForm::Number(number) => (number.checked_neg().unwrap_or(0), Kind::Int),
+            _ => (0, Kind::Int),
+        },
+        _ => {
+            lowering.refuse(Rule::Outside, expr.token);
+            (0, Kind::Int)
+        }
+    }
+}
+
+/// Keeps a value in a variable, unless nothing can change it.
+pub fn keep(lowering: &mut Lowering<'_>, found: Typed) -> Typed {
+    match lowering.value_at(found.value) {
+        Value::Number(_) | Value::Variable(_) => found,
+        _ => {
+            let variable = lowering.temporary();
+            lowering.put(Instruction::Let(variable, found.value));
+            with_kind(lowering, Value::Variable(variable), found.kind)
+        }
+    }
+}

@@ -1,0 +1,7 @@
+use Rattle.swift_lowering.proofs.returns.+returns.Given as goal
+
+abbrev pub decreases-block_returns : goal.decreases-block_returns
+decreases-block_returns l = l.depth
+
+abbrev pub decreases-returns : goal.decreases-returns
+decreases-returns l = l.depth

@@ -1,0 +1,43 @@
+use Rattle.swift_lowering.proofs.statement.+statement.Given as goal
+
+abbrev pub decreases-closure : goal.decreases-closure
+decreases-closure l = l.depth
+
+abbrev pub decreases-block : goal.decreases-block
+decreases-block l = l.depth
+
+abbrev pub decreases-conditional : goal.decreases-conditional
+decreases-conditional l = l.depth
+
+abbrev pub decreases-repeated : goal.decreases-repeated
+decreases-repeated l = l.depth
+
+abbrev pub decreases-loop_while : goal.decreases-loop_while
+decreases-loop_while l = l.depth
+
+abbrev pub decreases-loop_for : goal.decreases-loop_for
+decreases-loop_for l = l.depth
+
+abbrev pub decreases-closure_block : goal.decreases-closure_block
+decreases-closure_block l = l.depth
+
+abbrev pub decreases-closed : goal.decreases-closed
+decreases-closed l = l.depth
+
+abbrev pub decreases-statement : goal.decreases-statement
+decreases-statement l = l.depth
+
+abbrev pub decreases-statements : goal.decreases-statements
+decreases-statements l = l.depth
+
+abbrev pub decreases-guarded : goal.decreases-guarded
+decreases-guarded l = l.depth
+
+abbrev pub decreases-loop_results : goal.decreases-loop_results
+decreases-loop_results l = l.depth
+
+abbrev pub decreases-tasked : goal.decreases-tasked
+decreases-tasked l = l.depth
+
+abbrev pub decreases-child : goal.decreases-child
+decreases-child l = l.depth

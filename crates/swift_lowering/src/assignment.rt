@@ -1,0 +1,234 @@
+//! Where values go.
+
+use crate::catching::{Held, begin_held};
+use crate::tasks::give_result;
+use swift_expressions::{
+    Instruction, Kind, Lowering, NONE, Returns, Standing, Typed, Value, declare, expression,
+    field_at, field_kind, field_named, kind_of, standing_at, want, with_kind,
+};
+use swift_syntax::{Assigning, ExprForm, Into, Rule, Stmt, StmtForm};
+use swift_types::Operator;
+
+// Refuses a value of another type, where one is wanted.
+fn want_type(lowering: &mut Lowering<'_>, found: Typed, wanted: Option<Kind>, token: usize) {
+    if let Some(kind) = wanted {
+        want(lowering, found, kind, token);
+    }
+}
+
+// A name for a value.
+fn define(
+    lowering: &mut Lowering<'_>,
+    name: usize,
+    wanted: Option<Kind>,
+    found: Typed,
+    is_var: bool,
+) {
+    want_type(lowering, found, wanted, name);
+    if found.kind == Kind::Void || found.kind == Kind::Urgency {
+        lowering.refuse(Rule::WrongType, name);
+    }
+    refuse_twice(lowering, name);
+    let mut variable = NONE;
+    if let Value::Variable(place) = lowering.value_at(found.value) {
+        if lowering.name_variable(place, name) {
+            variable = place;
+        }
+    }
+    if variable == NONE {
+        variable = lowering.variable(name, false);
+        lowering.put(Instruction::Let(variable, found.value));
+    }
+    declare(lowering, name, variable, found.kind, is_var);
+}
+
+// Whether a block has a name already.
+fn has_name(lowering: &Lowering<'_>, name: usize) -> bool {
+    let start = lowering.setting.block_start;
+    for (place, binding) in lowering.scope.iter().enumerate() {
+        if place >= start && lowering.are_same(binding.token, name) {
+            return true;
+        }
+    }
+    false
+}
+
+// Refuses a name that its block has already.
+fn refuse_twice(lowering: &mut Lowering<'_>, name: usize) {
+    if has_name(lowering, name) {
+        lowering.refuse(Rule::NameTwice, name);
+    }
+}
+
+// Gives a name a value.
+fn set(lowering: &mut Lowering<'_>, name: usize, is_own: bool, found: Typed) {
+    if !is_own {
+        if let Some(standing) = standing_at(lowering, name) {
+            if standing.standing != Standing::Variable {
+                lowering.refuse(Rule::Assigned, name);
+            }
+            want(lowering, found, standing.kind, name);
+            lowering.put(Instruction::Set(standing.variable, found.value));
+            return;
+        }
+    }
+    let actor = lowering.setting.actor;
+    let Some(field) = field_named(lowering, actor, name) else {
+        lowering.refuse(Rule::UnknownName, name);
+        return;
+    };
+    if !field_at(lowering, field).is_some_and(|f| f.is_var) {
+        lowering.refuse(Rule::Assigned, name);
+    }
+    let kind = field_kind(lowering, field);
+    want(lowering, found, kind, name);
+    lowering.put(Instruction::SetField(field, found.value));
+}
+
+// What a name stands for that is about to be changed.
+fn current(lowering: &mut Lowering<'_>, name: usize, is_own: bool) -> Typed {
+    if !is_own {
+        if let Some(found) = standing_at(lowering, name) {
+            return with_kind(lowering, Value::Variable(found.variable), found.kind);
+        }
+    }
+    let actor = lowering.setting.actor;
+    match field_named(lowering, actor, name) {
+        Some(field) => {
+            let kind = field_kind(lowering, field);
+            with_kind(lowering, Value::Field(field), kind)
+        }
+        None => {
+            lowering.refuse(Rule::UnknownName, name);
+            with_kind(lowering, Value::Number(0), Kind::Int)
+        }
+    }
+}
+
+/// An assignment. `x += e` reads x after e.
+pub(crate) fn assign(
+    lowering: &mut Lowering<'_>,
+    how: Assigning,
+    is_own: bool,
+    place: usize,
+    name: usize,
+) {
+    let found = expression(lowering, place);
+    let operator = match how {
+        Assigning::Set => {
+            set(lowering, name, is_own, found);
+            return;
+        }
+        Assigning::Add => Operator::Plus,
+        Assigning::Subtract => Operator::Minus,
+        Assigning::Multiply => Operator::Times,
+    };
+    want(lowering, found, Kind::Int, name);
+    let before = current(lowering, name, is_own);
+    let after = Value::Binary(operator, before.value, found.value);
+    let after = with_kind(lowering, after, Kind::Int);
+    set(lowering, name, is_own, after);
+}
+
+/// `NAME.toggle()`
+pub(crate) fn toggle(lowering: &mut Lowering<'_>, is_own: bool, name: usize) {
+    let before = current(lowering, name, is_own);
+    want(lowering, before, Kind::Bool, name);
+    let after = with_kind(lowering, Value::Not(before.value), Kind::Bool);
+    set(lowering, name, is_own, after);
+}
+
+/// A value that is returned.
+pub(crate) fn give_back(lowering: &mut Lowering<'_>, found: Option<Typed>, stmt: Stmt) {
+    let kind = found.map_or(Kind::Void, |f| f.kind);
+    match lowering.setting.result {
+        Some(wanted) => {
+            if wanted != kind {
+                lowering.refuse(Rule::WrongType, stmt.token);
+            }
+        }
+        None => lowering.setting.result = Some(kind),
+    }
+    if let Returns::Closure(_, blocks) = lowering.setting.returns {
+        if stmt.next != 0 || lowering.setting.blocks != blocks {
+            lowering.refuse(Rule::NotYet, stmt.token);
+        }
+        if let Some(found) = found {
+            give_result(lowering, found);
+        }
+        return;
+    }
+    if lowering.setting.groups > 0 {
+        lowering.return_inside();
+    }
+    match found {
+        Some(found) if kind != Kind::Void => lowering.put(Instruction::Return(found.value)),
+        _ => lowering.put(Instruction::Return(NONE)),
+    }
+}
+
+/// Gives a value to where it goes.
+pub(crate) fn give(lowering: &mut Lowering<'_>, into: Into, found: Typed, stmt: Stmt) {
+    match into {
+        Into::Nothing => {}
+        Into::Let(name, wanted) => define(lowering, name, wanted.map(kind_of), found, false),
+        Into::Var(name, wanted) => define(lowering, name, wanted.map(kind_of), found, true),
+        Into::Assign(name) => set(lowering, name, false, found),
+        Into::Return => give_back(lowering, Some(found), stmt),
+    }
+}
+
+// The number of a case of an enum of errors.
+fn case_number(lowering: &mut Lowering<'_>, of: usize, name: usize) -> i64 {
+    let found = lowering
+        .tree
+        .cases
+        .iter()
+        .find(|c| lowering.are_same(c.of, of) && lowering.are_same(c.name, name))
+        .map(|c| c.place);
+    match found {
+        Some(place) => i64::try_from(place).unwrap_or(0),
+        None => {
+            lowering.refuse(Rule::UnknownName, name);
+            0
+        }
+    }
+}
+
+// The number that an expression throws: the place of a case in its enum, or -1.
+fn thrown(lowering: &mut Lowering<'_>, place: usize) -> i64 {
+    let expr = lowering.tree.expr(place);
+    match expr.form {
+        ExprForm::Member(of) => case_number(lowering, of, expr.token),
+        ExprForm::Call(_, 0) if lowering.spells(expr.token, "CancellationError") => -1,
+        _ => {
+            lowering.refuse(Rule::Outside, expr.token);
+            0
+        }
+    }
+}
+
+/// `throw e`
+pub(crate) fn throw(lowering: &mut Lowering<'_>, place: usize) {
+    lowering.setting.has_thrown = true;
+    if !lowering.setting.is_throwing {
+        lowering.refuse(Rule::Try, lowering.tree.expr(place).token);
+    }
+    let number = thrown(lowering, place);
+    let value = lowering.number(number);
+    lowering.put(Instruction::Throw(value));
+}
+
+/// Gives what came in a `do` to where it goes.
+pub(crate) fn end_caught(lowering: &mut Lowering<'_>, held: Option<Held>) {
+    let Some(held) = held else {
+        return;
+    };
+    begin_held(lowering, held);
+    match held.stmt.form {
+        StmtForm::Assign(_, is_own, _) => set(lowering, held.stmt.token, is_own, held.found),
+        StmtForm::Value(into, _) => give(lowering, into, held.found, held.stmt),
+        _ => {}
+    }
+    lowering.put(Instruction::End);
+}

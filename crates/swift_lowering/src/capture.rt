@@ -1,0 +1,102 @@
+//! What closures capture.
+
+use crate::closure::ClosureBody;
+use swift_expressions::{Lowering, NONE, Standing, Typed, Value, declare, standing_at};
+use swift_syntax::{Rule, Sign, TokenKind};
+
+// Whether a name stands at a token that may be captured.
+fn may_be_captured(lowering: &Lowering<'_>, token: usize) -> bool {
+    if !lowering.is_name(token) {
+        return false;
+    }
+    !is_sign(lowering, token.saturating_sub(1), Sign::Dot)
+        && !is_sign(lowering, token.saturating_add(1), Sign::Colon)
+}
+
+fn is_sign(lowering: &Lowering<'_>, place: usize, sign: Sign) -> bool {
+    match lowering.tokens.get(place) {
+        Some(token) => match token.kind {
+            TokenKind::Sign(found) => found == sign,
+            _ => false,
+        },
+        None => false,
+    }
+}
+
+// Whether a closure's list has the name of a token.
+fn is_listed(lowering: &Lowering<'_>, captures: usize, token: usize) -> bool {
+    let mut place = captures;
+    for _ in 0..lowering.tree.arguments.len() {
+        match lowering.tree.argument(place) {
+            Some(argument) => {
+                if lowering.are_same(argument.label, token) {
+                    return true;
+                }
+                place = argument.next;
+            }
+            None => return false,
+        }
+    }
+    false
+}
+
+// Whether a name is captured already.
+fn is_captured(lowering: &Lowering<'_>, from: usize, token: usize) -> bool {
+    lowering
+        .scope
+        .iter()
+        .skip(from)
+        .any(|b| lowering.are_same(b.token, token))
+}
+
+// Captures what a name in scope stands for, as a parameter of the unit. The place of the last operand.
+fn capture(
+    lowering: &mut Lowering<'_>,
+    unit: usize,
+    captures: usize,
+    token: usize,
+    last: usize,
+) -> usize {
+    let Some(found) = standing_at(lowering, token) else {
+        return last;
+    };
+    let is_value = match found.standing {
+        Standing::Constant => true,
+        Standing::Variable => is_listed(lowering, captures, token),
+        Standing::Task | Standing::Group | Standing::Child => false,
+    };
+    if !is_value {
+        lowering.refuse(Rule::Captured, token);
+        return last;
+    }
+    let value = lowering.value(Value::Variable(found.variable));
+    let given = Typed {
+        value,
+        kind: found.kind,
+    };
+    let operand = lowering.operand(given, last);
+    let outer = lowering.setting.unit;
+    lowering.setting.unit = unit;
+    let variable = lowering.variable(found.token, true);
+    lowering.setting.unit = outer;
+    declare(lowering, token, variable, found.kind, false);
+    operand
+}
+
+/// Captures what the names in a closure stand for. The place of the first operand, or `NONE`.
+pub(crate) fn capture_all(lowering: &mut Lowering<'_>, unit: usize, body: ClosureBody) -> usize {
+    let from = lowering.scope.len();
+    let mut first = NONE;
+    let mut last = NONE;
+    for token in body.from..body.to {
+        if !may_be_captured(lowering, token) || is_captured(lowering, from, token) {
+            continue;
+        }
+        let next = capture(lowering, unit, body.captures, token, last);
+        if first == NONE {
+            first = next;
+        }
+        last = next;
+    }
+    first
+}

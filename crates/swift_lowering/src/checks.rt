@@ -1,0 +1,182 @@
+//! What has to hold of a file as a whole.
+
+use swift_expressions::{Lowering, actor_of, has_label, instance_at, kind_of, literal};
+use swift_syntax::{FieldStart, Rule, ValueType};
+
+// Refuses a name that a table has twice, by its places.
+fn refuse_same(lowering: &mut Lowering<'_>, left: usize, right: usize) {
+    if left != right && lowering.are_same(left, right) {
+        lowering.refuse(Rule::NameTwice, left.max(right));
+    }
+}
+
+/// Refuses methods and fields of one actor with one name.
+pub(crate) fn check_members(lowering: &mut Lowering<'_>) {
+    let tree = lowering.tree;
+    for method in tree.methods.iter() {
+        for other in tree.methods.iter() {
+            if method.actor == other.actor {
+                refuse_same(lowering, method.name, other.name);
+            }
+        }
+        for field in tree.fields.iter() {
+            if method.actor == field.actor {
+                refuse_same(lowering, method.name, field.name);
+            }
+        }
+    }
+    for field in tree.fields.iter() {
+        for other in tree.fields.iter() {
+            if field.actor == other.actor {
+                refuse_same(lowering, field.name, other.name);
+            }
+        }
+    }
+}
+
+// Refuses a global name that is there twice, or is kept.
+fn check_global(lowering: &mut Lowering<'_>, name: usize) {
+    let tree = lowering.tree;
+    for actor in tree.actors.iter() {
+        refuse_same(lowering, name, actor.name);
+    }
+    for instance in tree.instances.iter() {
+        refuse_same(lowering, name, instance.name);
+    }
+    for constant in tree.constants.iter() {
+        refuse_same(lowering, name, constant.name);
+    }
+    for executor in tree.executors.iter() {
+        refuse_same(lowering, name, executor.name);
+    }
+    for main in tree.mains.iter() {
+        refuse_same(lowering, name, main.name);
+    }
+    if lowering.spells(name, "Task") || lowering.spells(name, "print") {
+        lowering.refuse(Rule::NameTwice, name);
+    }
+}
+
+/// Refuses global names that are there twice, or are kept.
+pub(crate) fn check_globals(lowering: &mut Lowering<'_>) {
+    let tree = lowering.tree;
+    for actor in tree.actors.iter() {
+        check_global(lowering, actor.name);
+    }
+    for instance in tree.instances.iter() {
+        check_global(lowering, instance.name);
+    }
+    for constant in tree.constants.iter() {
+        check_global(lowering, constant.name);
+    }
+    for executor in tree.executors.iter() {
+        check_global(lowering, executor.name);
+    }
+    for main in tree.mains.iter() {
+        check_global(lowering, main.name);
+    }
+    for local in tree.locals.iter() {
+        check_global(lowering, local.of);
+        for other in tree.locals.iter() {
+            refuse_same(lowering, local.name, other.name);
+        }
+    }
+}
+
+// Refuses a literal of another type, where one is given.
+fn check_literal(
+    lowering: &mut Lowering<'_>,
+    wanted: Option<ValueType>,
+    value: usize,
+    name: usize,
+) {
+    let (_, kind) = literal(lowering, value);
+    if let Some(wanted) = wanted {
+        if kind != kind_of(wanted) {
+            lowering.refuse(Rule::WrongType, name);
+        }
+    }
+}
+
+/// Refuses start values of fields, constants and task locals that are of another type than is given.
+pub(crate) fn check_starts(lowering: &mut Lowering<'_>) {
+    let tree = lowering.tree;
+    for field in tree.fields.iter() {
+        if let FieldStart::Value(value) = field.start {
+            check_literal(lowering, field.value_type, value, field.name);
+        }
+    }
+    for constant in tree.constants.iter() {
+        check_literal(lowering, constant.value_type, constant.value, constant.name);
+    }
+    for local in tree.locals.iter() {
+        check_literal(lowering, local.value_type, local.value, local.name);
+    }
+}
+
+// Refuses arguments of an instance other than the init of its actor wants.
+fn check_instance(lowering: &mut Lowering<'_>, instance: usize) {
+    let Some(declared) = instance_at(lowering, instance) else {
+        return;
+    };
+    let actor = actor_of(lowering, instance);
+    let Some(made) = lowering.tree.actors.get(actor).copied() else {
+        check_executor(lowering, declared.of, declared.arguments);
+        return;
+    };
+    let mut place = declared.arguments;
+    for number in made.first_param..made.params_end {
+        let (Some(argument), Some(param)) = (
+            lowering.tree.argument(place),
+            lowering.tree.params.get(number).copied(),
+        ) else {
+            lowering.refuse(Rule::Arguments, declared.of);
+            return;
+        };
+        if !has_label(lowering, argument.label, param.label) {
+            lowering.refuse(Rule::Arguments, declared.of);
+        }
+        let (_, kind) = literal(lowering, argument.value);
+        if kind != kind_of(param.value_type) {
+            lowering.refuse(Rule::WrongType, declared.of);
+        }
+        place = argument.next;
+    }
+    if place != 0 {
+        lowering.refuse(Rule::Arguments, declared.of);
+    }
+}
+
+// Refuses an instance of what is neither an actor nor an executor.
+fn check_executor(lowering: &mut Lowering<'_>, of: usize, arguments: usize) {
+    let is_declared = lowering
+        .tree
+        .executors
+        .iter()
+        .any(|e| lowering.are_same(e.name, of));
+    if !is_declared {
+        lowering.refuse(Rule::UnknownName, of);
+    }
+    if arguments != 0 {
+        lowering.refuse(Rule::Arguments, of);
+    }
+}
+
+/// Refuses actors without an instance, and a file without one `main`.
+pub(crate) fn check_whole(lowering: &mut Lowering<'_>) {
+    let tree = lowering.tree;
+    for (place, actor) in tree.actors.iter().enumerate() {
+        let is_made = (0..tree.instances.len()).any(|i| actor_of(lowering, i) == place);
+        if !is_made {
+            lowering.refuse(Rule::ActorValue, actor.name);
+        }
+    }
+    for instance in 0..tree.instances.len() {
+        check_instance(lowering, instance);
+    }
+    match tree.mains.as_slice() {
+        [_] => {}
+        [_, second, ..] => lowering.refuse(Rule::NameTwice, second.name),
+        [] => lowering.refuse(Rule::Unexpected, lowering.tokens.len()),
+    }
+}

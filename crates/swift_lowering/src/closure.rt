@@ -1,0 +1,321 @@
+//! Closures, and the methods that they become.
+
+use crate::capture::capture_all;
+use crate::returns::exits;
+use swift_expressions::{
+    Callee, Instruction, Kind, Lowering, NONE, Setting, Standing, UnitKind, actor_of,
+    call_operands, constant_named, expression, instance_named, kind_of, leave, method_at,
+    method_named, setting_of, standing_at, want_arguments,
+};
+use swift_syntax::{Access, ExprForm, Into, MethodDecl, Receiver, Rule, StmtForm};
+
+/// What a closure says.
+#[derive(Clone, Copy)]
+pub(crate) struct ClosureBody {
+    /// Its first statement, or 0.
+    pub first: usize,
+    /// Its value, where it is one alone, or 0.
+    pub value: usize,
+    /// The first of the names in its list.
+    pub captures: usize,
+    /// Its first token.
+    pub from: usize,
+    /// The token behind its last one.
+    pub to: usize,
+    /// Whether `await` and `try` are understood, as in an `async let`.
+    pub is_implicit: bool,
+    /// Whether it may throw.
+    pub may_throw: bool,
+    /// Whether it is a child of a group that others may join: then it ends after the actor that it calls was left.
+    pub is_among_others: bool,
+}
+
+/// What became of a closure.
+#[derive(Clone, Copy)]
+pub(crate) struct MadeClosure {
+    /// The method that a task runs.
+    pub callee: Callee,
+    /// What it gives.
+    pub kind: Kind,
+    /// Whether it may throw.
+    pub is_throwing: bool,
+}
+
+/// The value that is all that a block says, or 0.
+pub(crate) fn lone_value(lowering: &Lowering<'_>, first: usize) -> usize {
+    match lowering.tree.stmt(first) {
+        Some(stmt) => match stmt.form {
+            StmtForm::Value(Into::Nothing | Into::Return, value) => {
+                if stmt.next == 0 && !is_said(lowering, value) {
+                    value
+                } else {
+                    0
+                }
+            }
+            _ => 0,
+        },
+        None => 0,
+    }
+}
+
+/// Whether an expression is a call of `print`, `precondition` or `assert`.
+pub(crate) fn is_said(lowering: &Lowering<'_>, value: usize) -> bool {
+    let expr = lowering.tree.expr(value);
+    match expr.form {
+        ExprForm::Call(Receiver::Nobody, _) => {
+            lowering.spells(expr.token, "print")
+                || lowering.spells(expr.token, "precondition")
+                || lowering.spells(expr.token, "assert")
+        }
+        ExprForm::TryOptional(_) => true,
+        _ => false,
+    }
+}
+
+// An expression without the `await` and `try` before it, and which of them stand there.
+fn uncovered(lowering: &Lowering<'_>, place: usize) -> (usize, bool, bool) {
+    let mut inner = place;
+    let mut is_awaited = false;
+    let mut is_tried = false;
+    for _ in 0..3 {
+        match lowering.tree.expr(inner).form {
+            ExprForm::Await(next) => {
+                is_awaited = true;
+                inner = next;
+            }
+            ExprForm::Try(next) => {
+                is_tried = true;
+                inner = next;
+            }
+            _ => {}
+        }
+    }
+    (inner, is_awaited, is_tried)
+}
+
+// Whether an argument is the same wherever it is computed.
+fn is_fixed(lowering: &Lowering<'_>, value: usize) -> bool {
+    let expr = lowering.tree.expr(value);
+    match expr.form {
+        ExprForm::Number(_) | ExprForm::Truth(_) => true,
+        ExprForm::Name => match standing_at(lowering, expr.token) {
+            Some(found) => found.standing == Standing::Constant,
+            None => constant_named(lowering, expr.token).is_some(),
+        },
+        _ => false,
+    }
+}
+
+fn are_fixed(lowering: &Lowering<'_>, first: usize) -> bool {
+    let mut place = first;
+    for _ in 0..lowering.tree.arguments.len() {
+        match lowering.tree.argument(place) {
+            Some(argument) => {
+                if !is_fixed(lowering, argument.value) {
+                    return false;
+                }
+                place = argument.next;
+            }
+            None => return true,
+        }
+    }
+    true
+}
+
+// The instance whose method is all that a closure calls, with values that are the same wherever they are computed.
+fn called_instance(lowering: &Lowering<'_>, place: usize) -> Option<usize> {
+    match lowering.tree.expr(place).form {
+        ExprForm::Call(Receiver::Named(of), first) => {
+            if standing_at(lowering, of).is_some() || !are_fixed(lowering, first) {
+                return None;
+            }
+            instance_named(lowering, of)
+        }
+        _ => None,
+    }
+}
+
+// A call of a method of an instance, with the first of its arguments and the token of its name.
+#[derive(Clone, Copy)]
+struct InstanceCall {
+    instance: usize,
+    method: usize,
+    declared: MethodDecl,
+    first: usize,
+    token: usize,
+}
+
+// What a closure calls, if that is all that it does.
+fn called(lowering: &Lowering<'_>, place: usize) -> Option<InstanceCall> {
+    let instance = called_instance(lowering, place)?;
+    let expr = lowering.tree.expr(place);
+    let ExprForm::Call(_, first) = expr.form else {
+        return None;
+    };
+    let token = expr.token;
+    let method = method_named(lowering, actor_of(lowering, instance), token)?;
+    let declared = method_at(lowering, method)?;
+    Some(InstanceCall {
+        instance,
+        method,
+        declared,
+        first,
+        token,
+    })
+}
+
+/// A closure that only calls a method of an instance is that method.
+pub(crate) fn direct(lowering: &mut Lowering<'_>, body: ClosureBody) -> Option<MadeClosure> {
+    if body.is_among_others {
+        return None;
+    }
+    let (place, is_awaited, is_tried) = uncovered(lowering, body.value);
+    let call = called(lowering, place)?;
+    let is_tried = is_tried && body.may_throw;
+    if !body.is_implicit && (!is_awaited || (call.declared.is_throwing && !is_tried)) {
+        return None;
+    }
+    Some(hand_over(lowering, call))
+}
+
+// The method of an instance as what a task runs.
+fn hand_over(lowering: &mut Lowering<'_>, call: InstanceCall) -> MadeClosure {
+    let InstanceCall {
+        instance,
+        method,
+        declared,
+        first,
+        token,
+    } = call;
+    let given = call_operands(lowering, first);
+    let first_param = declared.first_param;
+    want_arguments(
+        lowering,
+        first_param,
+        declared.params_end,
+        first,
+        given,
+        token,
+    );
+    if declared.access == Access::Private {
+        lowering.refuse(Rule::Private, token);
+    }
+    MadeClosure {
+        callee: Callee::Method(instance, method, given.first),
+        kind: kind_of(declared.result),
+        is_throwing: declared.is_throwing,
+    }
+}
+
+// How a closure begins, in which what was captured stands from a place of the scope on.
+fn closure_setting(unit: usize, boundary: usize, body: ClosureBody) -> Setting {
+    let mut setting = setting_of(unit, NONE);
+    setting.boundary = boundary;
+    setting.block_start = boundary;
+    setting.is_async = true;
+    setting.is_throwing = body.may_throw;
+    setting.is_closure = true;
+    setting.is_awaited = body.is_implicit;
+    setting.is_tried = body.is_implicit;
+    setting
+}
+
+/// A unit whose instructions stand among those of another one.
+#[derive(Clone, Copy)]
+pub(crate) struct OpenUnit {
+    /// Its place.
+    pub unit: usize,
+    // The place of the instruction that goes over it.
+    skip: usize,
+}
+
+/// A unit that a closure becomes begins here, at a token.
+pub(crate) fn begin_unit(lowering: &mut Lowering<'_>, token: usize) -> OpenUnit {
+    let actor = match lowering.code.units.get(lowering.setting.unit) {
+        Some(outer) => outer.actor,
+        None => NONE,
+    };
+    let unit = lowering.unit(UnitKind::Closure, actor, token);
+    let skip = lowering.here();
+    lowering.put(Instruction::Skip(0));
+    OpenUnit { unit, skip }
+}
+
+/// A unit that a closure becomes ends here, before a token.
+pub(crate) fn end_unit(lowering: &mut Lowering<'_>, begun: OpenUnit, end: usize) {
+    let here = lowering.here();
+    if let Some(made) = lowering.code.units.get_mut(begun.unit) {
+        made.from = begun.skip.saturating_add(1);
+        made.to = here;
+        made.end = end;
+    }
+    if let Some(instruction) = lowering.code.instructions.get_mut(begun.skip) {
+        *instruction = Instruction::Skip(here);
+    }
+}
+
+/// A closure that is lowered, as a unit of its own.
+#[derive(Clone, Copy)]
+pub(crate) struct OpenClosure {
+    // Its unit.
+    begun: OpenUnit,
+    // The first of the operands that it captures, or `NONE`.
+    operand: usize,
+    // What holds around it.
+    outer: Setting,
+    // How many names are in scope around it.
+    boundary: usize,
+}
+
+/// A closure begins here, as a unit with what it captures.
+pub(crate) fn begin_closure(lowering: &mut Lowering<'_>, body: ClosureBody) -> OpenClosure {
+    let outer = lowering.setting;
+    let boundary = lowering.scope.len();
+    let begun = begin_unit(lowering, body.from);
+    let operand = capture_all(lowering, begun.unit, body);
+    lowering.setting = closure_setting(begun.unit, boundary, body);
+    OpenClosure {
+        begun,
+        operand,
+        outer,
+        boundary,
+    }
+}
+
+/// A value that is all that a closure says is what it gives.
+pub(crate) fn give_lone(lowering: &mut Lowering<'_>, value: usize) {
+    let found = expression(lowering, value);
+    lowering.setting.result = Some(found.kind);
+    let value = if found.kind == Kind::Void {
+        NONE
+    } else {
+        found.value
+    };
+    lowering.put(Instruction::Return(value));
+}
+
+/// Refuses a closure with a value that may end without one.
+pub(crate) fn want_end(lowering: &mut Lowering<'_>, body: ClosureBody) {
+    let kind = lowering.setting.result.unwrap_or(Kind::Void);
+    if kind != Kind::Void && !exits(lowering, body.first) {
+        lowering.refuse(Rule::NoReturn, body.to.saturating_sub(1));
+    }
+}
+
+/// A closure ends here. What became of it.
+pub(crate) fn end_closure(
+    lowering: &mut Lowering<'_>,
+    closure: OpenClosure,
+    body: ClosureBody,
+) -> MadeClosure {
+    let kind = lowering.setting.result.unwrap_or(Kind::Void);
+    let is_throwing = lowering.setting.has_thrown;
+    end_unit(lowering, closure.begun, body.to);
+    leave(lowering, closure.boundary);
+    lowering.setting = closure.outer;
+    MadeClosure {
+        callee: Callee::Unit(closure.begun.unit, closure.operand),
+        kind,
+        is_throwing,
+    }
+}

@@ -1,0 +1,29 @@
+//! From the tree of a Swift file to instructions: statements, closures and waits, over the expressions of swift_expressions.
+#![tactic(auto)]
+
+// Where values go.
+mod assignment;
+// What closures capture.
+mod capture;
+// What a `do` catches.
+mod catching;
+// What has to hold of a file as a whole.
+mod checks;
+// Closures, and the methods that they become.
+mod closure;
+// Statements without a block.
+mod effect;
+// Whole files.
+mod file;
+// What stands at the head of a loop.
+mod looping;
+// What `print`, `precondition` and `assert` say.
+mod print;
+// Which statements return.
+mod returns;
+// Statements with blocks.
+mod statement;
+// Tasks, groups and bindings.
+mod tasks;
+
+pub use file::{Lowered, lower};

@@ -1,0 +1,70 @@
+//! What `print`, `precondition` and `assert` say.
+
+use swift_expressions::{Instruction, Kind, Lowering, NONE, UnitKind, expression, keep, want};
+use swift_syntax::{ExprForm, Rule};
+
+/// The values that `main` prints become fields, when all of them are computed; elsewhere they are only computed.
+pub(crate) fn print(lowering: &mut Lowering<'_>, first: usize) {
+    let mut place = first;
+    let mut values = NONE;
+    let mut last = NONE;
+    for _ in 0..lowering.tree.arguments.len() {
+        let Some(argument) = lowering.tree.argument(place) else {
+            break;
+        };
+        place = argument.next;
+        if matches!(lowering.tree.expr(argument.value).form, ExprForm::Text) {
+            continue;
+        }
+        last = printed(lowering, argument.value, last);
+        if values == NONE {
+            values = last;
+        }
+    }
+    if is_main(lowering) {
+        print_values(lowering, values);
+    }
+}
+
+fn is_main(lowering: &Lowering<'_>) -> bool {
+    match lowering.code.units.get(lowering.setting.unit) {
+        Some(unit) => matches!(unit.kind, UnitKind::Main),
+        None => false,
+    }
+}
+
+// A value that is printed, as an operand after others. Its place.
+fn printed(lowering: &mut Lowering<'_>, place: usize, last: usize) -> usize {
+    let token = lowering.tree.expr(place).token;
+    let found = expression(lowering, place);
+    if found.kind == Kind::Void || found.kind == Kind::Urgency {
+        lowering.refuse(Rule::WrongType, token);
+    }
+    let kept = keep(lowering, found);
+    lowering.operand(kept, last)
+}
+
+// Prints the values of operands.
+fn print_values(lowering: &mut Lowering<'_>, first: usize) {
+    let mut place = first;
+    for _ in 0..lowering.code.operands.len() {
+        let Some(operand) = lowering.operand_at(place) else {
+            return;
+        };
+        let number = lowering.code.printed;
+        lowering.code.printed = number.saturating_add(1);
+        lowering.put(Instruction::Print(number, operand.value));
+        place = operand.next;
+    }
+}
+
+/// `precondition` and `assert`.
+pub(crate) fn require(lowering: &mut Lowering<'_>, first: usize, token: usize) {
+    let Some(argument) = lowering.tree.argument(first) else {
+        lowering.refuse(Rule::Arguments, token);
+        return;
+    };
+    let found = expression(lowering, argument.value);
+    want(lowering, found, Kind::Bool, token);
+    lowering.put(Instruction::Require(found.value));
+}

@@ -1,0 +1,361 @@
+//! Statements with blocks.
+
+use crate::assignment::{end_caught, give};
+use crate::catching::begin_caught;
+use crate::closure::{
+    ClosureBody, MadeClosure, begin_closure, direct, end_closure, give_lone, lone_value, want_end,
+};
+use crate::effect::simple;
+use crate::looping::{begin_count, test_of};
+use crate::returns::{exits, may_return, stmt_may_return};
+use crate::tasks::{
+    add_task, begin_bind, begin_child, begin_group, begin_result, begin_results, child_body,
+    end_child, enter_closure, give_result, make_task, result_of, task_body, want_cover,
+};
+use swift_expressions::{
+    DEPTH, Instruction, Kind, Lowering, NONE, Returns, Value, count_up, declare, expression,
+    is_acting, kind_of, leave,
+};
+use swift_syntax::{Rule, Stmt, StmtForm, ValueType};
+
+// A closure as the method of a task.
+#[cycle(statement)]
+fn closure(lowering: &mut Lowering<'_>, body: ClosureBody, depth: u32) -> MadeClosure {
+    if let Some(found) = direct(lowering, body) {
+        return found;
+    }
+    let begun = begin_closure(lowering, body);
+    if depth == 0 {
+        lowering.refuse(Rule::TooLarge, body.from);
+    } else if body.value == 0 {
+        statements(lowering, body.first, depth - 1);
+        want_end(lowering, body);
+    } else {
+        give_lone(lowering, body.value);
+    }
+    end_closure(lowering, begun, body)
+}
+
+// A block, in which names of its own stand.
+#[cycle(statement)]
+fn block(lowering: &mut Lowering<'_>, first: usize, depth: u32) {
+    if depth == 0 {
+        lowering.refuse(Rule::TooLarge, 0);
+        return;
+    }
+    let start = lowering.scope.len();
+    let outer = lowering.setting.block_start;
+    lowering.setting.block_start = start;
+    lowering.setting.blocks = lowering.setting.blocks.saturating_add(1);
+    statements(lowering, first, depth - 1);
+    lowering.setting.blocks = lowering.setting.blocks.saturating_sub(1);
+    lowering.setting.block_start = outer;
+    leave(lowering, start);
+}
+
+#[cycle(statement)]
+fn conditional(
+    lowering: &mut Lowering<'_>,
+    test: usize,
+    held: usize,
+    failed: usize,
+    token: usize,
+    depth: u32,
+) {
+    if depth == 0 {
+        lowering.refuse(Rule::TooLarge, token);
+        return;
+    }
+    let test = test_of(lowering, test, token);
+    lowering.put(Instruction::If(test));
+    block(lowering, held, depth - 1);
+    if failed != 0 {
+        lowering.put(Instruction::Else);
+        block(lowering, failed, depth - 1);
+    }
+    lowering.put(Instruction::End);
+}
+
+// A block in a loop.
+#[cycle(statement)]
+fn repeated(lowering: &mut Lowering<'_>, body: usize, depth: u32) {
+    if depth == 0 {
+        lowering.refuse(Rule::TooLarge, 0);
+        return;
+    }
+    if may_return(lowering, body) {
+        lowering.need_done();
+    }
+    let loops = lowering.setting.loops;
+    lowering.setting.loops = loops.saturating_add(1);
+    block(lowering, body, depth - 1);
+    lowering.setting.loops = loops;
+}
+
+// A `while`. A test that does something is done before the loop, and again at the end of its body.
+#[cycle(statement)]
+fn loop_while(lowering: &mut Lowering<'_>, test: usize, body: usize, token: usize, depth: u32) {
+    if depth == 0 {
+        lowering.refuse(Rule::TooLarge, token);
+        return;
+    }
+    let first = test_of(lowering, test, token);
+    if !is_acting(lowering, test) {
+        lowering.put(Instruction::While(first));
+        repeated(lowering, body, depth - 1);
+        lowering.put(Instruction::End);
+        return;
+    }
+    let variable = lowering.temporary();
+    lowering.put(Instruction::Let(variable, first));
+    let current = lowering.value(Value::Variable(variable));
+    lowering.put(Instruction::While(current));
+    repeated(lowering, body, depth - 1);
+    if may_return(lowering, body) {
+        lowering.put(Instruction::Rest);
+    }
+    let again = test_of(lowering, test, token);
+    lowering.put(Instruction::Set(variable, again));
+    if may_return(lowering, body) {
+        lowering.put(Instruction::End);
+    }
+    lowering.put(Instruction::End);
+}
+
+// A `for` over numbers.
+#[cycle(statement)]
+fn loop_for(lowering: &mut Lowering<'_>, counter: usize, body: usize, name: usize, depth: u32) {
+    if depth == 0 {
+        lowering.refuse(Rule::TooLarge, name);
+        return;
+    }
+    let start = lowering.scope.len();
+    if !lowering.spells(name, "_") {
+        lowering.name_variable(counter, name);
+        declare(lowering, name, counter, Kind::Int, false);
+    }
+    repeated(lowering, body, depth - 1);
+    count_up(lowering, counter);
+    lowering.put(Instruction::End);
+    leave(lowering, start);
+}
+
+// A group's or a binding's block, whose value goes to a variable. The type of that.
+#[cycle(statement)]
+fn closure_block(
+    lowering: &mut Lowering<'_>,
+    first: usize,
+    variable: usize,
+    depth: u32,
+) -> Option<Kind> {
+    if depth == 0 {
+        lowering.refuse(Rule::TooLarge, 0);
+        return None;
+    }
+    let outer = lowering.setting;
+    enter_closure(lowering, variable);
+    let lone = lone_value(lowering, first);
+    if lone != 0 {
+        let found = expression(lowering, lone);
+        give_result(lowering, found);
+    } else {
+        block(lowering, first, depth - 1);
+    }
+    let kind = lowering.setting.result;
+    let has_thrown = lowering.setting.has_thrown;
+    lowering.setting = outer;
+    lowering.setting.has_thrown = has_thrown;
+    kind
+}
+
+// A statement with a block that is none of its own unit's.
+#[cycle(statement)]
+fn closed(lowering: &mut Lowering<'_>, stmt: Stmt, depth: u32) {
+    if depth == 0 {
+        lowering.refuse(Rule::TooLarge, stmt.token);
+        return;
+    }
+    let start = lowering.scope.len();
+    let (into, variable, kind) = match stmt.form {
+        StmtForm::Group(into, found, is_throwing, body) => {
+            want_cover(lowering, stmt, is_throwing);
+            let variable = begin_result(lowering, into);
+            begin_group(lowering, stmt, kind_of(found), is_throwing);
+            let kind = closure_block(lowering, body, variable, depth - 1);
+            (into, variable, kind)
+        }
+        StmtForm::Bind(into, of, given, body) => {
+            let variable = begin_result(lowering, into);
+            begin_bind(lowering, of, stmt.token, given);
+            let kind = closure_block(lowering, body, variable, depth - 1);
+            (into, variable, kind)
+        }
+        _ => return,
+    };
+    lowering.put(Instruction::End);
+    leave(lowering, start);
+    if let Some(found) = result_of(lowering, variable, kind, stmt.token) {
+        give(lowering, into, found, stmt);
+    }
+}
+
+// A `guard`.
+#[cycle(statement)]
+fn guarded(lowering: &mut Lowering<'_>, test: usize, body: usize, token: usize, depth: u32) {
+    if depth == 0 {
+        lowering.refuse(Rule::TooLarge, token);
+        return;
+    }
+    if !exits(lowering, body) {
+        lowering.refuse(Rule::NoReturn, token);
+    }
+    let held = test_of(lowering, test, token);
+    let failed = lowering.value(Value::Not(held));
+    lowering.put(Instruction::If(failed));
+    block(lowering, body, depth - 1);
+    lowering.put(Instruction::End);
+}
+
+// A loop over the results of a group.
+#[cycle(statement)]
+fn loop_results(
+    lowering: &mut Lowering<'_>,
+    name: usize,
+    group: usize,
+    is_tried: bool,
+    body: usize,
+    depth: u32,
+) {
+    if depth == 0 {
+        lowering.refuse(Rule::TooLarge, name);
+        return;
+    }
+    let start = lowering.scope.len();
+    begin_results(lowering, name, group, is_tried);
+    repeated(lowering, body, depth - 1);
+    lowering.put(Instruction::End);
+    leave(lowering, start);
+}
+
+// A task, or a child of a group.
+#[cycle(statement)]
+fn tasked(lowering: &mut Lowering<'_>, stmt: Stmt, depth: u32) {
+    if depth == 0 {
+        lowering.refuse(Rule::TooLarge, stmt.token);
+        return;
+    }
+    match stmt.form {
+        StmtForm::Task(name, form) => {
+            let body = task_body(lowering, stmt, form, false);
+            let made = closure(lowering, body, depth - 1);
+            make_task(lowering, stmt, name, form, made);
+        }
+        StmtForm::AddTask(is_only, form) => {
+            let body = task_body(lowering, stmt, form, true);
+            let made = closure(lowering, body, depth - 1);
+            add_task(lowering, stmt, is_only, form, made);
+        }
+        _ => {}
+    }
+}
+
+// A statement that is no `async let`.
+#[cycle(statement)]
+fn statement(lowering: &mut Lowering<'_>, stmt: Stmt, depth: u32) {
+    if depth == 0 {
+        lowering.refuse(Rule::TooLarge, stmt.token);
+        return;
+    }
+    let token = stmt.token;
+    match stmt.form {
+        StmtForm::If(test, held, failed) => {
+            conditional(lowering, test, held, failed, token, depth - 1);
+        }
+        StmtForm::Guard(test, body) => guarded(lowering, test, body, token, depth - 1),
+        StmtForm::While(test, body) => loop_while(lowering, test, body, token, depth - 1),
+        StmtForm::For(from, to, is_closed, body) => {
+            let counter = begin_count(lowering, from, to, is_closed, token);
+            loop_for(lowering, counter, body, token, depth - 1);
+        }
+        StmtForm::ForAwait(group, is_tried, body) | StmtForm::WhileNext(group, is_tried, body) => {
+            loop_results(lowering, token, group, is_tried, body, depth - 1);
+        }
+        StmtForm::Task(..) | StmtForm::AddTask(..) => tasked(lowering, stmt, depth - 1),
+        StmtForm::Group(..) | StmtForm::Bind(..) => closed(lowering, stmt, depth - 1),
+        StmtForm::DoCatch(body, caught) => {
+            let held = begin_caught(lowering, body, token);
+            block(lowering, caught, depth - 1);
+            end_caught(lowering, held);
+        }
+        _ => simple(lowering, stmt),
+    }
+}
+
+// The child of an `async let`, in whose group the rest of its block stands. Its variable.
+#[cycle(statement)]
+fn child(
+    lowering: &mut Lowering<'_>,
+    stmt: Stmt,
+    wanted: Option<ValueType>,
+    given: usize,
+    depth: u32,
+) -> usize {
+    if depth == 0 {
+        lowering.refuse(Rule::TooLarge, stmt.token);
+        return NONE;
+    }
+    if !lowering.setting.is_async {
+        lowering.refuse(Rule::Await, stmt.token);
+    }
+    let made = closure(lowering, child_body(stmt, given), depth - 1);
+    if let Some(wanted) = wanted {
+        if made.kind != kind_of(wanted) {
+            lowering.refuse(Rule::WrongType, stmt.token);
+        }
+    }
+    begin_child(lowering, stmt, made)
+}
+
+// The statements of a block from a place on. What follows an `async let` stands in its group, and what follows something that may return
+// is done where it did not.
+#[cycle(statement)]
+fn statements(lowering: &mut Lowering<'_>, first: usize, depth: u32) {
+    if depth == 0 {
+        lowering.refuse(Rule::TooLarge, 0);
+        return;
+    }
+    let mut place = first;
+    for _ in 0..lowering.tree.stmts.len() {
+        let Some(stmt) = lowering.tree.stmt(place) else {
+            return;
+        };
+        place = stmt.next;
+        if let StmtForm::AsyncLet(wanted, given) = stmt.form {
+            let variable = child(lowering, stmt, wanted, given, depth - 1);
+            statements(lowering, place, depth - 1);
+            end_child(lowering, variable);
+            return;
+        }
+        statement(lowering, stmt, depth - 1);
+        if place != 0 && returns_early(lowering, stmt) {
+            lowering.need_done();
+            lowering.put(Instruction::Rest);
+            statements(lowering, place, depth - 1);
+            lowering.put(Instruction::End);
+            return;
+        }
+    }
+}
+
+// Whether a statement may return out of the unit.
+fn returns_early(lowering: &Lowering<'_>, stmt: Stmt) -> bool {
+    match lowering.setting.returns {
+        Returns::Unit => stmt_may_return(lowering, stmt),
+        Returns::Closure(..) => false,
+    }
+}
+
+/// The statements of a body.
+pub(crate) fn body_statements(lowering: &mut Lowering<'_>, first: usize) {
+    statements(lowering, first, DEPTH);
+}

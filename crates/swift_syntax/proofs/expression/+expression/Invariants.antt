@@ -1,0 +1,25 @@
+use Rattle.swift_syntax.proofs.expression.+expression.Given as goal
+
+abbrev pub decreases-operands : goal.decreases-operands
+decreases-operands l = l.depth
+
+abbrev pub decreases-prefixed : goal.decreases-prefixed
+decreases-prefixed l = l.depth
+
+abbrev pub decreases-called : goal.decreases-called
+decreases-called l = l.depth
+
+abbrev pub decreases-named : goal.decreases-named
+decreases-named l = l.depth
+
+abbrev pub decreases-atom : goal.decreases-atom
+decreases-atom l = l.depth
+
+abbrev pub decreases-arguments : goal.decreases-arguments
+decreases-arguments l = l.depth
+
+abbrev pub decreases-covered : goal.decreases-covered
+decreases-covered l = l.depth
+
+abbrev pub decreases-choice : goal.decreases-choice
+decreases-choice l = l.depth

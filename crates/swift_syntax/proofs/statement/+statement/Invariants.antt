@@ -1,0 +1,25 @@
+use Rattle.swift_syntax.proofs.statement.+statement.Given as goal
+
+abbrev pub decreases-valued : goal.decreases-valued
+decreases-valued l = l.blocks
+
+abbrev pub decreases-conditional : goal.decreases-conditional
+decreases-conditional l = l.blocks
+
+abbrev pub decreases-tested : goal.decreases-tested
+decreases-tested l = l.blocks
+
+abbrev pub decreases-for_in : goal.decreases-for_in
+decreases-for_in l = l.blocks
+
+abbrev pub decreases-do_catch : goal.decreases-do_catch
+decreases-do_catch l = l.blocks
+
+abbrev pub decreases-statement : goal.decreases-statement
+decreases-statement l = l.blocks
+
+abbrev pub decreases-statements : goal.decreases-statements
+decreases-statements l = l.blocks
+
+abbrev pub decreases-block : goal.decreases-block
+decreases-block l = l.blocks

@@ -1,0 +1,2 @@
+-- Where tokens and refusals lie in a text.
+pub mod Places

@@ -1,0 +1,364 @@
+//! Actors, with their fields, invariants and methods.
+
+use crate::expression::expression;
+use crate::reader::Reader;
+use crate::rule::Rule;
+use crate::sign::Sign;
+use crate::statement::body;
+use crate::token::TokenKind;
+use crate::tree::{
+    Access, ActorDecl, ExprForm, FieldDecl, FieldStart, Into, InvariantDecl, MethodDecl, ParamDecl,
+    StmtForm, ValueType,
+};
+use crate::word::Word;
+
+/// A literal: a number, perhaps below 0, `true` or `false`. Its place.
+pub(crate) fn literal(reader: &mut Reader<'_>) -> usize {
+    let place = reader.at;
+    let found = expression(reader);
+    if !is_literal(reader, found) {
+        reader.refuse(Rule::Outside, place);
+    }
+    found
+}
+
+fn is_literal(reader: &Reader<'_>, place: usize) -> bool {
+    match reader.tree.expr(place).form {
+        ExprForm::Number(_) | ExprForm::Truth(_) => true,
+        ExprForm::Negate(inner) => matches!(reader.tree.expr(inner).form, ExprForm::Number(_)),
+        _ => false,
+    }
+}
+
+// Takes the words that say who may use a member, and who may set it.
+fn access(reader: &mut Reader<'_>) -> Access {
+    if reader.takes_key(Word::Private) {
+        return private_access(reader);
+    }
+    if reader.takes_key(Word::Public) {
+        if reader.takes_key(Word::Private) {
+            return private_access(reader);
+        }
+        return Access::Open;
+    }
+    let _ = reader.takes_key(Word::Fileprivate) || reader.takes_key(Word::Internal);
+    Access::Open
+}
+
+// `(set)` behind `private`, if it is there.
+fn private_access(reader: &mut Reader<'_>) -> Access {
+    if reader.takes(Sign::Open) {
+        reader.word("set");
+        reader.sign(Sign::Close);
+        Access::Open
+    } else {
+        Access::Private
+    }
+}
+
+// Parameters behind their parenthesis, which are taken up to the one that closes them.
+fn params(reader: &mut Reader<'_>) {
+    if reader.takes(Sign::Close) {
+        return;
+    }
+    for _ in 0..reader.tokens.len() {
+        param(reader);
+        if !reader.takes(Sign::Comma) {
+            break;
+        }
+    }
+    reader.sign(Sign::Close);
+}
+
+fn param(reader: &mut Reader<'_>) {
+    let is_open = reader.is_word("_");
+    let first = reader.name();
+    let name = match reader.here().kind {
+        TokenKind::Name => reader.take(),
+        _ => first,
+    };
+    let label = if is_open { 0 } else { first };
+    reader.sign(Sign::Colon);
+    let value_type = reader.value_type();
+    let grown = reader
+        .tree
+        .params
+        .push(ParamDecl {
+            label,
+            name,
+            value_type,
+        })
+        .is_ok();
+    reader.note(grown);
+}
+
+// A field, from its `var` or `let` on.
+fn field(reader: &mut Reader<'_>, actor: usize, access: Access) {
+    let is_var = reader.is_key(Word::Var);
+    reader.take();
+    let name = reader.name();
+    let value_type = reader.annotation();
+    let start = if reader.takes(Sign::Assign) {
+        FieldStart::Value(literal(reader))
+    } else {
+        FieldStart::None
+    };
+    let grown = reader
+        .tree
+        .fields
+        .push(FieldDecl {
+            actor,
+            name,
+            is_var,
+            access,
+            value_type,
+            start,
+            given: 0,
+        })
+        .is_ok();
+    reader.note(grown);
+}
+
+// The place of the field of an actor with the name that a token spells.
+fn field_named(reader: &Reader<'_>, actor: usize, name: usize) -> Option<usize> {
+    let wanted = reader.token(name);
+    for (place, field) in reader.tree.fields.iter().enumerate() {
+        let token = reader.token(field.name);
+        let bytes = reader.text.get(token.from..token.to);
+        if field.actor == actor && bytes == reader.text.get(wanted.from..wanted.to) {
+            return Some(place);
+        }
+    }
+    None
+}
+
+// Gives a field of an actor its value in the actor's init.
+fn give(reader: &mut Reader<'_>, actor: usize, name: usize, value: usize) {
+    match field_named(reader, actor, name) {
+        Some(place) => {
+            if let Some(field) = reader.tree.fields.get_mut(place) {
+                field.given = value;
+            }
+        }
+        None => reader.refuse(Rule::UnknownName, name),
+    }
+}
+
+// One assignment of an init.
+fn init_step(reader: &mut Reader<'_>, actor: usize) {
+    if reader.takes_key(Word::Own) {
+        reader.sign(Sign::Dot);
+    }
+    let name = reader.name();
+    reader.sign(Sign::Assign);
+    let place = reader.at;
+    let value = expression(reader);
+    let is_name = matches!(reader.tree.expr(value).form, ExprForm::Name);
+    if !is_name && !is_literal(reader, value) {
+        reader.refuse(Rule::Outside, place);
+    }
+    give(reader, actor, name, value);
+    reader.separator();
+}
+
+// An init, from its keyword on.
+fn init(reader: &mut Reader<'_>, actor: usize) {
+    reader.take();
+    let first_param = reader.tree.params.len();
+    reader.sign(Sign::Open);
+    params(reader);
+    let params_end = reader.tree.params.len();
+    reader.sign(Sign::OpenBrace);
+    for _ in 0..reader.tokens.len() {
+        if reader.takes(Sign::CloseBrace) {
+            break;
+        }
+        if reader.takes(Sign::Semicolon) {
+            continue;
+        }
+        init_step(reader, actor);
+    }
+    if let Some(made) = reader.tree.actors.get_mut(actor) {
+        made.has_init = true;
+        made.first_param = first_param;
+        made.params_end = params_end;
+    }
+}
+
+// The executor of an actor, from `nonisolated` on.
+fn executor(reader: &mut Reader<'_>, actor: usize) {
+    reader.take();
+    reader.key(Word::Var);
+    reader.word("unownedExecutor");
+    reader.sign(Sign::Colon);
+    reader.word("UnownedSerialExecutor");
+    reader.sign(Sign::OpenBrace);
+    let name = reader.name();
+    reader.sign(Sign::Dot);
+    reader.word("asUnownedSerialExecutor");
+    reader.sign(Sign::Open);
+    reader.sign(Sign::Close);
+    reader.sign(Sign::CloseBrace);
+    if let Some(made) = reader.tree.actors.get_mut(actor) {
+        made.executor = name;
+    }
+}
+
+// What has to hold of an actor.
+fn invariant(reader: &mut Reader<'_>, actor: usize, test: usize) {
+    let grown = reader
+        .tree
+        .invariants
+        .push(InvariantDecl { actor, test })
+        .is_ok();
+    reader.note(grown);
+}
+
+// What a method is, of which a body of this one statement is all.
+fn lone_value(reader: &Reader<'_>, first: usize) -> usize {
+    match reader.tree.stmt(first) {
+        Some(stmt) => match stmt.form {
+            StmtForm::Value(Into::Nothing | Into::Return, value) => {
+                if stmt.next == 0 { value } else { 0 }
+            }
+            _ => 0,
+        },
+        None => 0,
+    }
+}
+
+// The head of a method, from its `func` on, without a body.
+fn method_head(reader: &mut Reader<'_>, actor: usize, access: Access) -> MethodDecl {
+    reader.take();
+    let name = reader.name();
+    let first_param = reader.tree.params.len();
+    reader.sign(Sign::Open);
+    params(reader);
+    let params_end = reader.tree.params.len();
+    let is_async = reader.takes_key(Word::Async);
+    let is_throwing = reader.takes_key(Word::Throws);
+    let result = if reader.takes(Sign::Arrow) {
+        reader.value_type()
+    } else {
+        ValueType::Void
+    };
+    MethodDecl {
+        actor,
+        name,
+        access,
+        is_async,
+        is_throwing,
+        result,
+        first_param,
+        params_end,
+        body: 0,
+        end: 0,
+    }
+}
+
+// A group or a binding that is a whole body is what is returned.
+fn return_lone(reader: &mut Reader<'_>, method: MethodDecl) {
+    if method.result == ValueType::Void {
+        return;
+    }
+    if let Some(stmt) = reader.tree.stmts.get_mut(method.body) {
+        if stmt.next != 0 {
+            return;
+        }
+        match stmt.form {
+            StmtForm::Group(Into::Nothing, found, is_throwing, body) => {
+                stmt.form = StmtForm::Group(Into::Return, found, is_throwing, body);
+            }
+            StmtForm::Bind(Into::Nothing, of, value, body) => {
+                stmt.form = StmtForm::Bind(Into::Return, of, value, body);
+            }
+            _ => {}
+        }
+    }
+}
+
+// A method, from its `func` on.
+fn method(reader: &mut Reader<'_>, actor: usize, access: Access) {
+    let mut made = method_head(reader, actor, access);
+    made.body = body(reader);
+    made.end = reader.at.saturating_sub(1);
+    return_lone(reader, made);
+    if reader.spells(made.name, "invariant") && made.first_param == made.params_end {
+        let test = lone_value(reader, made.body);
+        if test == 0 || made.is_async {
+            reader.refuse(Rule::NotYet, made.name);
+        }
+        invariant(reader, actor, test);
+    }
+    let grown = reader.tree.methods.push(made).is_ok();
+    reader.note(grown);
+}
+
+// A member, up to what separates it from the next one.
+fn member(reader: &mut Reader<'_>, actor: usize) {
+    match reader.here().kind {
+        TokenKind::Invariant => {
+            reader.take();
+            let test = expression(reader);
+            invariant(reader, actor, test);
+        }
+        TokenKind::Key(Word::Init) => init(reader, actor),
+        TokenKind::Key(Word::Nonisolated) => executor(reader, actor),
+        _ => {
+            let access = access(reader);
+            match reader.here().kind {
+                TokenKind::Key(Word::Var | Word::Let) => field(reader, actor, access),
+                TokenKind::Key(Word::Func) => method(reader, actor, access),
+                _ => reader.unexpected(),
+            }
+        }
+    }
+}
+
+/// An actor, from its keyword on.
+pub(crate) fn actor(reader: &mut Reader<'_>) {
+    reader.key(Word::Actor);
+    let name = reader.name();
+    let actor = reader.tree.actors.len();
+    let grown = reader
+        .tree
+        .actors
+        .push(ActorDecl {
+            name,
+            executor: 0,
+            has_init: false,
+            first_param: 0,
+            params_end: 0,
+        })
+        .is_ok();
+    reader.note(grown);
+    reader.sign(Sign::OpenBrace);
+    for _ in 0..reader.tokens.len() {
+        if reader.takes(Sign::CloseBrace) {
+            return;
+        }
+        if reader.takes(Sign::Semicolon) {
+            continue;
+        }
+        member(reader, actor);
+        reader.separator();
+    }
+    reader.sign(Sign::CloseBrace);
+}
+
+/// `main`, from `static` on, of the type of this name.
+pub(crate) fn main_method(reader: &mut Reader<'_>, name: usize) {
+    reader.key(Word::Static);
+    if !reader.is_key(Word::Func) {
+        reader.unexpected();
+    }
+    let mut made = method_head(reader, usize::MAX, Access::Open);
+    if !reader.spells(made.name, "main") || !made.is_async || made.is_throwing {
+        reader.refuse(Rule::Outside, made.name);
+    }
+    made.name = name;
+    made.body = body(reader);
+    made.end = reader.at.saturating_sub(1);
+    let grown = reader.tree.mains.push(made).is_ok();
+    reader.note(grown);
+}

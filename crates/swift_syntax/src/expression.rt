@@ -1,0 +1,374 @@
+//! Expressions.
+
+use crate::limits::DEPTH;
+use crate::reader::Reader;
+use crate::rule::Rule;
+use crate::sign::Sign;
+use crate::token::TokenKind;
+use crate::tree::{ExprForm, Receiver};
+use crate::word::Word;
+use swift_types::Operator;
+
+// An operator between two operands, and how tightly it binds.
+#[derive(Clone, Copy)]
+struct BinaryOperator {
+    // None for `??`.
+    operator: Option<Operator>,
+    level: u32,
+}
+
+const COMPARISON: u32 = 2;
+
+fn found(operator: Operator, level: u32) -> Option<BinaryOperator> {
+    Some(BinaryOperator {
+        operator: Some(operator),
+        level,
+    })
+}
+
+fn operator_of(sign: Sign) -> Option<BinaryOperator> {
+    match sign {
+        Sign::Or => found(Operator::Or, 0),
+        Sign::And => found(Operator::And, 1),
+        Sign::Equal => found(Operator::Equal, COMPARISON),
+        Sign::Unequal => found(Operator::Unequal, COMPARISON),
+        Sign::Less => found(Operator::Less, COMPARISON),
+        Sign::AtMost => found(Operator::AtMost, COMPARISON),
+        Sign::Greater => found(Operator::Greater, COMPARISON),
+        Sign::AtLeast => found(Operator::AtLeast, COMPARISON),
+        Sign::Coalesce => Some(BinaryOperator {
+            operator: None,
+            level: 3,
+        }),
+        Sign::Plus => found(Operator::Plus, 4),
+        Sign::Minus => found(Operator::Minus, 4),
+        Sign::Times => found(Operator::Times, 5),
+        _ => None,
+    }
+}
+
+// The operator at the front, if it binds at least so tightly.
+fn operator(reader: &Reader<'_>, loosest: u32) -> Option<BinaryOperator> {
+    let TokenKind::Sign(sign) = reader.here().kind else {
+        return None;
+    };
+    let Some(found) = operator_of(sign) else {
+        return None;
+    };
+    if found.level < loosest {
+        return None;
+    }
+    Some(found)
+}
+
+// Takes an operator, with as much white space as Swift wants. Its place.
+fn take_operator(reader: &mut Reader<'_>) -> usize {
+    let before = reader.here().after_space;
+    let behind = reader.ahead(1).after_space;
+    let begins_line = reader.here().begins_line;
+    let needs_space = reader.is_sign(Sign::Less) || reader.is_sign(Sign::Greater);
+    let place = reader.take();
+    if before != behind {
+        let rule = if begins_line {
+            Rule::NewStatement
+        } else {
+            Rule::Spaces
+        };
+        reader.refuse(rule, place);
+    } else if needs_space && !before {
+        reader.refuse(Rule::Spaces, place);
+    }
+    place
+}
+
+fn both(found: BinaryOperator, left: usize, right: usize) -> ExprForm {
+    match found.operator {
+        Some(operator) => ExprForm::Binary(operator, left, right),
+        None => ExprForm::Otherwise(left, right),
+    }
+}
+
+fn missing(reader: &mut Reader<'_>, rule: Rule) -> usize {
+    reader.refuse(rule, reader.at);
+    0
+}
+
+// Operands with operators between them that bind at least so tightly.
+#[cycle(expression)]
+fn operands(reader: &mut Reader<'_>, depth: u32, loosest: u32) -> usize {
+    if depth == 0 {
+        return missing(reader, Rule::TooLarge);
+    }
+    let mut left = prefixed(reader, depth - 1);
+    for _ in 0..reader.tokens.len() {
+        let Some(found) = operator(reader, loosest) else {
+            return left;
+        };
+        let place = take_operator(reader);
+        let right = operands(reader, depth - 1, found.level.saturating_add(1));
+        left = reader.expr(both(found, left, right), place);
+        refuse_chain(reader, found.level);
+    }
+    left
+}
+
+// Comparisons are not chained.
+fn refuse_chain(reader: &mut Reader<'_>, level: u32) {
+    if level != COMPARISON {
+        return;
+    }
+    if let Some(next) = operator(reader, COMPARISON) {
+        if next.level == COMPARISON {
+            reader.unexpected();
+        }
+    }
+}
+
+// Takes a prefix, which stands at its operand. Its place.
+fn take_prefix(reader: &mut Reader<'_>) -> usize {
+    let place = reader.take();
+    if reader.here().after_space {
+        reader.refuse(Rule::Spaces, place);
+    }
+    place
+}
+
+// An operand with at most one prefix.
+#[cycle(expression)]
+fn prefixed(reader: &mut Reader<'_>, depth: u32) -> usize {
+    if depth == 0 {
+        return missing(reader, Rule::TooLarge);
+    }
+    if reader.is_sign(Sign::Minus) {
+        let place = take_prefix(reader);
+        let operand = atom(reader, depth - 1);
+        return reader.expr(ExprForm::Negate(operand), place);
+    }
+    if reader.is_sign(Sign::Bang) {
+        let place = take_prefix(reader);
+        let operand = atom(reader, depth - 1);
+        return reader.expr(ExprForm::Not(operand), place);
+    }
+    atom(reader, depth - 1)
+}
+
+// Whether the next token opens arguments of what stands before it.
+fn opens_arguments(reader: &Reader<'_>) -> bool {
+    reader.is_sign(Sign::Open) && !reader.here().begins_line
+}
+
+// A call of what stands before its arguments, or that alone.
+#[cycle(expression)]
+fn called(
+    reader: &mut Reader<'_>,
+    depth: u32,
+    receiver: Receiver,
+    alone: ExprForm,
+    name: usize,
+) -> usize {
+    if depth == 0 {
+        return missing(reader, Rule::TooLarge);
+    }
+    if !opens_arguments(reader) {
+        return reader.expr(alone, name);
+    }
+    reader.sign(Sign::Open);
+    let first = arguments(reader, depth - 1);
+    reader.expr(ExprForm::Call(receiver, first), name)
+}
+
+// A name with what belongs to it.
+#[cycle(expression)]
+fn named(reader: &mut Reader<'_>, depth: u32) -> usize {
+    if depth == 0 {
+        return missing(reader, Rule::TooLarge);
+    }
+    let first = reader.take();
+    if reader.takes(Sign::Dot) {
+        let member = reader.name();
+        let receiver = Receiver::Named(first);
+        return called(reader, depth - 1, receiver, ExprForm::Member(first), member);
+    }
+    called(reader, depth - 1, Receiver::Nobody, ExprForm::Name, first)
+}
+
+// An expression of one token.
+fn take_as(reader: &mut Reader<'_>, form: ExprForm) -> usize {
+    let place = reader.take();
+    reader.expr(form, place)
+}
+
+// An operand without a prefix.
+#[cycle(expression)]
+fn atom(reader: &mut Reader<'_>, depth: u32) -> usize {
+    if depth == 0 {
+        return missing(reader, Rule::TooLarge);
+    }
+    match reader.here().kind {
+        TokenKind::Number(value) => take_as(reader, ExprForm::Number(value)),
+        TokenKind::Text => take_as(reader, ExprForm::Text),
+        TokenKind::Key(Word::True) => take_as(reader, ExprForm::Truth(true)),
+        TokenKind::Key(Word::False) => take_as(reader, ExprForm::Truth(false)),
+        TokenKind::Key(Word::Own) => {
+            reader.take();
+            reader.sign(Sign::Dot);
+            let member = reader.name();
+            let alone = ExprForm::OwnMember;
+            called(reader, depth - 1, Receiver::Own, alone, member)
+        }
+        TokenKind::Sign(Sign::Dot) => {
+            reader.take();
+            let name = reader.name();
+            called(reader, depth - 1, Receiver::Nobody, ExprForm::Case, name)
+        }
+        TokenKind::Sign(Sign::Open) => {
+            reader.take();
+            let inner = covered(reader, depth - 1);
+            reader.sign(Sign::Close);
+            inner
+        }
+        TokenKind::Name => named(reader, depth - 1),
+        _ => {
+            reader.unexpected();
+            0
+        }
+    }
+}
+
+// The label at the front, if there is one, or 0.
+fn label(reader: &mut Reader<'_>) -> usize {
+    match reader.here().kind {
+        TokenKind::Name | TokenKind::Key(_) => {
+            if reader.is_sign_ahead(1, Sign::Colon) {
+                let place = reader.take();
+                reader.take();
+                place
+            } else {
+                0
+            }
+        }
+        _ => 0,
+    }
+}
+
+// Arguments up to the parenthesis that closes them, which is taken too. The first one's place, or 0.
+#[cycle(expression)]
+fn arguments(reader: &mut Reader<'_>, depth: u32) -> usize {
+    if depth == 0 {
+        return missing(reader, Rule::TooLarge);
+    }
+    if reader.takes(Sign::Close) {
+        return 0;
+    }
+    let mut first = 0;
+    let mut last = 0;
+    for _ in 0..reader.tokens.len() {
+        let label = label(reader);
+        let value = covered(reader, depth - 1);
+        last = reader.argument(label, value, last);
+        if first == 0 {
+            first = last;
+        }
+        if !reader.takes(Sign::Comma) {
+            break;
+        }
+    }
+    reader.sign(Sign::Close);
+    first
+}
+
+// What a `try` at the front says.
+fn cover_of_try(reader: &mut Reader<'_>, inner: usize, place: usize, optional: bool) -> usize {
+    let form = if optional {
+        ExprForm::TryOptional(inner)
+    } else {
+        ExprForm::Try(inner)
+    };
+    reader.expr(form, place)
+}
+
+// Takes the `?` of a `try?`, if it is there.
+fn is_optional(reader: &mut Reader<'_>) -> bool {
+    if reader.is_sign(Sign::Question) && !reader.here().after_space {
+        reader.take();
+        return true;
+    }
+    false
+}
+
+// What `await` and `try` stand before.
+#[cycle(expression)]
+fn covered(reader: &mut Reader<'_>, depth: u32) -> usize {
+    if depth == 0 {
+        return missing(reader, Rule::TooLarge);
+    }
+    if reader.is_key(Word::Try) {
+        let place = reader.take();
+        let optional = is_optional(reader);
+        let inner = covered(reader, depth - 1);
+        return cover_of_try(reader, inner, place, optional);
+    }
+    if reader.is_key(Word::Await) {
+        let place = reader.take();
+        let inner = covered(reader, depth - 1);
+        return reader.expr(ExprForm::Await(inner), place);
+    }
+    choice(reader, depth - 1)
+}
+
+// Operands, perhaps with a choice.
+#[cycle(expression)]
+fn choice(reader: &mut Reader<'_>, depth: u32) -> usize {
+    if depth == 0 {
+        return missing(reader, Rule::TooLarge);
+    }
+    let test = operands(reader, depth - 1, 0);
+    if !reader.is_sign(Sign::Question) {
+        return test;
+    }
+    let place = take_choice(reader, Sign::Question);
+    let held = choice(reader, depth - 1);
+    take_choice(reader, Sign::Colon);
+    let failed = choice(reader, depth - 1);
+    reader.expr(ExprForm::Choice(test, held, failed), place)
+}
+
+// Takes the `?` or `:` of a choice, with white space on both sides. Its place.
+fn take_choice(reader: &mut Reader<'_>, sign: Sign) -> usize {
+    let place = reader.at;
+    let before = reader.here().after_space;
+    reader.sign(sign);
+    if !before || !reader.here().after_space {
+        reader.refuse(Rule::Spaces, place);
+    }
+    place
+}
+
+/// An expression, perhaps with `await` and `try`. Its place.
+pub(crate) fn expression(reader: &mut Reader<'_>) -> usize {
+    covered(reader, DEPTH)
+}
+
+/// What stands between `if`, `guard` or `while` and its block: expressions with commas between them. Its place.
+pub(crate) fn test(reader: &mut Reader<'_>) -> usize {
+    let mut left = expression(reader);
+    for _ in 0..reader.tokens.len() {
+        if !reader.is_sign(Sign::Comma) {
+            return left;
+        }
+        let place = reader.take();
+        let right = expression(reader);
+        left = reader.expr(ExprForm::Both(left, right), place);
+    }
+    left
+}
+
+/// The arguments behind a parenthesis that is taken. The first one's place, or 0.
+pub(crate) fn call_arguments(reader: &mut Reader<'_>) -> usize {
+    arguments(reader, DEPTH)
+}
+
+/// An operand of `..<` and `...`. Its place.
+pub(crate) fn bound(reader: &mut Reader<'_>) -> usize {
+    operands(reader, DEPTH, 4)
+}

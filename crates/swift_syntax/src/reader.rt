@@ -1,0 +1,301 @@
+//! A reader of tokens, which notes the first refusal.
+//!
+//! After a refusal it stands at the end of the tokens, where nothing fits, so that what still runs ends soon.
+
+use crate::rule::{Breach, Rule};
+use crate::sign::Sign;
+use crate::token::{Token, TokenKind};
+use crate::tree::{Argument, Expr, ExprForm, Stmt, StmtForm, Tree, ValueType};
+use crate::word::Word;
+use std::alloc::Global;
+
+/// The tokens of a text, how far they are read, and what was read.
+#[derive(Drop)]
+pub(crate) struct Reader<'a> {
+    /// The text.
+    pub text: &'a [u8],
+    /// Its tokens.
+    pub tokens: &'a [Token],
+    /// The place of the next token.
+    pub at: usize,
+    /// The first refusal.
+    pub refused: Option<Breach>,
+    /// What was read.
+    pub tree: Tree,
+}
+
+impl<'a> Reader<'a> {
+    /// A reader before the first token.
+    pub(crate) fn new(alloc: Global, text: &'a [u8], tokens: &'a [Token]) -> Reader<'a> {
+        Reader {
+            text,
+            tokens,
+            at: 0,
+            refused: None,
+            tree: Tree::new(alloc),
+        }
+    }
+
+    /// The token at a place; the end of the text where there is none.
+    pub(crate) fn token(&self, place: usize) -> Token {
+        match self.tokens.get(place) {
+            Some(token) => *token,
+            None => Token {
+                kind: TokenKind::End,
+                from: self.text.len(),
+                to: self.text.len(),
+                begins_line: true,
+                after_space: true,
+            },
+        }
+    }
+
+    /// The next token.
+    pub(crate) fn here(&self) -> Token {
+        self.token(self.at)
+    }
+
+    /// The token behind the next ones.
+    pub(crate) fn ahead(&self, many: usize) -> Token {
+        self.token(self.at.saturating_add(many))
+    }
+
+    /// Takes the next token. Its place.
+    pub(crate) fn take(&mut self) -> usize {
+        let place = self.at;
+        self.at = place.saturating_add(1);
+        place
+    }
+
+    /// Notes that a token breaks a rule, unless a refusal was noted before, and goes to the end.
+    pub(crate) fn refuse(&mut self, rule: Rule, place: usize) {
+        if self.refused.is_none() {
+            self.refused = Some(Breach { rule, token: place });
+        }
+        self.at = usize::MAX;
+    }
+
+    /// Notes whether a table has grown.
+    pub(crate) fn note(&mut self, is_grown: bool) {
+        if !is_grown {
+            self.refuse(Rule::Memory, 0);
+        }
+    }
+
+    /// Refuses the next token: by a rule of its own where it has one.
+    pub(crate) fn unexpected(&mut self) {
+        let rule = match self.here().kind {
+            TokenKind::Huge => Rule::OutOfRange,
+            TokenKind::Text | TokenKind::Interpolated => Rule::Strings,
+            TokenKind::Key(Word::Foreign | Word::Nonisolated) => Rule::Outside,
+            TokenKind::Sign(Sign::Foreign) => Rule::Operator,
+            TokenKind::Sign(Sign::At | Sign::OpenBracket) => Rule::Outside,
+            _ => Rule::Unexpected,
+        };
+        self.refuse(rule, self.at);
+    }
+
+    /// Whether the next token is this sign.
+    pub(crate) fn is_sign(&self, sign: Sign) -> bool {
+        match self.here().kind {
+            TokenKind::Sign(found) => found == sign,
+            _ => false,
+        }
+    }
+
+    /// Whether the token behind the next ones is this sign.
+    pub(crate) fn is_sign_ahead(&self, many: usize, sign: Sign) -> bool {
+        match self.ahead(many).kind {
+            TokenKind::Sign(found) => found == sign,
+            _ => false,
+        }
+    }
+
+    /// Whether the next token is this keyword.
+    pub(crate) fn is_key(&self, word: Word) -> bool {
+        match self.here().kind {
+            TokenKind::Key(found) => found == word,
+            _ => false,
+        }
+    }
+
+    /// Whether the token at a place is a name of these bytes.
+    pub(crate) fn spells(&self, place: usize, name: &str) -> bool {
+        let token = self.token(place);
+        match token.kind {
+            TokenKind::Name => match self.text.get(token.from..token.to) {
+                Some(bytes) => bytes == name.as_bytes(),
+                None => false,
+            },
+            _ => false,
+        }
+    }
+
+    /// Whether the next token is a name of these bytes.
+    pub(crate) fn is_word(&self, name: &str) -> bool {
+        self.spells(self.at, name)
+    }
+
+    /// Takes a sign, if it is the next token.
+    pub(crate) fn takes(&mut self, sign: Sign) -> bool {
+        let found = self.is_sign(sign);
+        if found {
+            self.at = self.at.saturating_add(1);
+        }
+        found
+    }
+
+    /// Takes a keyword, if it is the next token.
+    pub(crate) fn takes_key(&mut self, word: Word) -> bool {
+        let found = self.is_key(word);
+        if found {
+            self.at = self.at.saturating_add(1);
+        }
+        found
+    }
+
+    /// Takes a name of these bytes, if it is the next token.
+    pub(crate) fn takes_word(&mut self, name: &str) -> bool {
+        let found = self.is_word(name);
+        if found {
+            self.at = self.at.saturating_add(1);
+        }
+        found
+    }
+
+    /// Takes this sign.
+    pub(crate) fn sign(&mut self, sign: Sign) {
+        if !self.takes(sign) {
+            self.unexpected();
+        }
+    }
+
+    /// Takes this keyword.
+    pub(crate) fn key(&mut self, word: Word) {
+        if !self.takes_key(word) {
+            self.unexpected();
+        }
+    }
+
+    /// Takes a name of these bytes.
+    pub(crate) fn word(&mut self, name: &str) {
+        if !self.takes_word(name) {
+            self.unexpected();
+        }
+    }
+
+    /// Takes a name. Its place.
+    pub(crate) fn name(&mut self) -> usize {
+        match self.here().kind {
+            TokenKind::Name => self.take(),
+            _ => {
+                self.unexpected();
+                0
+            }
+        }
+    }
+
+    /// Takes a type.
+    pub(crate) fn value_type(&mut self) -> ValueType {
+        if self.takes_word("Int") {
+            return ValueType::Int;
+        }
+        if self.takes_word("Bool") {
+            return ValueType::Bool;
+        }
+        if self.takes_word("Void") {
+            return ValueType::Void;
+        }
+        if self.takes(Sign::Open) {
+            self.sign(Sign::Close);
+            return ValueType::Void;
+        }
+        match self.here().kind {
+            TokenKind::Name => self.refuse(Rule::Outside, self.at),
+            _ => self.unexpected(),
+        }
+        ValueType::Void
+    }
+
+    /// A type behind a colon, if there is one.
+    pub(crate) fn annotation(&mut self) -> Option<ValueType> {
+        if self.takes(Sign::Colon) {
+            Some(self.value_type())
+        } else {
+            None
+        }
+    }
+
+    /// Wants what separates statements and declarations: `;`, a new line, or the end of the block.
+    pub(crate) fn separator(&mut self) {
+        if self.takes(Sign::Semicolon) {
+            return;
+        }
+        let next = self.here();
+        if next.begins_line || self.is_sign(Sign::CloseBrace) {
+            return;
+        }
+        match next.kind {
+            TokenKind::Sign(_) | TokenKind::Stray | TokenKind::Text | TokenKind::Interpolated => {
+                self.unexpected();
+            }
+            _ => self.refuse(Rule::Separator, self.at),
+        }
+    }
+
+    /// Puts an expression into its table. Its place.
+    pub(crate) fn expr(&mut self, form: ExprForm, token: usize) -> usize {
+        let place = self.tree.exprs.len();
+        let grown = self.tree.exprs.push(Expr { form, token }).is_ok();
+        self.note(grown);
+        place
+    }
+
+    /// Puts an argument into its table, and after another one where there is one. Its place.
+    pub(crate) fn argument(&mut self, label: usize, value: usize, last: usize) -> usize {
+        let place = self.tree.arguments.len();
+        if last != 0 {
+            if let Some(before) = self.tree.arguments.get_mut(last) {
+                before.next = place;
+            }
+        }
+        let grown = self
+            .tree
+            .arguments
+            .push(Argument {
+                label,
+                value,
+                next: 0,
+            })
+            .is_ok();
+        self.note(grown);
+        place
+    }
+
+    /// Puts a statement that ends here into its table. Its place.
+    pub(crate) fn stmt(&mut self, form: StmtForm, token: usize) -> usize {
+        let place = self.tree.stmts.len();
+        let end = self.at;
+        let grown = self
+            .tree
+            .stmts
+            .push(Stmt {
+                form,
+                token,
+                end,
+                next: 0,
+                is_awaited: false,
+                is_tried: false,
+            })
+            .is_ok();
+        self.note(grown);
+        place
+    }
+
+    /// Puts a statement after another one of its block.
+    pub(crate) fn link(&mut self, last: usize, next: usize) {
+        if let Some(before) = self.tree.stmts.get_mut(last) {
+            before.next = next;
+        }
+    }
+}

@@ -1,0 +1,92 @@
+//! Whole files.
+
+ghost use Rattle.std.specs.Prelude.{◌≡◌, ◌<◌, All, IfOk, IfSome, length};
+ghost use Rattle.std.specs.Option.{option_map};
+ghost use Rattle.swift_syntax.specs.Places.{IsBlamedIn, IsTokenOf, IsTooLarge};
+
+use crate::declaration::declaration;
+use crate::list::tokens;
+use crate::reader::Reader;
+use crate::rule::{Breach, Refusal, Rule};
+use crate::sign::Sign;
+use crate::token::{Token, TokenKind};
+use crate::tree::{ExprForm, StmtForm, Tree};
+use std::alloc::{AllocError, Global};
+use swift_types::limits::BYTES;
+
+/// A file with its tokens and its tree.
+#[derive(Drop)]
+pub struct ReadFile {
+    /// Its tokens.
+    pub tokens: Vec<Token>,
+    /// Its tree; what was read of it, where it is refused.
+    pub tree: Tree,
+    /// The first rule that it breaks.
+    pub refused: Option<Refusal>,
+}
+
+// All declarations of a file.
+fn declarations(reader: &mut Reader<'_>) {
+    // The places 0 stand for none.
+    reader.expr(ExprForm::Missing, 0);
+    reader.argument(0, 0, 0);
+    reader.stmt(StmtForm::Return, 0);
+    for _ in 0..reader.tokens.len() {
+        if reader.takes(Sign::Semicolon) {
+            continue;
+        }
+        if let TokenKind::End = reader.here().kind {
+            return;
+        }
+        declaration(reader);
+        reader.separator();
+    }
+}
+
+/// Reads the tokens of a file and its tree, up to the first rule that it breaks. Names and types are not looked at. Linear in the text.
+///
+/// # Errors
+///
+/// `AllocError` where there is no memory for the tokens. Where there is none for the tree, the file is refused.
+pub fn read_file(alloc: Global, text: &[u8]) -> Result<ReadFile, AllocError>
+    ensures tokens { IfOk result (λ file. All (IsTokenOf text.now) file.tokens.items) }
+    ensures blamed { IfOk result (λ file. IfSome file.refused (IsBlamedIn text.now)) }
+    ensures large { IfOk result (λ file. BYTES < length text.now → IsTooLarge (option_map (λ r. r.rule) file.refused)) }
+{
+    let tokens = tokens(alloc, text)?;
+    let (tree, breach) = read_tokens(alloc, text, &tokens);
+    let refused = refusal_of(breach, text, &tokens);
+    Ok(ReadFile {
+        tokens,
+        tree,
+        refused,
+    })
+}
+
+// The refusal of a text with these tokens, if it breaks a rule.
+fn refusal_of(breach: Option<Breach>, text: &[u8], tokens: &[Token]) -> Option<Refusal>
+    requires { All (IsTokenOf text.now) tokens.now }
+    ensures blamed { IfSome result (IsBlamedIn text.now) }
+    ensures rule { option_map (λ r. r.rule) result ≡ option_map (λ b. b.rule) breach }
+{
+    match breach {
+        Some(breach) => Some(breach.refusal(text, tokens)),
+        None => None,
+    }
+}
+
+// The tree of these tokens, and the first rule that the text breaks.
+fn read_tokens(alloc: Global, text: &[u8], tokens: &[Token]) -> (Tree, Option<Breach>)
+    ensures large { BYTES < length text.now → IsTooLarge (option_map (λ b. b.rule) result.1) }
+{
+    if text.len() > BYTES {
+        let breach = Breach {
+            rule: Rule::TooLarge,
+            token: 0,
+        };
+        return (Tree::new(alloc), Some(breach));
+    }
+    let mut reader = Reader::new(alloc, text, tokens);
+    declarations(&mut reader);
+    (reader.tree, reader.refused)
+}

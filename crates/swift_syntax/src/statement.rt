@@ -1,0 +1,394 @@
+//! Statements.
+
+use crate::closure::{Closure, ClosureHead, HeadForm, closure_front, closure_stmt, head};
+use crate::expression::{bound, expression, test};
+use crate::limits::BLOCKS;
+use crate::reader::Reader;
+use crate::rule::Rule;
+use crate::sign::Sign;
+use crate::token::TokenKind;
+use crate::tree::{Assigning, Into, StmtForm};
+use crate::word::Word;
+
+// How the sign at a place assigns, if it does.
+fn assigning(reader: &Reader<'_>, place: usize) -> Option<Assigning> {
+    match reader.token(place).kind {
+        TokenKind::Sign(Sign::Assign) => Some(Assigning::Set),
+        TokenKind::Sign(Sign::AddAssign) => Some(Assigning::Add),
+        TokenKind::Sign(Sign::SubtractAssign) => Some(Assigning::Subtract),
+        TokenKind::Sign(Sign::MultiplyAssign) => Some(Assigning::Multiply),
+        _ => None,
+    }
+}
+
+// Wants the same white space on both sides of the next token.
+fn want_even(reader: &mut Reader<'_>) {
+    if reader.here().after_space != reader.ahead(1).after_space {
+        reader.refuse(Rule::Spaces, reader.at);
+    }
+}
+
+// Refuses what is returned or thrown on another line. Whether something is returned.
+fn goes_on(reader: &mut Reader<'_>) -> bool {
+    if reader.is_sign(Sign::CloseBrace) || reader.is_sign(Sign::Semicolon) {
+        return false;
+    }
+    if reader.here().begins_line {
+        reader.refuse(Rule::ReturnLine, reader.at);
+        return false;
+    }
+    true
+}
+
+fn throw_stmt(reader: &mut Reader<'_>) -> usize {
+    let token = reader.take();
+    if reader.here().begins_line {
+        reader.refuse(Rule::ReturnLine, reader.at);
+    }
+    let value = expression(reader);
+    reader.stmt(StmtForm::Throw(value), token)
+}
+
+fn async_let(reader: &mut Reader<'_>) -> usize {
+    reader.key(Word::Async);
+    reader.key(Word::Let);
+    let name = reader.name();
+    let found = reader.annotation();
+    want_even(reader);
+    reader.sign(Sign::Assign);
+    let value = expression(reader);
+    reader.stmt(StmtForm::AsyncLet(found, value), name)
+}
+
+// An assignment of a name, behind `self.` where the flag says so; or a toggle of it.
+fn changed(reader: &mut Reader<'_>, is_own: bool) -> Option<usize> {
+    let next = reader.at.saturating_add(1);
+    if let Some(how) = assigning(reader, next) {
+        let name = reader.name();
+        want_even(reader);
+        reader.take();
+        if begins_closure(reader) {
+            return None;
+        }
+        let value = expression(reader);
+        return Some(reader.stmt(StmtForm::Assign(how, is_own, value), name));
+    }
+    if reader.spells(next.saturating_add(1), "toggle") && reader.is_sign_ahead(1, Sign::Dot) {
+        let name = reader.name();
+        reader.sign(Sign::Dot);
+        reader.word("toggle");
+        reader.sign(Sign::Open);
+        reader.sign(Sign::Close);
+        return Some(reader.stmt(StmtForm::Toggle(is_own), name));
+    }
+    None
+}
+
+// Whether what is assigned has a closure: then nothing is taken of it.
+fn begins_closure(reader: &mut Reader<'_>) -> bool {
+    let at = reader.at;
+    let found = head(reader);
+    reader.at = if reader.refused.is_none() {
+        at
+    } else {
+        usize::MAX
+    };
+    !matches!(found.form, HeadForm::None)
+}
+
+// The head of a statement that begins with a name: where its value goes.
+fn into_of(reader: &mut Reader<'_>) -> Into {
+    if reader.is_word("_") && reader.is_sign_ahead(1, Sign::Assign) {
+        reader.take();
+        want_even(reader);
+        reader.take();
+        return Into::Nothing;
+    }
+    if reader.is_sign_ahead(1, Sign::Assign) {
+        let name = reader.name();
+        reader.take();
+        return Into::Assign(name);
+    }
+    Into::Nothing
+}
+
+// `let` or `var` up to its `=`.
+fn declared(reader: &mut Reader<'_>) -> Into {
+    let is_var = reader.is_key(Word::Var);
+    reader.take();
+    let name = reader.name();
+    let found = reader.annotation();
+    if !reader.is_sign(Sign::Assign) {
+        reader.refuse(Rule::NotYet, name);
+    }
+    want_even(reader);
+    reader.sign(Sign::Assign);
+    if is_var {
+        Into::Var(name, found)
+    } else {
+        Into::Let(name, found)
+    }
+}
+
+// The token that a value is told by.
+fn token_of(into: Into, token: usize) -> usize {
+    match into {
+        Into::Let(name, _) | Into::Var(name, _) | Into::Assign(name) => name,
+        Into::Nothing | Into::Return => token,
+    }
+}
+
+// A value, which may have a closure, and where it goes.
+#[cycle(statement)]
+fn valued(reader: &mut Reader<'_>, blocks: u32, into: Into, token: usize) -> usize {
+    if blocks == 0 {
+        return too_deep(reader);
+    }
+    let head = head(reader);
+    if let HeadForm::None = head.form {
+        let value = expression(reader);
+        return reader.stmt(StmtForm::Value(into, value), token_of(into, token));
+    }
+    let mut closure = closure_front(reader);
+    closure.body = statements(reader, blocks - 1);
+    finish(reader, head, into, closure, token)
+}
+
+fn finish(
+    reader: &mut Reader<'_>,
+    head: ClosureHead,
+    into: Into,
+    closure: Closure,
+    token: usize,
+) -> usize {
+    let (form, token) = closure_stmt(head, into, closure, token);
+    let place = reader.stmt(form, token);
+    if let Some(made) = reader.tree.stmts.get_mut(place) {
+        made.is_awaited = head.is_awaited;
+        made.is_tried = head.is_tried;
+    }
+    place
+}
+
+fn too_deep(reader: &mut Reader<'_>) -> usize {
+    reader.refuse(Rule::TooLarge, reader.at);
+    0
+}
+
+// An `if` with what may follow its `else`.
+#[cycle(statement)]
+fn conditional(reader: &mut Reader<'_>, blocks: u32) -> usize {
+    if blocks == 0 {
+        return too_deep(reader);
+    }
+    let token = reader.take();
+    let test = test(reader);
+    let held = block(reader, blocks - 1);
+    let mut failed = 0;
+    if reader.takes_key(Word::Else) {
+        failed = if reader.is_key(Word::If) {
+            conditional(reader, blocks - 1)
+        } else {
+            block(reader, blocks - 1)
+        };
+    }
+    reader.stmt(StmtForm::If(test, held, failed), token)
+}
+
+// `while let NAME = await GROUP.next()`, behind its `while`. The tokens of the name and of the group, and whether it has `try`.
+fn next_of(reader: &mut Reader<'_>) -> (usize, usize, bool) {
+    reader.key(Word::Let);
+    let name = reader.name();
+    reader.sign(Sign::Assign);
+    let is_tried = reader.takes_key(Word::Try);
+    reader.key(Word::Await);
+    let group = reader.name();
+    reader.sign(Sign::Dot);
+    reader.word("next");
+    reader.sign(Sign::Open);
+    reader.sign(Sign::Close);
+    (name, group, is_tried)
+}
+
+// A `guard` or a `while`.
+#[cycle(statement)]
+fn tested(reader: &mut Reader<'_>, blocks: u32) -> usize {
+    if blocks == 0 {
+        return too_deep(reader);
+    }
+    let is_guard = reader.is_key(Word::Guard);
+    let token = reader.take();
+    if !is_guard && reader.is_key(Word::Let) {
+        let (name, group, is_tried) = next_of(reader);
+        let body = block(reader, blocks - 1);
+        return reader.stmt(StmtForm::WhileNext(group, is_tried, body), name);
+    }
+    let test = test(reader);
+    if is_guard {
+        reader.key(Word::Else);
+    }
+    let body = block(reader, blocks - 1);
+    let form = if is_guard {
+        StmtForm::Guard(test, body)
+    } else {
+        StmtForm::While(test, body)
+    };
+    reader.stmt(form, token)
+}
+
+// Takes `..<` or `...`. Whether the end is taken too.
+fn range(reader: &mut Reader<'_>) -> bool {
+    want_even(reader);
+    if reader.takes(Sign::Through) {
+        return true;
+    }
+    reader.sign(Sign::Below);
+    false
+}
+
+// A `for`.
+#[cycle(statement)]
+fn for_in(reader: &mut Reader<'_>, blocks: u32) -> usize {
+    if blocks == 0 {
+        return too_deep(reader);
+    }
+    reader.take();
+    let is_tried = reader.takes_key(Word::Try);
+    let is_awaited = reader.takes_key(Word::Await);
+    let name = reader.name();
+    reader.key(Word::In);
+    if is_awaited {
+        let group = reader.name();
+        let body = block(reader, blocks - 1);
+        return reader.stmt(StmtForm::ForAwait(group, is_tried, body), name);
+    }
+    let from = bound(reader);
+    let is_closed = range(reader);
+    let to = bound(reader);
+    let body = block(reader, blocks - 1);
+    reader.stmt(StmtForm::For(from, to, is_closed, body), name)
+}
+
+// A `do` with its `catch`.
+#[cycle(statement)]
+fn do_catch(reader: &mut Reader<'_>, blocks: u32) -> usize {
+    if blocks == 0 {
+        return too_deep(reader);
+    }
+    let token = reader.take();
+    let body = block(reader, blocks - 1);
+    reader.key(Word::Catch);
+    if !reader.is_sign(Sign::OpenBrace) {
+        reader.refuse(Rule::CatchPattern, reader.at);
+    }
+    let caught = block(reader, blocks - 1);
+    reader.stmt(StmtForm::DoCatch(body, caught), token)
+}
+
+// A statement. Its place.
+#[cycle(statement)]
+fn statement(reader: &mut Reader<'_>, blocks: u32) -> usize {
+    if blocks == 0 {
+        return too_deep(reader);
+    }
+    let token = reader.at;
+    match reader.here().kind {
+        TokenKind::Key(Word::Let | Word::Var) => {
+            let into = declared(reader);
+            valued(reader, blocks - 1, into, token)
+        }
+        TokenKind::Key(Word::If) => conditional(reader, blocks - 1),
+        TokenKind::Key(Word::Guard | Word::While) => tested(reader, blocks - 1),
+        TokenKind::Key(Word::For) => for_in(reader, blocks - 1),
+        TokenKind::Key(Word::Do) => do_catch(reader, blocks - 1),
+        TokenKind::Key(Word::Async) => async_let(reader),
+        TokenKind::Key(Word::Throw) => throw_stmt(reader),
+        TokenKind::Key(Word::Return) => {
+            reader.take();
+            if goes_on(reader) {
+                valued(reader, blocks - 1, Into::Return, token)
+            } else {
+                reader.stmt(StmtForm::Return, token)
+            }
+        }
+        _ => match simple(reader) {
+            Some(place) => place,
+            None => {
+                let into = into_of(reader);
+                valued(reader, blocks - 1, into, token)
+            }
+        },
+    }
+}
+
+// An assignment or a toggle of a field by `self`, or of a name, if one stands at the front.
+fn simple(reader: &mut Reader<'_>) -> Option<usize> {
+    let at = reader.at;
+    let is_own = reader.is_key(Word::Own) && reader.is_sign_ahead(1, Sign::Dot);
+    if is_own {
+        reader.at = at.saturating_add(2);
+    }
+    match changed_here(reader, is_own) {
+        Some(place) => Some(place),
+        None => {
+            reader.at = if reader.refused.is_none() {
+                at
+            } else {
+                usize::MAX
+            };
+            None
+        }
+    }
+}
+
+fn changed_here(reader: &mut Reader<'_>, is_own: bool) -> Option<usize> {
+    if reader.is_word("_") {
+        return None;
+    }
+    match reader.here().kind {
+        TokenKind::Name => changed(reader, is_own),
+        _ => None,
+    }
+}
+
+// The statements up to the closing brace, which is taken too. The first one's place, or 0.
+#[cycle(statement)]
+fn statements(reader: &mut Reader<'_>, blocks: u32) -> usize {
+    if blocks == 0 {
+        return too_deep(reader);
+    }
+    let mut first = 0;
+    let mut last = 0;
+    for _ in 0..reader.tokens.len() {
+        if reader.takes(Sign::Semicolon) {
+            continue;
+        }
+        if reader.takes(Sign::CloseBrace) {
+            return first;
+        }
+        let place = statement(reader, blocks - 1);
+        reader.separator();
+        if first == 0 {
+            first = place;
+        } else {
+            reader.link(last, place);
+        }
+        last = place;
+    }
+    reader.sign(Sign::CloseBrace);
+    first
+}
+
+#[cycle(statement)]
+fn block(reader: &mut Reader<'_>, blocks: u32) -> usize {
+    if blocks == 0 {
+        return too_deep(reader);
+    }
+    reader.sign(Sign::OpenBrace);
+    statements(reader, blocks - 1)
+}
+
+/// A block. The place of its first statement, or 0.
+pub(crate) fn body(reader: &mut Reader<'_>) -> usize {
+    block(reader, BLOCKS)
+}

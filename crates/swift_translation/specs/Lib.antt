@@ -1,0 +1,3 @@
+-- What becomes of a Swift file, and what is said of one that is refused.
+pub mod Refusals
+pub mod Translations

@@ -1,0 +1,353 @@
+//! Actors with their fields, invariants and methods.
+
+use crate::frame::write_body;
+use crate::naming::{
+    write_getter, write_instance, write_made, write_name, write_unit, write_variable,
+};
+use crate::value::write_value;
+use crate::writing::Writing;
+use swift_expressions::{Instruction, NONE, Unit, UnitKind};
+use swift_syntax::{Access, ExprForm, FieldDecl, FieldStart, MethodDecl, Rule, Tree};
+
+/// The number of a literal.
+pub(crate) fn literal(tree: &Tree, place: usize) -> Option<i64> {
+    match tree.expr(place).form {
+        ExprForm::Number(number) => Some(number),
+        ExprForm::Truth(truth) => Some(i64::from(truth)),
+        ExprForm::Negate(inner) => match tree.expr(inner).form {
+            ExprForm::Number(number) => number.checked_neg(),
+            _ => None,
+        },
+        _ => None,
+    }
+}
+
+// The argument of an instance for the parameter that a token names.
+fn argument(writing: &Writing<'_>, instance: usize, name: usize) -> Option<i64> {
+    let Some(declared) = writing.tree.instances.get(instance) else {
+        return None;
+    };
+    let Some(actor) = writing
+        .tree
+        .actors
+        .iter()
+        .find(|a| writing.are_same(a.name, declared.of))
+    else {
+        return None;
+    };
+    let mut place = declared.arguments;
+    for number in actor.first_param..actor.params_end {
+        let Some(given) = writing.tree.argument(place) else {
+            return None;
+        };
+        if let Some(param) = writing.tree.params.get(number) {
+            if writing.are_same(param.name, name) {
+                return literal(writing.tree, given.value);
+            }
+        }
+        place = given.next;
+    }
+    None
+}
+
+/// The start value of a field of an instance.
+pub(crate) fn start_value(writing: &mut Writing<'_>, instance: usize, field: FieldDecl) -> i64 {
+    let found = if field.given != 0 {
+        match writing.tree.expr(field.given).form {
+            ExprForm::Name => {
+                let name = writing.tree.expr(field.given).token;
+                argument(writing, instance, name)
+            }
+            _ => literal(writing.tree, field.given),
+        }
+    } else {
+        match field.start {
+            FieldStart::Value(value) => literal(writing.tree, value),
+            FieldStart::None => None,
+        }
+    };
+    match found {
+        Some(number) => number,
+        None => {
+            writing.refuse(Rule::Arguments, field.name);
+            0
+        }
+    }
+}
+
+// The place of the actor of an instance.
+fn actor_of(writing: &Writing<'_>, instance: usize) -> Option<usize> {
+    let Some(declared) = writing.tree.instances.get(instance) else {
+        return None;
+    };
+    let of = declared.of;
+    writing
+        .tree
+        .actors
+        .iter()
+        .position(|a| writing.are_same(a.name, of))
+}
+
+// The line on which a token begins.
+fn line_of(writing: &Writing<'_>, token: usize) -> usize {
+    let from = match writing.tokens.get(token) {
+        Some(found) => found.from,
+        None => writing.text.len(),
+    };
+    let feeds = writing
+        .text
+        .iter()
+        .take(from)
+        .filter(|b| **b == b'\n')
+        .count();
+    feeds.saturating_add(1)
+}
+
+// From which lines a unit is.
+fn write_lines(writing: &mut Writing<'_>, unit: Unit) {
+    let first = line_of(writing, unit.token);
+    let last = line_of(writing, unit.end);
+    let alloc = writing.alloc;
+    writing.say("\n    // lines ");
+    writing.out.place(alloc, first);
+    writing.say(" to ");
+    writing.out.place(alloc, last);
+}
+
+// The parameters of a unit, in parentheses.
+fn write_params(writing: &mut Writing<'_>, unit: usize) {
+    let mut is_first = true;
+    writing.say("(");
+    for place in 0..writing.code.variables.len() {
+        let is_param = match writing.variable_at(place) {
+            Some(variable) => variable.unit == unit && variable.is_param,
+            None => false,
+        };
+        if is_param {
+            if !is_first {
+                writing.say(", ");
+            }
+            write_variable(writing, place, 0);
+            is_first = false;
+        }
+    }
+    writing.say(") {");
+}
+
+// A unit as a method, whose name is written.
+fn write_rest(writing: &mut Writing<'_>, place: usize) {
+    write_params(writing, place);
+    write_body(writing, place);
+    writing.say("\n    }\n");
+}
+
+// A method of an actor.
+fn write_method(writing: &mut Writing<'_>, place: usize, method: MethodDecl) {
+    if let Some(unit) = writing.unit_at(place) {
+        write_lines(writing, unit);
+    }
+    writing.say("\n    func ");
+    write_name(writing, method.name);
+    write_rest(writing, place);
+}
+
+// A closure as a method.
+fn write_closure(writing: &mut Writing<'_>, place: usize, unit: Unit) {
+    write_lines(writing, unit);
+    writing.say("\n    func ");
+    write_unit(writing, place);
+    write_rest(writing, place);
+}
+
+// A field with its start value.
+fn write_field(writing: &mut Writing<'_>, instance: usize, field: FieldDecl) {
+    let number = start_value(writing, instance, field);
+    if !field.is_var {
+        return;
+    }
+    writing.say("\n    var ");
+    write_name(writing, field.name);
+    writing.say(" = ");
+    let alloc = writing.alloc;
+    writing.out.number(alloc, number);
+    writing.say(";");
+}
+
+// Whether a unit of an actor, or of the pool, has something that has to hold.
+fn has_requirement(writing: &Writing<'_>, actor: usize, wants_closure: bool) -> bool {
+    writing.code.units.iter().any(|u| {
+        let is_closure = matches!(u.kind, UnitKind::Closure);
+        let fits = is_closure == wants_closure && (is_closure || u.actor == actor);
+        fits && has_require(writing, *u)
+    })
+}
+
+// Whether an instruction of a unit says what has to hold. Those of closures in it count too.
+fn has_require(writing: &Writing<'_>, unit: Unit) -> bool {
+    writing
+        .code
+        .instructions
+        .iter()
+        .take(unit.to)
+        .skip(unit.from)
+        .any(|i| matches!(i, Instruction::Require(_)))
+}
+
+// What has to hold of an actor, with what was required in its methods.
+fn write_invariants(writing: &mut Writing<'_>, actor: usize, has_ok: bool) {
+    if has_ok {
+        writing.say("\n    var ok_ = 1;");
+    }
+    let mut is_first = true;
+    if has_ok {
+        writing.say("\n    invariant ok_");
+        is_first = false;
+    }
+    for place in 0..writing.tree.invariants.len() {
+        let Some(invariant) = writing.tree.invariants.get(place).copied() else {
+            break;
+        };
+        if invariant.actor != actor {
+            continue;
+        }
+        writing.say(if is_first { "\n    invariant " } else { " && " });
+        is_first = false;
+        if let Some(value) = writing.code.invariants.get(place).copied() {
+            write_value(writing, value, 0);
+        }
+    }
+    if !is_first {
+        writing.say(";");
+    }
+}
+
+// The method that reads a field.
+fn write_read(writing: &mut Writing<'_>, field: FieldDecl) {
+    writing.say("\n    func ");
+    write_getter(writing, field.name);
+    writing.say("() { return ");
+    write_name(writing, field.name);
+    writing.say("; }");
+}
+
+fn write_fields(writing: &mut Writing<'_>, instance: usize, actor: usize) {
+    for place in 0..writing.tree.fields.len() {
+        if let Some(field) = writing.tree.fields.get(place).copied() {
+            if field.actor == actor {
+                write_field(writing, instance, field);
+            }
+        }
+    }
+}
+
+fn write_reads(writing: &mut Writing<'_>, actor: usize) {
+    for place in 0..writing.tree.fields.len() {
+        if let Some(field) = writing.tree.fields.get(place).copied() {
+            if field.actor == actor && field.is_var && field.access == Access::Open {
+                write_read(writing, field);
+            }
+        }
+    }
+}
+
+fn write_methods(writing: &mut Writing<'_>, actor: usize) {
+    for place in 0..writing.tree.methods.len() {
+        if let Some(method) = writing.tree.methods.get(place).copied() {
+            if method.actor == actor {
+                write_method(writing, place, method);
+            }
+        }
+    }
+}
+
+// An instance, as an actor of its own.
+fn write_actor(writing: &mut Writing<'_>, instance: usize, actor: usize) {
+    writing.instance = instance;
+    writing.say("\nactor ");
+    write_instance(writing, instance);
+    let executor = writing.tree.actors.get(actor).map_or(0, |a| a.executor);
+    if executor != 0 {
+        writing.say(" on ");
+        write_name(writing, executor);
+    }
+    writing.say(" {");
+    write_fields(writing, instance, actor);
+    let has_ok = has_requirement(writing, actor, false);
+    write_invariants(writing, actor, has_ok);
+    write_methods(writing, actor);
+    write_reads(writing, actor);
+    writing.say("\n}\n");
+}
+
+/// The instances of actors, each as an actor of its own.
+pub(crate) fn write_actors(writing: &mut Writing<'_>) {
+    for instance in 0..writing.tree.instances.len() {
+        if let Some(actor) = actor_of(writing, instance) {
+            write_actor(writing, instance, actor);
+        }
+    }
+}
+
+// The closures of an actor's methods, for an instance of it; those of `main` for none.
+fn write_closures(writing: &mut Writing<'_>, actor: usize) {
+    for place in 0..writing.code.units.len() {
+        if let Some(unit) = writing.unit_at(place) {
+            if matches!(unit.kind, UnitKind::Closure) && unit.actor == actor {
+                write_closure(writing, place, unit);
+            }
+        }
+    }
+}
+
+/// The actor in which closures run.
+pub(crate) fn write_pool(writing: &mut Writing<'_>) {
+    let is_wanted = writing
+        .code
+        .units
+        .iter()
+        .any(|u| matches!(u.kind, UnitKind::Closure));
+    if !is_wanted {
+        return;
+    }
+    writing.say("\n// Closures run here.\nactor Pool_ {");
+    if has_requirement(writing, NONE, true) {
+        writing.say("\n    var ok_ = 1;\n    invariant ok_;");
+    }
+    for instance in 0..writing.tree.instances.len() {
+        if let Some(actor) = actor_of(writing, instance) {
+            writing.instance = instance;
+            write_closures(writing, actor);
+        }
+    }
+    writing.instance = NONE;
+    write_closures(writing, NONE);
+    writing.say("\n}\n");
+}
+
+/// `main`, as an actor with what it prints.
+pub(crate) fn write_main(writing: &mut Writing<'_>) {
+    let Some(main) = writing.tree.mains.first().copied() else {
+        return;
+    };
+    writing.instance = NONE;
+    writing.say("\nactor ");
+    write_name(writing, main.name);
+    writing.say(" {");
+    for place in 0..writing.code.printed {
+        writing.say("\n    var ");
+        write_made(writing, "p", place);
+        writing.say(" = 0;");
+    }
+    if has_requirement(writing, NONE, false) {
+        writing.say("\n    var ok_ = 1;\n    invariant ok_;");
+    }
+    let place = writing.tree.methods.len();
+    if let Some(unit) = writing.unit_at(place) {
+        write_lines(writing, unit);
+    }
+    writing.say("\n    func main");
+    write_rest(writing, place);
+    writing.say("}\nroot main = ");
+    write_name(writing, main.name);
+    writing.say(".main();\n");
+}

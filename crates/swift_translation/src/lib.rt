@@ -1,0 +1,28 @@
+//! A Swift file as a script: the text of a script with the same outcomes, from the instructions of `swift_lowering`.
+#![tactic(auto)]
+
+// Actors with their fields, invariants and methods.
+mod actor;
+// From the text of a file to that of a script.
+mod file;
+// Methods that are put in where they are called.
+mod frame;
+// The line of a text on which a place lies.
+mod line;
+// The names of a script.
+mod naming;
+// The text of a refusal.
+mod refused;
+// Instructions as statements.
+mod step;
+// Values as expressions.
+mod value;
+// Words that a script keeps.
+mod word;
+// A text that is written.
+mod writer;
+// A script that is written.
+mod writing;
+
+pub use file::{Translation, translate};
+pub use refused::refusal_text;

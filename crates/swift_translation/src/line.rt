@@ -1,0 +1,113 @@
+//! The line of a text on which a place lies.
+
+ghost use Rattle.std.specs.Prelude.{◌≡◌, ◌<◌, ◌≤◌, ◌+◌, ◌++◌, IfOk, IfSome, length, map, take};
+ghost use Rattle.std.specs.String.{string_bytes};
+ghost use Rattle.swift_translation.specs.Refusals.{after_feed, before_feed, feed_in, feeds, left_of, right_of, shown_byte, shown_line, skip_lines};
+
+use std::alloc::{AllocError, Global};
+
+/// The most bytes of a line that are shown.
+pub(crate) const SHOWN: usize = 200;
+
+/// The line of a text on which a place lies.
+#[derive(Clone, Copy)]
+pub(crate) struct Line<'a> {
+    /// Its number, from 1.
+    pub number: usize,
+    /// What stands on it to the left of the place.
+    pub left: &'a [u8],
+    /// What stands on it from the place on.
+    pub right: &'a [u8],
+}
+
+/// The line on which a place lies. A place behind the text stands for its end. Linear in the text.
+pub(crate) fn line_at(text: &[u8], place: usize) -> Line<'_>
+    ensures number { result.number ≡ feeds (take place text.now) + 1 }
+    ensures left { result.left.now ≡ left_of text.now place }
+    ensures right { result.right.now ≡ right_of text.now place }
+{
+    let (left, right) = text.split_at(place.min(text.len()));
+    let before = feeds(left);
+    Line {
+        number: before + 1,
+        left: from_line(left, before),
+        right: first_line(right),
+    }
+}
+
+// How many lines end in a text.
+fn feeds(text: &[u8]) -> usize
+    ensures feeds { result ≡ feeds text.now }
+    ensures within { result ≤ length text.now }
+{
+    text.iter().filter(|b| **b == b'\n').count()
+}
+
+// What stands after the first lines.
+fn from_line(text: &[u8], before: usize) -> &[u8]
+    ensures { result.now ≡ skip_lines before text.now }
+{
+    let mut rest = text;
+    for _ in 0..before {
+        rest = after_line(rest);
+    }
+    rest
+}
+
+// What stands before the first line feed.
+fn first_line(text: &[u8]) -> &[u8]
+    ensures { result.now ≡ before_feed (feed_in text.now) text.now }
+{
+    match line_feed(text) {
+        Some(place) => &text[..place],
+        None => text,
+    }
+}
+
+// What stands after the first line.
+fn after_line(text: &[u8]) -> &[u8]
+    ensures { result.now ≡ after_feed (feed_in text.now) text.now }
+{
+    match line_feed(text) {
+        Some(place) => &text[place + 1..],
+        None => &[],
+    }
+}
+
+// The place of the first line feed.
+fn line_feed(text: &[u8]) -> Option<usize>
+    ensures place { result ≡ feed_in text.now }
+    ensures within { IfSome result (λ place. place < length text.now) }
+{
+    text.iter().position(|byte| *byte == b'\n')
+}
+
+/// A line as it is shown: its first 200 bytes, each that is not printable ASCII as a space.
+///
+/// # Errors
+///
+/// `AllocError` where there is no memory for it.
+pub(crate) fn shown_line(alloc: Global, line: Line<'_>) -> Result<String, AllocError>
+    ensures { IfOk result (λ shown. string_bytes shown ≡ shown_line (line.entry.left.now ++ line.entry.right.now)) }
+{
+    let mut whole = Vec::new(alloc);
+    whole.extend_from_slice(line.left)?;
+    whole.extend_from_slice(line.right)?;
+    shown(alloc, &whole[..whole.len().min(SHOWN)])
+}
+
+fn shown(alloc: Global, line: &[u8]) -> Result<String, AllocError>
+    ensures { IfOk result (λ shown. string_bytes shown ≡ map shown_byte line.now) }
+{
+    let bytes: Vec<u8> = line.iter().map(|b| shown_byte(*b)).collect(alloc)?;
+    Ok(String::from_utf8(bytes).unwrap())
+}
+
+fn shown_byte(byte: u8) -> u8
+    ensures { result ≡ shown_byte byte }
+{
+    match byte {
+        b' '..=b'~' => byte,
+        _ => b' ',
+    }
+}

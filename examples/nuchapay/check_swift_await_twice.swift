@@ -1,0 +1,3 @@
+actor Meter { private(set) var read = 0; func next() -> Int { read += 1; return read } }
+let meter = Meter()
+@main struct Main { static func main() async { async let read = meter.next(); print(await read, await read) } }
