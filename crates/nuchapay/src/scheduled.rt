@@ -263,7 +263,7 @@ impl ScheduledRun {
 
     /// A turn, explained. Where none is named, the one of the last step that was given.
     pub fn why(&self, alloc: Global, word: Option<TurnWord<'_>>) -> Result<AskedTurn, AllocError>
-        ensures { (w : TurnWord) → word ≡ Some w → IfOk result (IsAsked w (arc_value self.now.script) self.now.report) }
+        ensures { (w : TurnWord) → word.entry ≡ Some w → IfOk result (IsAsked w (arc_value self.now.script) self.now.report) }
     {
         let word = match word {
             Some(word) => word,
