@@ -1,2 +1,3 @@
 mod OfRun
 mod Chosen
+mod Spelling

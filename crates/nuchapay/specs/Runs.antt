@@ -9,7 +9,7 @@ use Rattle.swift_report.specs.declared.report.Report.{Report}
 use Rattle.swift_workers.specs.Leaves.{AreEndings, AreReplayed}
 use Rattle.swift_tool.specs.Run.{HoldInvariants, IsRunOf, end_well}
 use Rattle.nuchapay_runs.specs.Notes.{IsAnnotated}
-use Rattle.nuchapay_runs.specs.Explains.{Explains}
+use Rattle.nuchapay_runs.specs.Explains.{Explains, Tells}
 use Rattle.nuchapay_runs.specs.TaskNames.{task_name}
 use Rattle.nuchapay_tool.specs.declared.turn_names.TurnName.{TurnName}
 use Rattle.nuchapay_tool.specs.declared.turn_names.TurnWord.{TurnWord}
@@ -51,7 +51,7 @@ abbrev pub IsTurnMeant : ScriptView → Report → TurnWord → TurnName → Typ
 IsTurnMeant script report (Numbered name) turn = name ≡ turn
 IsTurnMeant script report (Named name number) turn = (task_name script report.endings.items turn.task ≡ name.now) × (number ≡ turn.number)
 
--- What is said of the turn that a word means: it is that one, and stands where it is said to stand.
+-- What is said of the turn that a word means: it is that one, it stands where it is said to stand, and the text explains it.
 abbrev pub IsAsked : TurnWord → ScriptView → Report → AskedTurn → Type 0
-IsAsked word script report (Turn turn found) = IsTurnMeant script report word turn × Explains report turn.task turn.number found
+IsAsked word script report (Turn turn found) = IsTurnMeant script report word turn × Explains report turn.task turn.number found × Tells script report turn.task turn.number found
 IsAsked word script report NoTask = Unit {0}

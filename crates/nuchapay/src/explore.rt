@@ -48,7 +48,7 @@ pub(crate) fn search_all(
 
 /// What a search says (our own).
 #[derive(Drop)]
-pub struct Explored {
+pub struct SearchAnswer {
     /// What it says to what was expected.
     pub answer: Answer,
     /// That, and what it has found, as a text.
@@ -120,7 +120,7 @@ pub fn explored(
     words: &[&str],
     without_fault: bool,
     json: bool,
-) -> Result<Explored, ExploreFault>
+) -> Result<SearchAnswer, ExploreFault>
     ensures { IfOk result (λ x. IsExplored text.now limit (map (λ w. w.now) words.now) without_fault json x.answer x.text.items) }
 {
     let alloc = rt.alloc();
@@ -129,7 +129,7 @@ pub fn explored(
     let found = search_all(rt, &script, limit as usize)?;
     let answer = answered(alloc, &script, &asked, &found)?;
     let text = said_of(alloc, &script, &asked, &found, json)?;
-    Ok(Explored { answer, text })
+    Ok(SearchAnswer { answer, text })
 }
 
 /// The run of an outcome's schedule.

@@ -6,6 +6,7 @@ ghost use Rattle.swift_explorer.specs.FoundText.{schedule_text};
 ghost use Rattle.swift_report.specs.Text.{report_text};
 ghost use Rattle.swift_tool.specs.ReportJson.{report_json};
 ghost use Rattle.swift_tool.specs.Run.{end_well};
+ghost use Rattle.nuchapay_runs.specs.Noted.{noted_text};
 ghost use Rattle.nuchapay_runs.specs.Notes.{IsAnnotated};
 ghost use Rattle.nuchapay_tool.specs.declared.turn_names.TurnWord.{TurnWord};
 ghost use Rattle.nuchapay.specs.Runs.{IsAsked};
@@ -206,7 +207,7 @@ pub fn chosen_run(
     text: &[u8],
     choice: ScheduleChoice<'_>,
 ) -> Result<ChosenRun, ToolFault>
-    ensures { IfOk result (IsChosen text.now choice) }
+    ensures { IfOk result (IsChosen text.now choice.entry) }
 {
     let alloc = rt.alloc();
     let script = Arc::new(alloc, read(alloc, text)?)?;
@@ -254,14 +255,15 @@ impl ScheduledRun {
 
     /// Its report, with what each turn did to the fields.
     pub fn values(&self, alloc: Global) -> Result<Vec<u8>, AllocError>
-        ensures { IfOk result (λ said. IsAnnotated (report_text (arc_value self.now.script) self.now.report false) said.items) }
+        ensures said { IfOk result (λ said. said.items ≡ noted_text (arc_value self.now.script) self.now.report) }
+        ensures annotated { IfOk result (λ said. IsAnnotated (report_text (arc_value self.now.script) self.now.report false) said.items) }
     {
         report_with_values(alloc, &self.script, &self.report)
     }
 
     /// A turn, explained. Where none is named, the one of the last step that was given.
     pub fn why(&self, alloc: Global, word: Option<TurnWord<'_>>) -> Result<AskedTurn, AllocError>
-        ensures { (w : TurnWord) → word ≡ Some w → IfOk result (IsAsked w (arc_value self.now.script) self.now.report) }
+        ensures { (w : TurnWord) → word.entry ≡ Some w → IfOk result (IsAsked w (arc_value self.now.script) self.now.report) }
     {
         let word = match word {
             Some(word) => word,

@@ -1,6 +1,6 @@
 //! What is said of a search.
 
-use crate::explore::{ExploreFault, Explored, Rerun};
+use crate::explore::{ExploreFault, Rerun, SearchAnswer};
 use crate::output::{tell, write_out};
 use expectations::{Answer, Misread};
 use swift_report::write_all;
@@ -9,9 +9,9 @@ use swift_workers::RunFault;
 
 /// Writes what a search says. The status to end with: that of the answer, 2 or 3 for an expectation that is none, of the command line or
 /// of a comment, and 5 where no memory was left.
-pub fn say_explored(rt: &HostRuntime, found: Result<Explored, ExploreFault>) -> u8 {
+pub fn say_explored(rt: &HostRuntime, found: Result<SearchAnswer, ExploreFault>) -> u8 {
     match found {
-        Ok(Explored { answer, text }) => match write_all(&mut rt.stdout(), &text) {
+        Ok(SearchAnswer { answer, text }) => match write_all(&mut rt.stdout(), &text) {
             Ok(()) => answer.status(),
             Err(device) => tell(rt, Err(ToolFault::from(device))),
         },

@@ -81,7 +81,7 @@ fn turn_meant(
     report: &Report,
     word: TurnWord<'_>,
 ) -> Result<Option<TurnName>, AllocError>
-    ensures { IfOk result (λ o. IfSome o (IsTurnMeant script.now report.now word)) }
+    ensures { IfOk result (λ o. IfSome o (IsTurnMeant script.now report.now word.entry)) }
 {
     match word {
         TurnWord::Numbered(name) => Ok(Some(name)),
@@ -105,7 +105,7 @@ pub fn asked_turn(
     report: &Report,
     word: TurnWord<'_>,
 ) -> Result<AskedTurn, AllocError>
-    ensures { IfOk result (IsAsked word script.now report.now) }
+    ensures { IfOk result (IsAsked word.entry script.now report.now) }
 {
     match turn_meant(alloc, script, report, word)? {
         Some(name) => {
@@ -125,7 +125,7 @@ pub fn explained_turn<R>(
 ) -> Result<AskedTurn, ToolFault>
 where
     R: RandomSource + AllocGlobal + Threads + Wait + Sync,
-    ensures { IfOk result (λ found. IsOfRun text.now (λ script report. IsAsked word script report found)) }
+    ensures { IfOk result (λ found. IsOfRun text.now (λ script report. IsAsked word.entry script report found)) }
 {
     let (script, report) = run_text(rt, text, workers)?;
     let found = asked_turn(rt.alloc(), &script, &report, word)?;

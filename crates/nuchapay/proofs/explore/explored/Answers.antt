@@ -2,6 +2,7 @@ use Rattle.std.proofs.Common.{List, map, sym, subst, ◌∙◌, ap}
 use Rattle.std.specs.Arc.{arc_value}
 use Rattle.swift_script.specs.Accepted.{IsAccepted}
 use Rattle.swift_script.specs.Scripts.{ScriptView}
+use Rattle.expectations.specs.declared.expectation.Expectation.{Expectation}
 use Rattle.expectations.specs.Questions.{IsAsked}
 use Rattle.explorer_answers.specs.Answered.{answer_of}
 use Rattle.nuchapay.specs.Searches.{said_of}
@@ -19,7 +20,7 @@ returns c =
         of = record { accepted = subst (IsAccepted c.args.text.now) (sym c.in_ok-script.ensures.ok) c.in_ok-read.ensures.found; is = c.in_ok-found.ensures };
         asked = asked;
         is_asked = subst (λ (p : ScriptView). IsAsked p c.args.text.now (map (λ w. w.now) c.args.words.now) c.args.without_fault asked) c.deref.ensures c.in_ok-asked.ensures;
-        answered = c.in_ok-answer.ensures ∙ ap (λ (p : ScriptView). answer_of p asked found) c.deref-2.ensures;
+        answered = c.in_ok-answer.ensures ∙ ap (λ (p : ScriptView). answer_of p c.deref-3.result.now found) c.deref-2.ensures ∙ ap (λ (a : List Expectation). answer_of script a found) c.deref-3.ensures.value;
       };
-      printed = c.in_ok-text.ensures ∙ ap (λ (p : ScriptView). said_of c.args.json p asked found) c.deref-4.ensures;
+      printed = c.in_ok-text.ensures ∙ ap (λ (p : ScriptView). said_of c.args.json p c.deref-5.result.now found) c.deref-4.ensures ∙ ap (λ (a : List Expectation). said_of c.args.json script a found) c.deref-5.ensures.value;
     }

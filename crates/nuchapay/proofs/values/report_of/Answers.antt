@@ -15,5 +15,5 @@ returns g c =
     record {
       text = report_text (arc_value script) report false;
       is = run_of c.args.text.now (arc_value script) report false c.all_ended_well-is_well.result c.in_ok-script.ensures well;
-      noted = subst (λ (p : ScriptView). IsAnnotated (report_text p report false) c.in_ok-text.text.items) c.deref-2.ensures c.in_ok-text.ensures;
+      noted = subst (λ (p : ScriptView). IsAnnotated (report_text p report false) c.in_ok-text.text.items) c.deref-2.ensures c.in_ok-text.ensures.annotated;
     }

@@ -1,0 +1,11 @@
+use Rattle.std.proofs.Common.{sym, subst}
+use Rattle.std.specs.Arc.{arc_value}
+use Rattle.swift_script.specs.Accepted.{IsAccepted}
+use Rattle.nuchapay.proofs.scheduled.broken_line.Goals as goal
+
+pub returns : goal.returns
+returns c = record {
+  script = arc_value c.in_ok-script.script;
+  accepted = subst (IsAccepted c.args.text.now) (sym c.in_ok-script.ensures.ok) c.in_ok-read.ensures.found;
+  never = λ all. c.in_ok-found.ensures.unbroken all c.in-None.is;
+}
