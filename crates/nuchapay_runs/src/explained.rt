@@ -20,7 +20,7 @@ ghost use Rattle.nuchapay_runs.specs.Why.{head_text, meantime_text, own_place, p
 use crate::formula::NamesAt;
 use crate::line::write_turn;
 use crate::names::{Found, find_turn};
-use crate::printed::{method_text, method_word, parameters_of};
+use crate::printed::{method_text, method_word, variables_of};
 use crate::text::Text;
 use crate::why::{write_ends, write_fields, write_found, write_meanwhile};
 use crate::words::Words;
@@ -163,7 +163,7 @@ fn turn_text(
     let printed = Words::new(alloc, script.printed())?;
     let word = method_word(&printed, actor.0 as usize, script.method_name(method));
     let params = script.method_params(method) as usize;
-    let variables = parameters_of(alloc, &printed, word, params)?;
+    let variables = variables_of(alloc, &printed, word, params)?;
     let before = fields_before(alloc, script, start.fields(), journal, place)?;
     let values = turn_values(alloc, script, start.fields(), journal)?;
     let names = NamesAt {
