@@ -28,8 +28,8 @@ use crate::values::{AskedTurn, Said, explained_turn, report_of};
 use expectations::{Answer, Misread};
 use nuchapay_runs::Explained;
 use nuchapay_tool::{
-    Checked, Request, RunForm, ScheduleChoice, Source, Topic, TurnName, TurnWord, check, explain,
-    page_of, pretty, print, read_input, request, translate,
+    Checked, Request, RunForm, ScheduleChoice, Source, Topic, TurnName, TurnWord, check, check_json,
+    explain, page_of, pretty, print, read_input, request, translate,
 };
 use std::alloc::{AllocError, AllocGlobal};
 use std::fs::File;
@@ -105,6 +105,10 @@ where
         },
         Request::Check(source, colour) => match script(host, source) {
             Ok(text) => say_check(host, source, &text, colour),
+            Err(error) => unread(host, source, error),
+        },
+        Request::CheckJson(source) => match script(host, source) {
+            Ok(text) => say_checked(host, check_json(host.alloc(), name_of(source), &text)),
             Err(error) => unread(host, source, error),
         },
         Request::Print(source, is_pretty) => match script(host, source) {
@@ -202,6 +206,18 @@ fn say_check(rt: &HostRuntime, source: Source<'_>, text: &[u8], colour: bool) ->
         Ok(Checked::Refused(said)) => match write_all(&mut rt.stderr(), said.as_bytes()) {
             Ok(()) => 3,
             Err(_) => 4,
+        },
+        Err(fault) => tell(rt, Err(ToolFault::from(fault))),
+    }
+}
+
+// Says as JSON whether a text is a script, on standard output. The status to end with.
+fn say_checked(rt: &HostRuntime, checked: Result<Checked, AllocError>) -> u8 {
+    match checked {
+        Ok(Checked::Accepted(said)) => tell(rt, write_out(rt, said.as_bytes())),
+        Ok(Checked::Refused(said)) => match write_all(&mut rt.stdout(), said.as_bytes()) {
+            Ok(()) => 3,
+            Err(fault) => tell(rt, Err(ToolFault::from(fault))),
         },
         Err(fault) => tell(rt, Err(ToolFault::from(fault))),
     }

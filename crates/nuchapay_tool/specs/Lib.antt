@@ -1,3 +1,4 @@
+pub mod Advised
 pub mod Checks
 pub mod Colours
 pub mod InputInside

@@ -60,6 +60,8 @@ pub enum Request<'a> {
     Why(Source<'a>, TurnWord<'a>, u32),
     /// To say whether a text is a script, and why not; with colours where the last word says so.
     Check(Source<'a>, bool),
+    /// To say whether a text is a script, and why not, as JSON.
+    CheckJson(Source<'a>),
     /// To explain a refusal or a fault.
     Explain(Topic),
     /// To print the printed form of a script; laid out for people where the last word says so.

@@ -1,0 +1,114 @@
+//! Bytes outside ASCII.
+
+use crate::text::HintText;
+use std::alloc::{AllocError, Global};
+
+/// What helps where a byte stands that no script has (our own).
+#[derive(Drop)]
+pub struct StrayHint {
+    /// What stands there, and what to do.
+    pub help: Vec<u8>,
+    /// How many bytes are to be replaced, from that byte on.
+    pub width: usize,
+    /// What to write there; none where that is not known.
+    pub text: Option<&'static str>,
+}
+
+/// What helps at a byte that no script has, by the text from it on, and whether it stands in a comment.
+pub fn stray_hint(alloc: Global, rest: &[u8], in_comment: bool) -> Result<StrayHint, AllocError> {
+    let (code, width) = character(rest);
+    let mut help = HintText::new(alloc);
+    if width == 1 {
+        help.say("this byte is ");
+        say_hexadecimal(&mut help, code, 2);
+    } else {
+        help.say("these ");
+        help.say_count(width);
+        help.say(" bytes are the character U+");
+        say_hexadecimal(&mut help, code, if code > 0xFFFF { 6 } else { 4 });
+    }
+    if in_comment {
+        help.say(", in a comment");
+    }
+    help.say(": a script has only printable ASCII, tabs, LF and CR");
+    help.say(if in_comment { ", in comments too" } else { "" });
+    Ok(StrayHint {
+        help: help.finish()?,
+        width,
+        text: in_ascii(code),
+    })
+}
+
+// The character at the front, and how many bytes it has; a byte that begins none by itself.
+fn character(bytes: &[u8]) -> (u32, usize) {
+    match bytes {
+        [first @ 0xC2..=0xDF, second @ 0x80..=0xBF, ..] => {
+            (u32::from(*first & 0x1F) << 6 | six(*second), 2)
+        }
+        [
+            first @ 0xE0..=0xEF,
+            second @ 0x80..=0xBF,
+            third @ 0x80..=0xBF,
+            ..
+        ] => (
+            u32::from(*first & 0x0F) << 12 | six(*second) << 6 | six(*third),
+            3,
+        ),
+        [
+            first @ 0xF0..=0xF4,
+            second @ 0x80..=0xBF,
+            third @ 0x80..=0xBF,
+            fourth @ 0x80..=0xBF,
+            ..
+        ] => (
+            u32::from(*first & 0x07) << 18 | six(*second) << 12 | six(*third) << 6 | six(*fourth),
+            4,
+        ),
+        [first, ..] => (u32::from(*first), 1),
+        [] => (0, 1),
+    }
+}
+
+fn six(byte: u8) -> u32 {
+    u32::from(byte & 0x3F)
+}
+
+static DIGITS: [&str; 16] = [
+    "0", "1", "2", "3", "4", "5", "6", "7", "8", "9", "A", "B", "C", "D", "E", "F",
+];
+
+// The last so many digits of a number.
+fn say_hexadecimal(text: &mut HintText, number: u32, digits: u32) {
+    for place in (0..8u32).rev() {
+        if place < digits {
+            let digit = (number >> (4 * place)) & 0xF;
+            text.say(DIGITS[digit as usize]);
+        }
+    }
+}
+
+// What is written for a character in ASCII.
+fn in_ascii(code: u32) -> Option<&'static str> {
+    match code {
+        0xA0 | 0x202F | 0xFEFF => Some(" "),
+        0xC4 => Some("Ae"),
+        0xD6 => Some("Oe"),
+        0xDC => Some("Ue"),
+        0xE4 => Some("ae"),
+        0xF6 => Some("oe"),
+        0xFC => Some("ue"),
+        0xDF => Some("ss"),
+        0xE0..=0xE2 => Some("a"),
+        0xE7 => Some("c"),
+        0xE8..=0xEB => Some("e"),
+        0xF1 => Some("n"),
+        0x2013 | 0x2014 | 0x2212 => Some("-"),
+        0x2018 | 0x2019 => Some("'"),
+        0x201C | 0x201D => Some("\""),
+        0x2026 => Some(".."),
+        0x2264 => Some("<="),
+        0x2265 => Some(">="),
+        0x2260 => Some("!="),
+        _ => None,
+    }
+}
