@@ -4,7 +4,7 @@ use Rattle.std.specs.List.{concat}
 use Rattle.std.specs.String.{string_bytes}
 use Rattle.nuchapay_tool.specs.declared.location.span.Span.{Span}
 use Rattle.nuchapay_tool.specs.Location.Blames.{Blames}
-use Rattle.nuchapay_tool.specs.Advised.{IsOnToken}
+use Rattle.nuchapay_tool.specs.Advised.{IsHelp, IsOnToken, help_text}
 use Rattle.swift_script.specs.Accepted.{IsAccepted}
 use Rattle.swift_script.specs.FaultLines.{IsAtItsLine}
 use Rattle.swift_script.specs.Refuses.{Refuses}
@@ -43,7 +43,7 @@ second_part colour file text (Some s) = second_text colour file text s.line (mar
 
 -- A text is refused, for the stated cause and on its line, and the page of that refusal says so, with a mark under the bytes that it
 -- blames. These are the token at which the text is refused by the rule of that refusal, a byte outside text, or the end of the text. What
--- was expected, what to do, and which second token is shown, this does not say.
+-- to do is what helps at that token, or else what the page says. What was expected, and which second token is shown, this does not say.
 pub record IsRefusedAs (colour : Bool) (file text said : List ℕ) : Type 0 where
   pub fault : ScriptFault
   pub page : Page
@@ -54,9 +54,10 @@ pub record IsRefusedAs (colour : Bool) (file text said : List ℕ) : Type 0 wher
   pub blames : IfSome span (Blames fault.kind text)
   pub expected : List ℕ
   pub help : List ℕ
+  pub helps : IsHelp fault.kind text span help
   pub second : Option Second
   pub on_token : IfSome second (λ s. IsOnToken text s.span)
-  pub is : said ≡ concat (refusal_text colour file text fault.line (mark_of text fault.line span) page expected help ∷ second_part colour file text second ∷ [])
+  pub is : said ≡ concat (refusal_text colour file text fault.line (mark_of text fault.line span) page expected (help_text help page) ∷ second_part colour file text second ∷ [])
 
 -- A text is accepted, and what is said of it is so.
 pub record IsAcceptedAs (file text said : List ℕ) : Type 0 where
@@ -68,18 +69,3 @@ pub record IsAcceptedAs (file text said : List ℕ) : Type 0 where
 abbrev pub Says : Bool → List ℕ → List ℕ → Checked → Type 0
 Says colour file text (Accepted said) = IsAcceptedAs file text (string_bytes said)
 Says colour file text (Refused said) = IsRefusedAs colour file text (string_bytes said)
-
--- A text is accepted as some script.
-pub record IsSomeScript (text : List ℕ) : Type 0 where
-  pub script : ScriptView
-  pub accepted : IsAccepted text script
-
--- A text is refused for some cause.
-pub record IsNoScript (text : List ℕ) : Type 0 where
-  pub fault : ScriptFault
-  pub cause : Refuses fault.kind text
-
--- what the kind of an answer says of a text
-abbrev pub Tells : List ℕ → Checked → Type 0
-Tells text (Accepted said) = IsSomeScript text
-Tells text (Refused said) = IsNoScript text

@@ -4,11 +4,13 @@ ghost use Rattle.std.specs.Prelude.{◌≡◌, IfOk};
 ghost use Rattle.std.specs.String.{string_bytes};
 ghost use Rattle.swift_script.specs.FaultLines.{IsAtItsLine};
 ghost use Rattle.swift_script.specs.Refuses.{Refuses};
+ghost use Rattle.nuchapay_tool.specs.Advised.{help_text};
 ghost use Rattle.nuchapay_tool.specs.Checks.{IsRefusedAs, Says, accepted_text, counted, counts_text, rootless, second_part};
 
 use crate::advice::{Second, advise};
 use crate::location::blamed;
 use crate::mark::mark_of;
+use crate::page::Page;
 use crate::pages::page_of;
 use crate::refused::{refusal, second_place};
 use crate::topic::Topic;
@@ -57,11 +59,7 @@ fn refused(
     let mark = mark_of(text, fault.line, span);
     let page = page_of(Topic::Script(fault.kind));
     let advice = advise(alloc, text, fault.kind, span)?;
-    let help = if advice.help.is_empty() {
-        page.help
-    } else {
-        advice.help.as_str()
-    };
+    let help = help_of(advice.help.as_str(), page);
     let expected = advice.expected.as_str();
     let first = refusal(
         alloc, colour, file, text, fault.line, mark, page, expected, help,
@@ -69,6 +67,13 @@ fn refused(
     let second = second_text(alloc, colour, file, text, advice.second)?;
     let parts = [first.as_str(), second.as_str()];
     parts.as_slice().concat(alloc)
+}
+
+/// What is said to do: what helps, or, where that is nothing, what the page of the refusal says.
+pub(crate) fn help_of<'a>(help: &'a str, page: &'a Page) -> &'a str
+    ensures { result.now ≡ help_text help.now page.now }
+{
+    if help.len() == 0 { page.help } else { help }
 }
 
 // What is said of a second token that is concerned, if there is one.

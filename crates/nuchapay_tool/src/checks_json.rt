@@ -1,13 +1,19 @@
 //! Whether a text is a script, as JSON.
 
-ghost use Rattle.std.specs.Prelude.{IfOk};
-ghost use Rattle.nuchapay_tool.specs.Checks.{Tells};
+ghost use Rattle.std.specs.Prelude.{◌≡◌, IfOk, Some};
+ghost use Rattle.std.specs.String.{string_bytes};
+ghost use Rattle.swift_script.specs.FaultLines.{IsAtItsLine};
+ghost use Rattle.swift_script.specs.Refuses.{Refuses};
+ghost use Rattle.nuchapay_tool.specs.Advised.{help_text};
+ghost use Rattle.nuchapay_tool.specs.Marks.{mark_of};
+ghost use Rattle.nuchapay_tool.specs.ChecksJson.{IsRefusedJson, SaysCounts, Tells, advice_json, column_of, counts_json, from_of, head_json, place_json, rootless_json, second_json, to_of};
 
-use crate::advice::{Advice, Second, advise};
-use crate::checks::Checked;
+use crate::advice::{Second, advise};
+use crate::checks::{Checked, help_of};
 use crate::fixes::Change;
-use crate::json_text::JsonText;
+use crate::json_text::{escaped_name, escaped_text};
 use crate::location::{Span, blamed};
+use crate::mark::{LineMark, mark_of};
 use crate::page::Page;
 use crate::pages::page_of;
 use crate::source::line_of;
@@ -27,130 +33,229 @@ pub fn check_json(alloc: Global, file: &str, text: &[u8]) -> Result<Checked, All
     ensures { IfOk result (Tells text.now) }
 {
     match read(alloc, text) {
-        Ok(script) => {
-            let said = accepted_json(alloc, file, &script);
-            drop(script);
-            Ok(Checked::Accepted(said?))
-        }
+        Ok(script) => Ok(Checked::Accepted(accepted_json(alloc, file, &script)?)),
         Err(fault) => Ok(Checked::Refused(refused_json(alloc, file, text, fault)?)),
     }
 }
 
-fn accepted_json(alloc: Global, file: &str, script: &Script) -> Result<String, AllocError> {
-    let mut json = JsonText::new(alloc);
-    begin(&mut json, file, true);
-    json.count("actors", script.actor_count());
-    json.count("methods", script.method_count());
-    json.count("roots", script.root_count());
-    json.say("\"diagnostics\":[");
-    if script.root_count() == 0 {
-        json.say("{\"severity\":\"note\",\"code\":\"\",");
-        json.member("title", "no root");
-        say_place(&mut json, b"", Span { from: 0, to: 0 });
-        json.member("expected", "");
-        json.member(
-            "help",
-            "nothing of it will run: `root a = A.f();` begins a task",
-        );
-        json.say("\"second\":null,\"fix\":null}");
+// What is said of a script.
+fn accepted_json(alloc: Global, file: &str, script: &Script) -> Result<String, AllocError>
+    ensures { IfOk result (λ said. SaysCounts script.now (string_bytes said)) }
+{
+    let name = escaped_name(alloc, file)?;
+    let counts = counts_json(alloc, script)?;
+    let parts = [
+        "{\"file\":\"",
+        name.as_str(),
+        "\",\"accepted\":true,",
+        counts.as_str(),
+        "\"diagnostics\":[",
+        rootless_json(script.root_count()),
+        "]}\n",
+    ];
+    parts.as_slice().concat(alloc)
+}
+
+// How many actors, methods and roots a script has.
+fn counts_json(alloc: Global, script: &Script) -> Result<String, AllocError>
+    ensures { IfOk result (λ said. string_bytes said ≡ counts_json script.now) }
+{
+    let actors = script.actor_count().to_string(alloc)?;
+    let methods = script.method_count().to_string(alloc)?;
+    let roots = script.root_count().to_string(alloc)?;
+    let parts = [
+        "\"actors\":",
+        actors.as_str(),
+        ",\"methods\":",
+        methods.as_str(),
+        ",\"roots\":",
+        roots.as_str(),
+        ",",
+    ];
+    parts.as_slice().concat(alloc)
+}
+
+// What is said of a script without a root.
+fn rootless_json(count: usize) -> &'static str
+    ensures { result.now ≡ rootless_json count }
+{
+    if count == 0 {
+        "{\"severity\":\"note\",\"code\":\"\",\"title\":\"no root\",\"from\":0,\"to\":0,\"line\":1,\"column\":1,\"expected\":\"\",\"help\":\"nothing of it will run: `root a = A.f();` begins a task\",\"second\":null,\"fix\":null}"
+    } else {
+        ""
     }
-    json.say("]}\n");
-    json.finish()
 }
 
-fn begin(json: &mut JsonText, file: &str, is_accepted: bool) {
-    json.say("{");
-    json.member("file", file);
-    json.say("\"accepted\":");
-    json.say(if is_accepted { "true," } else { "false," });
-}
-
+// What is said of a text that is refused.
 fn refused_json(
     alloc: Global,
     file: &str,
     text: &[u8],
     fault: ScriptFault,
-) -> Result<String, AllocError> {
+) -> Result<String, AllocError>
+    requires cause { Refuses fault.kind text.now }
+    requires line { IsAtItsLine fault text.now }
+    ensures { IfOk result (λ said. IsRefusedJson text.now (string_bytes said)) }
+{
     let span = blamed(alloc, text, fault.kind)?;
-    let advice = advise(alloc, text, fault.kind, span)?;
     let page = page_of(Topic::Script(fault.kind));
-    let mut json = JsonText::new(alloc);
-    begin(&mut json, file, false);
-    json.say("\"diagnostics\":[{\"severity\":\"error\",");
-    json.member("code", page.name);
-    json.member("title", page.title);
+    let advice = advise(alloc, text, fault.kind, span)?;
+    let help = help_of(advice.help.as_str(), page);
+    let said = advice_json(alloc, advice.expected.as_str(), help)?;
+    let second = second_json(alloc, text, advice.second)?;
+    let fix = fix_json(alloc, text, &advice.fix)?;
+    drop(advice);
+    let name = escaped_name(alloc, file)?;
+    let head = head_json(alloc, name.as_str(), page)?;
+    let mark = mark_of(text, fault.line, span);
+    let place = place_json(alloc, text, fault.line, span, mark)?;
+    let parts = [
+        head.as_str(),
+        place.as_str(),
+        said.as_str(),
+        second.as_str(),
+        fix.as_str(),
+        "}]}\n",
+    ];
+    parts.as_slice().concat(alloc)
+}
+
+// The beginning, up to the place.
+fn head_json(alloc: Global, name: &str, page: &Page) -> Result<String, AllocError>
+    ensures { IfOk result (λ said. string_bytes said ≡ head_json name.now page.now) }
+{
+    let parts = [
+        "{\"file\":\"",
+        name,
+        "\",\"accepted\":false,\"diagnostics\":[{\"severity\":\"error\",\"code\":\"",
+        page.name,
+        "\",\"title\":\"",
+        page.title,
+        "\",",
+    ];
+    parts.as_slice().concat(alloc)
+}
+
+// The place of some bytes, with the mark on their line.
+fn place_json(
+    alloc: Global,
+    text: &[u8],
+    line: u32,
+    span: Option<Span>,
+    mark: Option<LineMark>,
+) -> Result<String, AllocError>
+    ensures { IfOk result (λ said. string_bytes said ≡ place_json text.now line span mark) }
+{
+    let from = from_of(text, span).to_string(alloc)?;
+    let to = to_of(text, span).to_string(alloc)?;
+    let column = column_of(line, mark).to_string(alloc)?;
+    let line = line.to_string(alloc)?;
+    let parts = [
+        "\"from\":",
+        from.as_str(),
+        ",\"to\":",
+        to.as_str(),
+        ",\"line\":",
+        line.as_str(),
+        ",\"column\":",
+        column.as_str(),
+        ",",
+    ];
+    parts.as_slice().concat(alloc)
+}
+
+// The first of some bytes; 0 where they are not known.
+fn from_of(text: &[u8], span: Option<Span>) -> usize
+    ensures { result ≡ from_of text.now span }
+{
     match span {
-        Some(span) => say_place(&mut json, text, span),
-        None => say_line(&mut json, fault.line),
+        Some(span) => span.from.min(text.len()),
+        None => 0,
     }
-    say_advice(&mut json, text, page, &advice);
-    json.say("}]}\n");
-    json.finish()
 }
 
-// The place of some bytes.
-fn say_place(json: &mut JsonText, text: &[u8], span: Span) {
-    let from = span.from.min(text.len());
-    let line = line_of(text, from);
-    json.count("from", from);
-    json.count("to", span.to.min(text.len()));
-    json.count("line", line as usize);
-    json.count("column", column_of(text, from));
-}
-
-// Where no bytes are known, but the line.
-fn say_line(json: &mut JsonText, line: u32) {
-    json.count("from", 0);
-    json.count("to", 0);
-    json.count("line", line as usize);
-    json.count("column", usize::from(line > 0));
-}
-
-// The place of a byte on its line, from 1.
-fn column_of(text: &[u8], place: usize) -> usize {
-    let mut column = 1usize;
-    for byte in &text[..place.min(text.len())] {
-        column = if *byte == b'\n' {
-            1
-        } else {
-            column.saturating_add(1)
-        };
+// The first after some bytes; 0 where they are not known.
+fn to_of(text: &[u8], span: Option<Span>) -> usize
+    ensures { result ≡ to_of text.now span }
+{
+    match span {
+        Some(span) => span.to.min(text.len()),
+        None => 0,
     }
-    column
 }
 
-fn say_advice(json: &mut JsonText, text: &[u8], page: &Page, advice: &Advice) {
-    json.member("expected", advice.expected.as_str());
-    let help = if advice.help.is_empty() {
-        page.help
-    } else {
-        advice.help.as_str()
-    };
-    json.member("help", help);
-    say_second(json, text, &advice.second);
-    say_fix(json, text, &advice.fix);
+// The column of a mark on a line; where there is none the first, and none on line 0.
+fn column_of(line: u32, mark: Option<LineMark>) -> usize
+    ensures { result ≡ column_of line mark }
+{
+    match mark {
+        Some(mark) => mark.column,
+        None => { if line == 0 { 0 } else { 1 } }
+    }
 }
 
-fn say_second(json: &mut JsonText, text: &[u8], second: &Option<Second>) {
+// What was expected, and what to do.
+fn advice_json(alloc: Global, expected: &str, help: &str) -> Result<String, AllocError>
+    ensures { IfOk result (λ said. string_bytes said ≡ advice_json expected.now help.now) }
+{
+    let expected = escaped_text(alloc, expected)?;
+    let help = escaped_text(alloc, help)?;
+    let parts = [
+        "\"expected\":\"",
+        expected.as_str(),
+        "\",\"help\":\"",
+        help.as_str(),
+        "\",",
+    ];
+    parts.as_slice().concat(alloc)
+}
+
+// A second token that is concerned.
+fn second_json(alloc: Global, text: &[u8], second: Option<Second>) -> Result<String, AllocError>
+    ensures { IfOk result (λ said. string_bytes said ≡ second_json text.now second) }
+{
     match second {
-        Some(second) => {
-            json.say("\"second\":{");
-            say_place(json, text, second.span);
-            json.last_member("label", second.label);
-            json.say("},");
-        }
-        None => json.say("\"second\":null,"),
+        Some(second) => label_json(alloc, text, second),
+        None => String::from_str(alloc, "\"second\":null,"),
     }
 }
 
-fn say_fix(json: &mut JsonText, text: &[u8], fix: &Option<Change>) {
+fn label_json(alloc: Global, text: &[u8], second: Second) -> Result<String, AllocError>
+    ensures { IfOk result (λ said. string_bytes said ≡ second_json text.now (Some second)) }
+{
+    let span = Some(second.span);
+    let mark = mark_of(text, second.line, span);
+    let place = place_json(alloc, text, second.line, span, mark)?;
+    let parts = [
+        "\"second\":{",
+        place.as_str(),
+        "\"label\":\"",
+        second.label,
+        "\"},",
+    ];
+    parts.as_slice().concat(alloc)
+}
+
+// What to write, and where.
+fn fix_json(alloc: Global, text: &[u8], fix: &Option<Change>) -> Result<String, AllocError> {
     match fix {
-        Some(change) => {
-            json.say("\"fix\":{");
-            say_place(json, text, change.span);
-            json.last_member("text", change.text.as_str());
-            json.say("}");
-        }
-        None => json.say("\"fix\":null"),
+        Some(change) => change_json(alloc, text, change),
+        None => String::from_str(alloc, "\"fix\":null"),
     }
+}
+
+fn change_json(alloc: Global, text: &[u8], change: &Change) -> Result<String, AllocError> {
+    let line = line_of(text, change.span.from);
+    let Span { from, to } = change.span;
+    let mark = mark_of(text, line, Some(Span { from, to: from }));
+    let place = place_json(alloc, text, line, Some(Span { from, to }), mark)?;
+    let words = escaped_text(alloc, change.text.as_str())?;
+    let parts = [
+        "\"fix\":{",
+        place.as_str(),
+        "\"text\":\"",
+        words.as_str(),
+        "\"}",
+    ];
+    parts.as_slice().concat(alloc)
 }

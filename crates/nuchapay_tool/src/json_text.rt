@@ -1,83 +1,69 @@
-//! JSON that is being written.
+//! Texts as JSON has them.
 
+ghost use Rattle.std.specs.Prelude.{◌≡◌, ◌++◌, IfOk, OnOk};
+ghost use Rattle.std.specs.String.{string_bytes};
+ghost use Rattle.nuchapay_tool.specs.ChecksJson.{escaped, escaped_byte, escaped_text};
+
+use crate::source::shown;
 use std::alloc::{AllocError, Global};
 
-/// JSON that is being written. Where memory runs out it ends there, and `finish` says so.
-#[derive(Drop)]
-pub(crate) struct JsonText {
-    text: String,
-    is_cut: bool,
+/// A text of printable ASCII, as JSON has it in a text: a quote and a backslash behind a backslash.
+///
+/// # Errors
+///
+/// `AllocError` where there is no memory for it.
+pub(crate) fn escaped_text(alloc: Global, text: &str) -> Result<String, AllocError>
+    ensures { IfOk result (λ said. string_bytes said ≡ escaped_text text.now) }
+{
+    let mut bytes = Vec::new(alloc);
+    push_escaped(&mut bytes, text.as_bytes())?;
+    shown(alloc, &bytes)
 }
 
-impl JsonText {
-    /// Nothing.
-    pub(crate) fn new(alloc: Global) -> JsonText {
-        JsonText {
-            text: String::new(alloc),
-            is_cut: false,
-        }
+fn push_escaped(said: &mut Vec<u8>, text: &[u8]) -> Result<(), AllocError>
+    ensures { OnOk result (said.new.items ≡ said.old.items ++ escaped text.now) }
+{
+    for byte in text {
+        push_byte(said, *byte)?;
     }
+    Ok(())
+}
 
-    /// The text, if there was memory for all of it.
-    pub(crate) fn finish(self) -> Result<String, AllocError> {
-        let JsonText { text, is_cut } = self;
-        if is_cut { Err(AllocError) } else { Ok(text) }
+fn push_byte(said: &mut Vec<u8>, byte: u8) -> Result<(), AllocError>
+    ensures { OnOk result (said.new.items ≡ said.old.items ++ escaped_byte byte) }
+{
+    match byte {
+        b'"' => said.extend_from_slice(b"\\\""),
+        b'\\' => said.extend_from_slice(b"\\\\"),
+        _ => said.extend_from_slice(&[byte]),
     }
+}
 
-    /// Puts this behind it, as it is.
-    pub(crate) fn say(&mut self, words: &str) {
-        if !self.is_cut && self.text.push_str(words).is_err() {
-            self.is_cut = true;
-        }
+/// A text as JSON has it in a text: a quote, a backslash and a control by an escape.
+///
+/// # Errors
+///
+/// `AllocError` where there is no memory for it.
+pub(crate) fn escaped_name(alloc: Global, name: &str) -> Result<String, AllocError> {
+    let mut text = String::new(alloc);
+    for letter in name.chars() {
+        push_letter(&mut text, letter)?;
     }
+    Ok(text)
+}
 
-    /// Puts a member behind it whose value is a text, and a comma.
-    pub(crate) fn member(&mut self, name: &str, value: &str) {
-        self.last_member(name, value);
-        self.say(",");
+fn push_letter(text: &mut String, letter: char) -> Result<(), AllocError> {
+    match letter {
+        '"' => text.push_str("\\\""),
+        '\\' => text.push_str("\\\\"),
+        '\0'..='\u{1f}' => push_control(text, letter as u32),
+        _ => text.push(letter),
     }
+}
 
-    /// Puts a member behind it whose value is a text.
-    pub(crate) fn last_member(&mut self, name: &str, value: &str) {
-        self.say("\"");
-        self.say(name);
-        self.say("\":\"");
-        for letter in value.chars() {
-            self.letter(letter);
-        }
-        self.say("\"");
-    }
-
-    /// Puts a member behind it whose value is a number, and a comma.
-    pub(crate) fn count(&mut self, name: &str, value: usize) {
-        self.say("\"");
-        self.say(name);
-        self.say("\":");
-        match value.to_string(*self.text.allocator()) {
-            Ok(digits) => self.say(digits.as_str()),
-            Err(_) => self.is_cut = true,
-        }
-        self.say(",");
-    }
-
-    // Puts a letter of a text behind it: a quote, a backslash and a control by an escape.
-    fn letter(&mut self, letter: char) {
-        match letter {
-            '"' => self.say("\\\""),
-            '\\' => self.say("\\\\"),
-            '\0'..='\u{1f}' => self.control(letter as u32),
-            _ => {
-                if !self.is_cut && self.text.push(letter).is_err() {
-                    self.is_cut = true;
-                }
-            }
-        }
-    }
-
-    fn control(&mut self, code: u32) {
-        self.say(if code < 16 { "\\u000" } else { "\\u001" });
-        self.say(DIGITS[(code & 15) as usize]);
-    }
+fn push_control(text: &mut String, code: u32) -> Result<(), AllocError> {
+    text.push_str(if code < 16 { "\\u000" } else { "\\u001" })?;
+    text.push_str(DIGITS[(code & 15) as usize])
 }
 
 static DIGITS: [&str; 16] = [

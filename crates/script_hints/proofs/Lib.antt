@@ -1,1 +1,2 @@
-pub mod Beginning
+pub mod Filling
+pub mod Told

@@ -1,1 +1,3 @@
-pub mod BegunInside
+pub mod Helps
+pub mod Mistakes
+pub mod Spelled

@@ -1,18 +1,8 @@
 //! What helps to mend a refusal.
 
-use script_tokens::Token;
-use std::alloc::Global;
+ghost use Rattle.std.specs.Prelude.{◌≡◌, IfOk, List, [], Ok};
 
-/// The token at which a text is refused (our own).
-#[derive(Clone, Copy)]
-pub struct Blamed<'a> {
-    /// The tokens of the text.
-    pub tokens: &'a [Token],
-    /// How many come before it; all of them where the text ends early.
-    pub place: usize,
-    /// Its bytes.
-    pub found: &'a [u8],
-}
+use std::alloc::{AllocError, Global};
 
 /// A second token that is concerned (our own).
 #[derive(Clone, Copy)]
@@ -41,6 +31,23 @@ pub struct Fix {
     pub text: Vec<u8>,
 }
 
+impl Fix {
+    /// These bytes in the place of a token.
+    pub(crate) fn over(
+        alloc: Global,
+        place: usize,
+        bytes: &[u8],
+    ) -> Result<Option<Fix>, AllocError> {
+        match Vec::from_slice(alloc, bytes) {
+            Ok(text) => Ok(Some(Fix {
+                place: FixPlace::Over(place, place),
+                text,
+            })),
+            Err(error) => Err(error),
+        }
+    }
+}
+
 /// What helps to mend a refusal (our own). Texts have ASCII bytes where the names of the tokens have.
 #[derive(Drop)]
 pub struct Hint {
@@ -56,12 +63,33 @@ pub struct Hint {
 
 impl Hint {
     /// Nothing that helps.
-    pub fn none(alloc: Global) -> Hint {
+    pub fn none(alloc: Global) -> Hint
+        ensures { result.help.items ≡ [] }
+    {
         Hint {
             expected: Vec::new(alloc),
             help: Vec::new(alloc),
             note: None,
             fix: None,
         }
+    }
+
+    /// What helps, where nothing is said of what could have stood there. The parts come as the calls that make them gave them.
+    pub(crate) fn of(
+        alloc: Global,
+        help: Result<Vec<u8>, AllocError>,
+        note: Option<Note>,
+        fix: Result<Option<Fix>, AllocError>,
+    ) -> Result<Hint, AllocError>
+        ensures { IfOk result (λ h. help ≡ Ok h.help) }
+    {
+        let help = help?;
+        let fix = fix?;
+        Ok(Hint {
+            expected: Vec::new(alloc),
+            help,
+            note,
+            fix,
+        })
     }
 }

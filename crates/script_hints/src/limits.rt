@@ -1,24 +1,30 @@
 //! Other refusals than of a token or a name.
 
-use crate::braces::{next_sign, open_block};
-use crate::declared::{Declared, actor_of, declared_at, is_named};
-use crate::hint::{Blamed, Fix, FixPlace, Hint, Note};
-use crate::text::HintText;
-use crate::word::{is_sign, name_at};
+ghost use Rattle.std.specs.Prelude.{◌≡◌, [], IfOk};
+ghost use Rattle.script_hints.specs.Helps.{HelpsHuge, HelpsInvariant, HelpsLimit, limit_text};
+
+use crate::hint::{Fix, Hint, Note};
+use crate::text::{HintText, bytes, joined};
+use script_context::{
+    Blamed, Declared, actor_of, declared_at, is_named, is_sign, name_at, next_sign, open_block,
+};
 use script_tokens::{Keyword, Mark, Token};
 use std::alloc::{AllocError, Global};
 
 /// What helps at a number that is too large: the greatest one that can be written.
-pub fn huge_hint(alloc: Global, blamed: Blamed<'_>) -> Result<Hint, AllocError> {
+///
+/// # Errors
+///
+/// `AllocError` where there is no memory for it.
+pub fn huge_hint(alloc: Global, blamed: Blamed<'_>) -> Result<Hint, AllocError>
+    ensures { IfOk result (λ hint. HelpsHuge blamed.entry hint.help.items) }
+{
     let before = blamed.place.saturating_sub(1);
-    let mut help = HintText::new(alloc);
-    if is_sign(blamed.tokens, before, Mark::Minus) {
-        help.say(
-            "the least number that can be written is -9223372036854775807; one less is computed, by `- 1`",
-        );
+    let words = if is_sign(blamed.tokens, before, Mark::Minus) {
+        LEAST
     } else {
-        help.say("the greatest number is 9223372036854775807");
-    }
+        GREATEST
+    };
     let note = match given_to(blamed) {
         Some(place) => Some(Note {
             place,
@@ -26,23 +32,14 @@ pub fn huge_hint(alloc: Global, blamed: Blamed<'_>) -> Result<Hint, AllocError> 
         }),
         None => None,
     };
-    Ok(Hint {
-        expected: Vec::new(alloc),
-        help: help.finish()?,
-        note,
-        fix: Some(over(alloc, blamed, "9223372036854775807")?),
-    })
+    let fix = Fix::over(alloc, blamed.place, b"9223372036854775807");
+    Hint::of(alloc, bytes(alloc, words), note, fix)
 }
 
-// These words in the place of the token that is blamed.
-fn over(alloc: Global, blamed: Blamed<'_>, words: &str) -> Result<Fix, AllocError> {
-    let mut text = HintText::new(alloc);
-    text.say(words);
-    Ok(Fix {
-        place: FixPlace::Over(blamed.place, blamed.place),
-        text: text.finish()?,
-    })
-}
+static LEAST: &[u8] =
+    b"the least number that can be written is -9223372036854775807; one less is computed, by `- 1`";
+
+static GREATEST: &[u8] = b"the greatest number is 9223372036854775807";
 
 // The name before the nearest `=` on the left, in the same statement.
 fn given_to(blamed: Blamed<'_>) -> Option<usize> {
@@ -62,32 +59,40 @@ fn given_to(blamed: Blamed<'_>) -> Option<usize> {
 }
 
 /// What helps where a limit is passed: which.
-pub fn limit_hint(alloc: Global, blamed: Blamed<'_>) -> Result<Hint, AllocError> {
+///
+/// # Errors
+///
+/// `AllocError` where there is no memory for it.
+pub fn limit_hint(alloc: Global, blamed: Blamed<'_>) -> Result<Hint, AllocError>
+    ensures { IfOk result (λ hint. HelpsLimit blamed.entry hint.help.items) }
+{
     let kind = declared_at(blamed.tokens, blamed.place);
-    let (words, fix) = match kind {
-        Some(Declared::Executor) => (
-            "there are at most 64 executors: let several actors share one",
-            None,
-        ),
-        Some(Declared::Actor) => ("there are at most 64 actors: split the script", None),
-        Some(Declared::Root) => ("there are at most 1,024 roots: split the script", None),
-        _ => (
-            "a worker has a number from 0 to 7",
-            Some(over(alloc, blamed, "7")?),
-        ),
+    let fix = match kind {
+        Some(Declared::Executor | Declared::Actor | Declared::Root) => Ok(None),
+        _ => Fix::over(alloc, blamed.place, b"7"),
     };
-    let mut help = HintText::new(alloc);
-    help.say(words);
-    Ok(Hint {
-        expected: Vec::new(alloc),
-        help: help.finish()?,
-        note: None,
-        fix,
-    })
+    Hint::of(alloc, bytes(alloc, limit_text(kind)), None, fix)
+}
+
+fn limit_text(kind: Option<Declared>) -> &'static [u8]
+    ensures { result.now ≡ limit_text kind }
+{
+    match kind {
+        Some(Declared::Executor) => b"there are at most 64 executors: let several actors share one",
+        Some(Declared::Actor) => b"there are at most 64 actors: split the script",
+        Some(Declared::Root) => b"there are at most 1,024 roots: split the script",
+        _ => b"a worker has a number from 0 to 7",
+    }
 }
 
 /// What helps where too much is open: what was opened first.
-pub fn deep_hint(alloc: Global, blamed: Blamed<'_>) -> Result<Hint, AllocError> {
+///
+/// # Errors
+///
+/// `AllocError` where there is no memory for it.
+pub fn deep_hint(alloc: Global, blamed: Blamed<'_>) -> Result<Hint, AllocError>
+    ensures { IfOk result (λ hint. hint.help.items ≡ []) }
+{
     let tokens = blamed.tokens;
     let first = if is_sign(tokens, blamed.place, Mark::Open) {
         outermost(tokens, blamed.place, Mark::Open, Mark::Close, 0)
@@ -103,12 +108,7 @@ pub fn deep_hint(alloc: Global, blamed: Blamed<'_>) -> Result<Hint, AllocError> 
         }),
         None => None,
     };
-    Ok(Hint {
-        expected: Vec::new(alloc),
-        help: Vec::new(alloc),
-        note,
-        fix: None,
-    })
+    Hint::of(alloc, Ok(Vec::new(alloc)), note, Ok(None))
 }
 
 // Where the first of these marks stands that is still open at a place, not counting so many around all others.
@@ -135,38 +135,49 @@ fn outermost(
 }
 
 /// What helps at the keyword of an invariant that is false at the start: the start values of the fields that it names.
-pub fn false_invariant_hint(alloc: Global, blamed: Blamed<'_>) -> Result<Hint, AllocError> {
-    let tokens = blamed.tokens;
-    let mut help = HintText::new(alloc);
-    let mut note = None;
-    let from = actor_of(tokens, blamed.place).unwrap_or(0);
-    for at in from..blamed.place {
+///
+/// # Errors
+///
+/// `AllocError` where there is no memory for it.
+pub fn false_invariant_hint(alloc: Global, blamed: Blamed<'_>) -> Result<Hint, AllocError>
+    ensures { IfOk result (λ hint. HelpsInvariant hint.help.items) }
+{
+    let from = actor_of(blamed.tokens, blamed.place).unwrap_or(0);
+    let Some(first) = (from..blamed.place).find(|at| is_used(blamed, *at)) else {
+        let help = bytes(alloc, b"it names no field, and is never true");
+        return Hint::of(alloc, help, None, Ok(None));
+    };
+    let note = Some(Note {
+        place: first,
+        label: "this field begins with that number",
+    });
+    Hint::of(alloc, starts_text(alloc, blamed, first), note, Ok(None))
+}
+
+fn starts_text(alloc: Global, blamed: Blamed<'_>, first: usize) -> Result<Vec<u8>, AllocError>
+    ensures { IfOk result (λ text. HelpsInvariant text.items) }
+{
+    let fields = said_starts(alloc, blamed, first)?;
+    let parts: [&[u8]; 3] = [
+        b"it is false, or overflows, with ",
+        &fields,
+        b": choose other start values, or another invariant",
+    ];
+    joined(alloc, &parts)
+}
+
+// The fields that the invariant names, the first of them at a place, with their numbers.
+fn said_starts(alloc: Global, blamed: Blamed<'_>, first: usize) -> Result<Vec<u8>, AllocError> {
+    let mut text = HintText::new(alloc);
+    for at in first..blamed.place {
         if is_used(blamed, at) {
-            help.say(if note.is_some() {
-                ", "
-            } else {
-                "it is false, or overflows, with "
-            });
-            say_start(&mut help, blamed, at);
-            if note.is_none() {
-                note = Some(Note {
-                    place: at,
-                    label: "this field begins with that number",
-                });
+            if at != first {
+                text.say(", ");
             }
+            say_start(&mut text, blamed, at);
         }
     }
-    help.say(if note.is_some() {
-        ": choose other start values, or another invariant"
-    } else {
-        "it names no field, and is never true"
-    });
-    Ok(Hint {
-        expected: Vec::new(alloc),
-        help: help.finish()?,
-        note,
-        fix: None,
-    })
+    text.finish()
 }
 
 // Whether a field is declared at a place that the invariant names.
@@ -194,7 +205,13 @@ fn say_start(help: &mut HintText, blamed: Blamed<'_>, place: usize) {
 }
 
 /// What helps where a child is added inside a `bind` that was opened inside its group: that `bind`.
-pub fn bound_hint(alloc: Global, blamed: Blamed<'_>) -> Result<Hint, AllocError> {
+///
+/// # Errors
+///
+/// `AllocError` where there is no memory for it.
+pub fn bound_hint(alloc: Global, blamed: Blamed<'_>) -> Result<Hint, AllocError>
+    ensures { IfOk result (λ hint. hint.help.items ≡ []) }
+{
     let tokens = blamed.tokens;
     let note = match open_block(tokens, blamed.place, Keyword::Bind) {
         Some(place) => Some(Note {
@@ -203,10 +220,5 @@ pub fn bound_hint(alloc: Global, blamed: Blamed<'_>) -> Result<Hint, AllocError>
         }),
         None => None,
     };
-    Ok(Hint {
-        expected: Vec::new(alloc),
-        help: Vec::new(alloc),
-        note,
-        fix: None,
-    })
+    Hint::of(alloc, Ok(Vec::new(alloc)), note, Ok(None))
 }

@@ -1,8 +1,7 @@
 //! What is said of what could stand at a place.
 
-use crate::expected::{Candidate, Expected};
-use crate::hint::Blamed;
 use crate::text::HintText;
+use script_context::{Blamed, Candidate, Expected};
 use script_tokens::{Keyword, Mark, Token};
 use std::alloc::{AllocError, Global};
 

@@ -1,29 +1,56 @@
 //! Which mistake was made at a token.
 
-use crate::braces::{braces_at, last_key, next_sign, open_block, open_brace, open_parenthesis};
-use crate::declared::{Declared, actor_end, actor_named, actor_of, named_as};
-use crate::expected::Expected;
-use crate::hint::{Blamed, Fix, FixPlace, Note};
-use crate::text::HintText;
-use crate::word::{is_sign, name_at, word, word_at};
+ghost use Rattle.std.specs.Prelude.{◌≡◌, ◌++◌, [], IfOk, IfSome, IsTrue, OnOk, Contains, false, map, slice_index_or};
+ghost use Rattle.script_hints.specs.Helps.{IsFilled};
+ghost use Rattle.script_hints.specs.Mistakes.{Fits, FitsName, FitsToken, IsAround, IsOfClass, IsSomewhere, Meets, StandsAround, class_of};
+ghost use Rattle.script_hints.specs.Spelled.{filled, is_dollar, named, place_in, said};
+
+use crate::hint::{Fix, FixPlace, Note};
+use crate::text::{HintText, push_token};
+use script_context::{
+    Blamed, Declared, Expected, actor_end, actor_named, actor_of, braces_at, is_sign, last_key,
+    name_at, named_as, next_sign, open_block, open_brace, open_parenthesis, word, word_at,
+};
 use script_tokens::{Keyword, Mark, Token};
 use std::alloc::{AllocError, Global};
 
-/// A mistake that is often made, by the tokens around the one that does not fit: two before it, itself, and three after it. Each is a
-/// spelling, a class of tokens in capitals, or empty where any token may stand there.
-pub(crate) struct Mistake {
-    /// The tokens. Texts name them by their places in this list, as `$1`.
-    pub tokens: [&'static str; 6],
-    /// What could stand there, a name as `x` and a number as `1`; empty where that does not matter.
-    pub fits: &'static str,
-    /// What could not; empty where that does not matter.
-    pub lacks: &'static str,
-    /// What is said. `$a` is the name of the actor around the place.
-    pub help: &'static str,
+/// The words of a mistake that is often made. First six tokens: two before the one that does not fit, itself, and three after it, each as
+/// a spelling, as a class of tokens in capitals, or empty where any token may stand there. Then what could stand there, with a name as `x`
+/// and a number as `1`, and what could not, each empty where that does not matter. Last what is said: `$1` is the token at that place of
+/// the six, `$a` the name of the actor around.
+pub(crate) type Words = [&'static str; 9];
+
+const FITS: usize = 6;
+
+const LACKS: usize = 7;
+
+const HELP: usize = 8;
+
+/// What is shown and written for a mistake.
+#[derive(Clone, Copy)]
+pub(crate) struct Mending {
     /// Which other token is shown. Where there is none, it is not this mistake.
     pub shown: Shown,
     /// What to write.
     pub repair: Repair,
+}
+
+/// A mistake that was made.
+#[derive(Clone, Copy)]
+pub(crate) struct Made {
+    /// Its words.
+    pub words: &'static Words,
+    /// What is shown and written for it.
+    pub mending: Mending,
+}
+
+impl Made {
+    /// What is said.
+    pub(crate) fn help(self) -> &'static str
+        ensures { result.now ≡ slice_index_or (map (λ x. x.now) self.words.now) 8 [] }
+    {
+        self.words[HELP]
+    }
 }
 
 /// Which other token is shown.
@@ -59,56 +86,97 @@ pub(crate) enum Repair {
 }
 
 /// The place of the token that a pattern or a text names by a number.
-pub(crate) fn place_in(blamed: Blamed<'_>, number: usize) -> Option<usize> {
-    blamed.place.saturating_add(number).checked_sub(2)
+pub(crate) fn place_in(blamed: Blamed<'_>, number: usize) -> Option<usize>
+    ensures { result ≡ place_in blamed.entry number }
+{
+    blamed.place.checked_add(number)?.checked_sub(2)
 }
 
-/// The first of these mistakes that was made.
+/// The first of these mistakes that was made, with what is shown and written for each.
 pub(crate) fn find_mistake(
-    mistakes: &'static [Mistake],
+    mistakes: &'static [Words],
+    mended: &'static [Mending],
     blamed: Blamed<'_>,
     expected: &Expected,
-) -> Option<&'static Mistake> {
-    mistakes
-        .iter()
-        .find(|mistake| is_made(mistake, blamed, expected))
+) -> Option<Made>
+    ensures known { IfSome result (λ made. Contains (map (map (λ x. x.now)) mistakes.now) (map (λ x. x.now) made.words.now)) }
+    ensures stands { IfSome result (λ made. StandsAround blamed.entry (map (λ x. x.now) made.words.now)) }
+{
+    for (number, words) in mistakes.iter().enumerate() {
+        if let Some(mending) = mended.get(number)
+            && is_made(words, *mending, blamed, expected)
+        {
+            return Some(Made {
+                words,
+                mending: *mending,
+            });
+        }
+    }
+    None
 }
 
-fn is_made(mistake: &Mistake, blamed: Blamed<'_>, expected: &Expected) -> bool {
-    stand(mistake, blamed)
-        && (mistake.fits.is_empty() || expected.has(mistake.fits))
-        && (mistake.lacks.is_empty() || !expected.has(mistake.lacks))
-        && is_shown(mistake.shown, blamed)
+fn is_made(words: &Words, mending: Mending, blamed: Blamed<'_>, expected: &Expected) -> bool
+    ensures { IsTrue result → StandsAround blamed.entry (map (λ x. x.now) words.now) }
+{
+    let fits = words[FITS];
+    let lacks = words[LACKS];
+    stand(words, blamed)
+        && (fits.is_empty() || expected.has(fits))
+        && (lacks.is_empty() || !expected.has(lacks))
+        && is_shown(mending.shown, blamed)
 }
 
-// Whether tokens stand around the place as the mistake has them.
-fn stand(mistake: &Mistake, blamed: Blamed<'_>) -> bool {
-    for (number, pattern) in mistake.tokens.iter().enumerate() {
-        if !pattern.is_empty() && !fits_pattern(pattern, blamed, number) {
+// Whether tokens stand around the place as the words of a mistake have them.
+fn stand(words: &Words, blamed: Blamed<'_>) -> bool
+    ensures { IsTrue result → StandsAround blamed.entry (map (λ x. x.now) words.now) }
+{
+    for number in 0..FITS {
+        if !meets(blamed, number, words[number]) {
             return false;
         }
     }
     true
 }
 
-fn fits_pattern(pattern: &str, blamed: Blamed<'_>, number: usize) -> bool {
-    let Some(place) = place_in(blamed, number) else {
-        return false;
-    };
-    if place == blamed.place && pattern.as_bytes() == blamed.found {
+// Whether a pattern is empty, or the token that it stands for fits it.
+fn meets(blamed: Blamed<'_>, number: usize, pattern: &str) -> bool
+    ensures { IsTrue result → Meets blamed.entry number pattern.now }
+{
+    if pattern.is_empty() {
         return true;
     }
-    match blamed.tokens.get(place) {
-        Some(token) => {
-            is_of_class(pattern, token)
-                || is_declared_so(pattern, blamed, place)
-                || pattern.as_bytes() == word(token)
-        }
+    match place_in(blamed, number) {
+        Some(place) => fits(blamed, pattern, place),
         None => false,
     }
 }
 
-fn is_of_class(pattern: &str, token: &Token) -> bool {
+fn fits(blamed: Blamed<'_>, pattern: &str, place: usize) -> bool
+    ensures { IsTrue result → Fits blamed.entry pattern.now place }
+{
+    if place == blamed.place && pattern.as_bytes() == blamed.found {
+        return true;
+    }
+    if let Some(token) = blamed.tokens.get(place)
+        && fits_token(pattern, token)
+    {
+        return true;
+    }
+    match name_at(blamed.tokens, place) {
+        Some(name) => fits_name(pattern, blamed, name),
+        None => false,
+    }
+}
+
+fn fits_token(pattern: &str, token: &Token) -> bool
+    ensures { IsTrue result → FitsToken pattern.now token.now }
+{
+    is_of_class(pattern, token) || pattern.as_bytes() == word(token)
+}
+
+fn is_of_class(pattern: &str, token: &Token) -> bool
+    ensures { IsTrue result → IsOfClass pattern.now token.now }
+{
     match token {
         Token::Name(_) => pattern == "NAME" || pattern == "WORD",
         Token::Key(_) => pattern == "KEYWORD" || pattern == "WORD",
@@ -118,7 +186,9 @@ fn is_of_class(pattern: &str, token: &Token) -> bool {
     }
 }
 
-fn class_of(mark: Mark) -> &'static str {
+fn class_of(mark: Mark) -> &'static str
+    ensures { result.now ≡ class_of mark }
+{
     match mark {
         Mark::Plus | Mark::Minus | Mark::Times => "SUM",
         Mark::Equal | Mark::Unequal => "COMPARES",
@@ -128,19 +198,26 @@ fn class_of(mark: Mark) -> &'static str {
 }
 
 // Whether a name stands for an actor, for a method of the actor around the place, or for that actor.
-fn is_declared_so(pattern: &str, blamed: Blamed<'_>, place: usize) -> bool {
-    let Some(name) = name_at(blamed.tokens, place) else {
-        return false;
-    };
+fn fits_name(pattern: &str, blamed: Blamed<'_>, name: &[u8]) -> bool
+    ensures { IsTrue result → FitsName blamed.entry pattern.now name.now }
+{
     match pattern {
-        "ACTOR" => actor_named(blamed.tokens, name).is_some(),
+        "ACTOR" => is_actor(blamed, name),
         "METHOD" => is_method(blamed, name),
         "THIS" => is_this(blamed, name),
         _ => false,
     }
 }
 
-fn is_method(blamed: Blamed<'_>, name: &[u8]) -> bool {
+fn is_actor(blamed: Blamed<'_>, name: &[u8]) -> bool
+    ensures { IsTrue result → IsSomewhere blamed.entry name.now Declared.Actor }
+{
+    actor_named(blamed.tokens, name).is_some()
+}
+
+fn is_method(blamed: Blamed<'_>, name: &[u8]) -> bool
+    ensures { IsTrue result → IsSomewhere blamed.entry name.now Declared.Method }
+{
     let tokens = blamed.tokens;
     match actor_of(tokens, blamed.place) {
         Some(actor) => {
@@ -151,7 +228,9 @@ fn is_method(blamed: Blamed<'_>, name: &[u8]) -> bool {
     }
 }
 
-fn is_this(blamed: Blamed<'_>, name: &[u8]) -> bool {
+fn is_this(blamed: Blamed<'_>, name: &[u8]) -> bool
+    ensures { IsTrue result → IsAround blamed.entry name.now }
+{
     match actor_of(blamed.tokens, blamed.place) {
         Some(actor) => word_at(blamed.tokens, actor) == name,
         None => false,
@@ -197,28 +276,85 @@ fn invariant_of(blamed: Blamed<'_>) -> Option<usize> {
     if actor < found { Some(found) } else { None }
 }
 
-/// Puts a text of a mistake behind another, with the tokens that it names.
-pub(crate) fn say_filled(text: &mut HintText, words: &str, blamed: Blamed<'_>) {
+/// Words with the tokens that they name by a `$`.
+///
+/// # Errors
+///
+/// `AllocError` where there is no memory for them.
+pub(crate) fn filled_text(
+    alloc: Global,
+    words: &[u8],
+    blamed: Blamed<'_>,
+) -> Result<Vec<u8>, AllocError>
+    ensures { IfOk result (λ text. IsFilled blamed.entry words.now text.items) }
+{
+    let mut text = Vec::new(alloc);
+    fill(
+        &mut text,
+        words,
+        blamed,
+        actor_of(blamed.tokens, blamed.place),
+    )?;
+    Ok(text)
+}
+
+fn fill(
+    text: &mut Vec<u8>,
+    words: &[u8],
+    blamed: Blamed<'_>,
+    actor: Option<usize>,
+) -> Result<(), AllocError>
+    ensures { OnOk result (text.new.items ≡ text.old.items ++ filled words.now false blamed.entry actor) }
+{
     let mut is_name = false;
-    for byte in words.as_bytes() {
-        if is_name {
-            is_name = false;
-            say_place(text, *byte, blamed);
-        } else if *byte == b'$' {
-            is_name = true;
-        } else {
-            text.say_bytes(&[*byte]);
-        }
+    for byte in words {
+        push_said(text, *byte, is_name, blamed, actor)?;
+        is_name = is_dollar(is_name, *byte);
+    }
+    Ok(())
+}
+
+// Whether a byte is a `$` in front of the next one.
+fn is_dollar(is_name: bool, byte: u8) -> bool
+    ensures { result ≡ is_dollar is_name byte }
+{
+    if is_name { false } else { byte == b'$' }
+}
+
+fn push_said(
+    text: &mut Vec<u8>,
+    byte: u8,
+    is_name: bool,
+    blamed: Blamed<'_>,
+    actor: Option<usize>,
+) -> Result<(), AllocError>
+    ensures { OnOk result (text.new.items ≡ text.old.items ++ said is_name blamed.entry actor byte) }
+{
+    if is_name {
+        push_named(text, byte, blamed, actor)
+    } else if byte == b'$' {
+        Ok(())
+    } else {
+        text.extend_from_slice(&[byte])
     }
 }
 
-fn say_place(text: &mut HintText, byte: u8, blamed: Blamed<'_>) {
-    if byte == b'a' {
-        if let Some(actor) = actor_of(blamed.tokens, blamed.place) {
-            text.say_token(blamed, actor);
-        }
-    } else if let Some(place) = place_in(blamed, byte.saturating_sub(b'0') as usize) {
-        text.say_token(blamed, place);
+fn push_named(
+    text: &mut Vec<u8>,
+    byte: u8,
+    blamed: Blamed<'_>,
+    actor: Option<usize>,
+) -> Result<(), AllocError>
+    ensures { OnOk result (text.new.items ≡ text.old.items ++ named blamed.entry actor byte) }
+{
+    let place = if byte == b'a' {
+        actor
+    } else {
+        place_in(blamed, usize::from(byte.saturating_sub(b'0')))
+    };
+    match place {
+        Some(place) => push_token(text, blamed, place),
+        None => Ok(()),
     }
 }
 
@@ -231,14 +367,13 @@ pub(crate) fn fix_of(
     match repair {
         Repair::Nothing => Ok(None),
         Repair::After(number, words) => match place_in(blamed, number) {
-            Some(place) => Ok(Some(filled(alloc, FixPlace::After(place), words, blamed)?)),
+            Some(place) => filled(alloc, FixPlace::After(place), words, blamed),
             None => Ok(None),
         },
         Repair::Over(first, last, words) => {
             match (place_in(blamed, first), place_in(blamed, last)) {
                 (Some(first), Some(last)) => {
-                    let place = FixPlace::Over(first, last);
-                    Ok(Some(filled(alloc, place, words, blamed)?))
+                    filled(alloc, FixPlace::Over(first, last), words, blamed)
                 }
                 _ => Ok(None),
             }
@@ -254,13 +389,9 @@ fn filled(
     place: FixPlace,
     words: &str,
     blamed: Blamed<'_>,
-) -> Result<Fix, AllocError> {
-    let mut text = HintText::new(alloc);
-    say_filled(&mut text, words, blamed);
-    Ok(Fix {
-        place,
-        text: text.finish()?,
-    })
+) -> Result<Option<Fix>, AllocError> {
+    let text = filled_text(alloc, words.as_bytes(), blamed)?;
+    Ok(Some(Fix { place, text }))
 }
 
 // So many braces that `open` are open.

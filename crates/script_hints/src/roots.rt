@@ -1,43 +1,63 @@
 //! Roots that wait for later ones.
 
-use crate::declared::{
-    Declared, actor_end, actor_named, declared_at, is_named, named_as, still_stands,
+ghost use Rattle.std.specs.Prelude.{◌≡◌, IfOk, IfSome};
+ghost use Rattle.script_hints.specs.Helps.{HelpsRoot, IsRoot, later_text};
+
+use crate::hint::{Hint, Note};
+use crate::text::{bytes, joined, quoted};
+use script_context::{
+    Blamed, Declared, actor_end, actor_named, declared_at, is_key, is_named, is_sign, name_at,
+    named_as, still_stands,
 };
-use crate::hint::{Blamed, Hint, Note};
-use crate::text::HintText;
-use crate::word::{is_key, is_sign, name_at};
 use script_tokens::{Keyword, Mark, Token};
 use std::alloc::{AllocError, Global};
 
 /// What helps at the keyword of a root that waits for itself or for a later one: which.
-pub fn root_hint(alloc: Global, blamed: Blamed<'_>) -> Result<Hint, AllocError> {
-    let mut help = HintText::new(alloc);
-    let note = match waited_for(alloc, blamed)? {
-        Some(place) if place == blamed.place.saturating_add(1) => {
-            help.say("it waits for itself, which never ends: wait for another root");
-            None
-        }
-        Some(place) => {
-            help.say("it waits for ");
-            help.quote(name_at(blamed.tokens, place).unwrap_or(b""));
-            help.say(", by its method or one that it calls: declare that root first");
-            Some(Note {
+///
+/// # Errors
+///
+/// `AllocError` where there is no memory for it.
+pub fn root_hint(alloc: Global, blamed: Blamed<'_>) -> Result<Hint, AllocError>
+    ensures { IfOk result (λ hint. HelpsRoot blamed.entry hint.help.items) }
+{
+    let Some(place) = waited_for(alloc, blamed)? else {
+        return Ok(Hint::none(alloc));
+    };
+    if place == blamed.place.saturating_add(1) {
+        let help = bytes(
+            alloc,
+            b"it waits for itself, which never ends: wait for another root",
+        );
+        return Hint::of(alloc, help, None, Ok(None));
+    }
+    match name_at(blamed.tokens, place) {
+        Some(name) => {
+            let note = Some(Note {
                 place,
                 label: "this root is declared later",
-            })
+            });
+            Hint::of(alloc, later_text(alloc, name), note, Ok(None))
         }
-        None => None,
-    };
-    Ok(Hint {
-        expected: Vec::new(alloc),
-        help: help.finish()?,
-        note,
-        fix: None,
-    })
+        None => Ok(Hint::none(alloc)),
+    }
+}
+
+fn later_text(alloc: Global, name: &[u8]) -> Result<Vec<u8>, AllocError>
+    ensures { IfOk result (λ text. text.items ≡ later_text name.now) }
+{
+    let name = quoted(alloc, name)?;
+    let parts: [&[u8]; 3] = [
+        b"it waits for ",
+        &name,
+        b", by its method or one that it calls: declare that root first",
+    ];
+    joined(alloc, &parts)
 }
 
 // Where the root is declared that is waited for: of what the root's method names, or a method that it calls, and so on.
-fn waited_for(alloc: Global, blamed: Blamed<'_>) -> Result<Option<usize>, AllocError> {
+fn waited_for(alloc: Global, blamed: Blamed<'_>) -> Result<Option<usize>, AllocError>
+    ensures { IfOk result (λ found. IfSome found (IsRoot blamed.entry)) }
+{
     let tokens = blamed.tokens;
     let mut reached = Vec::new(alloc);
     if let Some(method) = method_at(tokens, blamed.place.saturating_add(3)) {
@@ -90,7 +110,9 @@ fn method_end(tokens: &[Token], method: usize) -> usize {
 }
 
 // Where the root is declared that is waited for at a place, if that is the root that is blamed or a later one.
-fn later_root(blamed: Blamed<'_>, place: usize) -> Option<usize> {
+fn later_root(blamed: Blamed<'_>, place: usize) -> Option<usize>
+    ensures { IfSome result (IsRoot blamed.entry) }
+{
     let tokens = blamed.tokens;
     if !is_key(tokens, place, Keyword::Task) {
         return None;

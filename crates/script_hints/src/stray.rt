@@ -1,6 +1,9 @@
 //! Bytes outside ASCII.
 
-use crate::text::HintText;
+ghost use Rattle.std.specs.Prelude.{◌≡◌, IfOk, Ok};
+ghost use Rattle.script_hints.specs.Helps.{HelpsStray, stray_head, stray_text};
+
+use crate::text::{bytes, joined};
 use std::alloc::{AllocError, Global};
 
 /// What helps where a byte stands that no script has (our own).
@@ -15,28 +18,68 @@ pub struct StrayHint {
 }
 
 /// What helps at a byte that no script has, by the text from it on, and whether it stands in a comment.
-pub fn stray_hint(alloc: Global, rest: &[u8], in_comment: bool) -> Result<StrayHint, AllocError> {
+///
+/// # Errors
+///
+/// `AllocError` where there is no memory for it.
+pub fn stray_hint(alloc: Global, rest: &[u8], in_comment: bool) -> Result<StrayHint, AllocError>
+    ensures { IfOk result (λ hint. HelpsStray in_comment hint.width hint.help.items) }
+{
     let (code, width) = character(rest);
-    let mut help = HintText::new(alloc);
-    if width == 1 {
-        help.say("this byte is ");
-        say_hexadecimal(&mut help, code, 2);
-    } else {
-        help.say("these ");
-        help.say_count(width);
-        help.say(" bytes are the character U+");
-        say_hexadecimal(&mut help, code, if code > 0xFFFF { 6 } else { 4 });
-    }
-    if in_comment {
-        help.say(", in a comment");
-    }
-    help.say(": a script has only printable ASCII, tabs, LF and CR");
-    help.say(if in_comment { ", in comments too" } else { "" });
+    let digits = hexadecimal(alloc, code, digits_of(code, width))?;
+    let help = stray_text(alloc, width, &digits, in_comment)?;
     Ok(StrayHint {
-        help: help.finish()?,
+        help,
         width,
         text: in_ascii(code),
     })
+}
+
+fn stray_text(
+    alloc: Global,
+    width: usize,
+    digits: &[u8],
+    in_comment: bool,
+) -> Result<Vec<u8>, AllocError>
+    ensures { IfOk result (λ text. text.items ≡ stray_text in_comment width digits.now) }
+{
+    let head = stray_head(alloc, width)?;
+    let place: &[u8] = if in_comment { b", in a comment" } else { b"" };
+    let end: &[u8] = if in_comment {
+        b", in comments too"
+    } else {
+        b""
+    };
+    let parts: [&[u8]; 5] = [
+        &head,
+        digits,
+        place,
+        b": a script has only printable ASCII, tabs, LF and CR",
+        end,
+    ];
+    joined(alloc, &parts)
+}
+
+fn stray_head(alloc: Global, width: usize) -> Result<Vec<u8>, AllocError>
+    ensures { IfOk result (λ text. text.items ≡ stray_head width) }
+{
+    if width == 1 {
+        return bytes(alloc, b"this byte is ");
+    }
+    let count = width.to_string(alloc)?;
+    let parts: [&[u8]; 3] = [b"these ", count.as_bytes(), b" bytes are the character U+"];
+    joined(alloc, &parts)
+}
+
+// How many digits of the number of a character are written, or of a byte.
+fn digits_of(code: u32, width: usize) -> u32 {
+    if width == 1 {
+        2
+    } else if code > 0xFFFF {
+        6
+    } else {
+        4
+    }
 }
 
 // The character at the front, and how many bytes it has; a byte that begins none by itself.
@@ -73,18 +116,18 @@ fn six(byte: u8) -> u32 {
     u32::from(byte & 0x3F)
 }
 
-static DIGITS: [&str; 16] = [
-    "0", "1", "2", "3", "4", "5", "6", "7", "8", "9", "A", "B", "C", "D", "E", "F",
-];
+static DIGITS: [u8; 16] = *b"0123456789ABCDEF";
 
 // The last so many digits of a number.
-fn say_hexadecimal(text: &mut HintText, number: u32, digits: u32) {
+fn hexadecimal(alloc: Global, number: u32, digits: u32) -> Result<Vec<u8>, AllocError> {
+    let mut text = Vec::new(alloc);
     for place in (0..8u32).rev() {
         if place < digits {
             let digit = (number >> (4 * place)) & 0xF;
-            text.say(DIGITS[digit as usize]);
+            text.push(DIGITS[digit as usize])?;
         }
     }
+    Ok(text)
 }
 
 // What is written for a character in ASCII.
