@@ -1,5 +1,5 @@
 -- What is said to help at some bytes of a text that is refused (our own).
-use Rattle.std.specs.Prelude.{◌≡◌, ◌≤◌, ◌==◌, ℕ, Bool, Option, Some, None, List, [], length, map, min, slice_range, take, if◌then◌else◌}
+use Rattle.std.specs.Prelude.{◌≡◌, ◌⊎◌, ◌≤◌, ◌==◌, ℕ, Bool, Option, Some, None, List, [], length, map, min, slice_range, take, if◌then◌else◌}
 use Rattle.script_tokens.specs.Lexes.{Lexes}
 use Rattle.script_tokens.specs.Pieces.{TokenView, piece}
 use Rattle.script_context.specs.declared.blamed.Blamed.{Blamed}
@@ -69,8 +69,7 @@ pub record HelpsByte (help : List ℕ) : Type 0 where
 -- What helps at the bytes that a refusal blames; nothing where these are not known.
 abbrev pub IsHelp : ScriptFaultKind → List ℕ → Option Span → List ℕ → Type 0
 IsHelp cause text None help = help ≡ []
-IsHelp kind.NotText text (Some s) help = HelpsByte help
-IsHelp cause text (Some s) help = HelpsToken cause text s help
+IsHelp cause text (Some s) help = HelpsToken cause text s help ⊎ ((cause ≡ kind.NotText) × HelpsByte help)
 
 -- what is said to do: what helps, or, where that is nothing, what the page of the refusal says
 abbrev pub help_text : List ℕ → Page → List ℕ

@@ -24,7 +24,7 @@ abbrev pub escaped_byte : ℕ → List ℕ
 escaped_byte b = if b == 34 then 92 ∷ 34 ∷ [] else (if b == 92 then 92 ∷ 92 ∷ [] else b ∷ [])
 
 -- a text of printable ASCII, as JSON has it in a text
-pub escaped : List ℕ → List ℕ
+abbrev pub escaped : List ℕ → List ℕ
 escaped [] = []
 escaped (b ∷ bs) = escaped_byte b ++ escaped bs
 

@@ -1,8 +1,11 @@
 -- What is said, by the calls that made it.
-use Rattle.std.proofs.Common.{◌≡◌, ℕ, List, [], ◌∷◌, Bor, map, get_or, refl, sym, subst, ◌∙◌, zero, suc}
+use Rattle.std.proofs.Common.{◌≡◌, ℕ, List, [], ◌∷◌, Bor, map, get_or, refl, sym, subst, zero, suc}
 use Rattle.std.specs.Prelude.{Result, Ok, Err, IfOk}
 use Rattle.std.specs.declared.vec.Vec.{Vec}
 use Rattle.std.specs.declared.alloc.Global.{Global}
+use Rattle.script_context.specs.declared.blamed.Blamed.{Blamed}
+use Rattle.script_hints.specs.Helps.{HelpsUnexpected, IsFilled, mistake}
+use Rattle.script_hints.specs.Mistakes.{IsKnown, StandsAround}
 use Rattle.script_hints.specs.declared.hint.Hint.{Hint}
 
 -- a text that is these bytes says what they say
@@ -29,3 +32,8 @@ pub word_is : (words : List (Bor (List ℕ))) (n : ℕ) (none : Bor (List ℕ)) 
 word_is [] n none is = is
 word_is (w ∷ ws) zero none is = refl
 word_is (w ∷ ws) (suc n) none is = word_is ws n none is
+
+-- words of a mistake whose tokens stand around the place help there
+pub filled_says : {E : Type 0} (b : Blamed) (words : List (List ℕ)) (help : List ℕ) (r : Result (Vec ℕ Global) E) → IsKnown words → StandsAround b words → help ≡ get_or words 8 [] → IfOk r (λ t. IsFilled b help t.items) → IfOk r (λ t. HelpsUnexpected b t.items)
+filled_says b words help (Ok t) known stands is filled = mistake words t.items known stands (subst (λ (x : List ℕ). IsFilled b x t.items) is filled)
+filled_says b words help (Err e) known stands is filled = tt

@@ -47,11 +47,9 @@ pub data HelpsUnexpected (b : Blamed) : List ℕ → Type 0 where
 abbrev pub missing_text : ℕ → List ℕ
 missing_text n = concat (codes "close what is open: " ∷ counted n (codes "brace") ∷ (if n == 1 then codes " is missing" else codes " are missing") ∷ [])
 
--- What helps where a text ends early.
-pub data HelpsEnd : List ℕ → Type 0 where
-  semicolon : HelpsEnd (codes "add `;` at the end")
-  braces : (n : ℕ) → HelpsEnd (missing_text n)
-  rest : HelpsEnd (codes "write the rest")
+-- What helps where a text ends early: what to add, or that the rest is missing.
+abbrev pub HelpsEnd : List ℕ → Type 0
+HelpsEnd help = (help ≡ codes "add `;` at the end") ⊎ ((n : ℕ) × (help ≡ missing_text n)) ⊎ (help ≡ codes "write the rest")
 
 -- What helps at a number that is too large.
 abbrev pub HelpsHuge : Blamed → List ℕ → Type 0
@@ -145,15 +143,19 @@ pub data HelpsUnknown (b : Blamed) : List ℕ → Type 0 where
 abbrev pub taken_text : List ℕ → Declared → List ℕ → List ℕ
 taken_text name d words = concat (concat (quoted name ∷ codes " is the name of " ∷ called d ∷ []) ∷ concat (words ∷ name ∷ codes "2`" ∷ []) ∷ [])
 
--- What is declared at a place has the name of a field.
-abbrev pub IsShared : Blamed → ℕ → Declared → Type 0
-IsShared b at d = IsDeclared b.tokens.now at d × IfSome (name_at b.tokens.now at) (λ name. (field : ℕ) × IsNamedAs b.tokens.now field name declared.Field)
+-- A field has this name.
+abbrev pub HasField : Blamed → List ℕ → Type 0
+HasField b name = (field : ℕ) × IsNamedAs b.tokens.now field name declared.Field
+
+-- The name at a place is that of a field.
+abbrev pub IsShared : Blamed → ℕ → Type 0
+IsShared b at = IfSome (name_at b.tokens.now at) (HasField b)
 
 -- What helps where a name is taken: nothing, or what has it.
 pub data HelpsTwice (b : Blamed) : List ℕ → Type 0 where
   not_taken : HelpsTwice b []
   taken : (at : ℕ) (d : Declared) → IsNamedAs b.tokens.now at b.found.now d → HelpsTwice b (taken_text b.found.now d (codes ": give this one another name, as `"))
-  shared : (at field : ℕ) (d : Declared) (name : List ℕ) → IsNamedAs b.tokens.now at name d → IsNamedAs b.tokens.now field name declared.Field → HelpsTwice b (taken_text name d (codes ", and of a field of this actor: give the first another name, as `"))
+  shared : (at : ℕ) (d : Declared) (name : List ℕ) → IsNamedAs b.tokens.now at name d → HasField b name → HelpsTwice b (taken_text name d (codes ", and of a field of this actor: give the first another name, as `"))
 
 -- what gives the value of a task, or that of a group's next child
 abbrev pub value_text : List ℕ → Declared → List ℕ → List ℕ
@@ -170,11 +172,13 @@ pub data HelpsConfused (b : Blamed) : List ℕ → Type 0 where
 abbrev pub stray_head : ℕ → List ℕ
 stray_head width = if width == 1 then codes "this byte is " else concat (codes "these " ∷ decimal width ∷ codes " bytes are the character U+" ∷ [])
 
+-- what stands behind that number, by whether it is of a comment
+abbrev pub stray_end : Bool → List ℕ
+stray_end in_comment = concat ((if in_comment then codes ", in a comment" else []) ∷ codes ": a script has only printable ASCII, tabs, LF and CR" ∷ (if in_comment then codes ", in comments too" else []) ∷ [])
+
 -- what is said of a byte or a character by its number, and whether it stands in a comment
 abbrev pub stray_text : Bool → ℕ → List ℕ → List ℕ
-stray_text in_comment width digits = concat (
-    stray_head width ∷ digits ∷ (if in_comment then codes ", in a comment" else []) ∷ codes ": a script has only printable ASCII, tabs, LF and CR" ∷ (if in_comment then codes ", in comments too" else []) ∷ []
-    )
+stray_text in_comment width digits = concat (stray_head width ∷ digits ∷ stray_end in_comment ∷ [])
 
 -- What helps at a byte that no script has, by whether it stands in a comment, and how many bytes are to be replaced.
 pub record HelpsStray (in_comment : Bool) (width : ℕ) (help : List ℕ) : Type 0 where

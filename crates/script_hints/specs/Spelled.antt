@@ -41,6 +41,6 @@ is_dollar true c = false
 is_dollar false c = c == 36
 
 -- words with the tokens that they name by a `$`; the truth value says whether a `$` stands in front of them
-pub filled : List ℕ → Bool → Blamed → Option ℕ → List ℕ
+abbrev pub filled : List ℕ → Bool → Blamed → Option ℕ → List ℕ
 filled [] is_name b actor = []
 filled (c ∷ cs) is_name b actor = said is_name b actor c ++ filled cs (is_dollar is_name c) b actor

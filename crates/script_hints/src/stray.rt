@@ -1,7 +1,7 @@
 //! Bytes outside ASCII.
 
-ghost use Rattle.std.specs.Prelude.{◌≡◌, IfOk, Ok};
-ghost use Rattle.script_hints.specs.Helps.{HelpsStray, stray_head, stray_text};
+ghost use Rattle.std.specs.Prelude.{◌≡◌, [], if◌then◌else◌, IfOk, codes};
+ghost use Rattle.script_hints.specs.Helps.{HelpsStray, stray_end, stray_head, stray_text};
 
 use crate::text::{bytes, joined};
 use std::alloc::{AllocError, Global};
@@ -44,20 +44,36 @@ fn stray_text(
     ensures { IfOk result (λ text. text.items ≡ stray_text in_comment width digits.now) }
 {
     let head = stray_head(alloc, width)?;
-    let place: &[u8] = if in_comment { b", in a comment" } else { b"" };
-    let end: &[u8] = if in_comment {
+    let end = stray_end(alloc, in_comment)?;
+    let parts: [&[u8]; 3] = [&head, digits, &end];
+    joined(alloc, &parts)
+}
+
+fn stray_end(alloc: Global, in_comment: bool) -> Result<Vec<u8>, AllocError>
+    ensures { IfOk result (λ text. text.items ≡ stray_end in_comment) }
+{
+    let parts: [&[u8]; 3] = [
+        place_words(in_comment),
+        b": a script has only printable ASCII, tabs, LF and CR",
+        end_words(in_comment),
+    ];
+    joined(alloc, &parts)
+}
+
+fn place_words(in_comment: bool) -> &'static [u8]
+    ensures { result.now ≡ (if in_comment then codes ", in a comment" else []) }
+{
+    if in_comment { b", in a comment" } else { b"" }
+}
+
+fn end_words(in_comment: bool) -> &'static [u8]
+    ensures { result.now ≡ (if in_comment then codes ", in comments too" else []) }
+{
+    if in_comment {
         b", in comments too"
     } else {
         b""
-    };
-    let parts: [&[u8]; 5] = [
-        &head,
-        digits,
-        place,
-        b": a script has only printable ASCII, tabs, LF and CR",
-        end,
-    ];
-    joined(alloc, &parts)
+    }
 }
 
 fn stray_head(alloc: Global, width: usize) -> Result<Vec<u8>, AllocError>

@@ -2,7 +2,6 @@
 
 ghost use Rattle.std.specs.Prelude.{◌≡◌, ◌==◌, if◌then◌else◌, IfOk, Ok, codes, map};
 ghost use Rattle.script_hints.specs.Helps.{HelpsEnd, HelpsUnexpected, keyword_text, missing_text};
-ghost use Rattle.script_hints.specs.declared.hint.Hint.{Hint};
 ghost use Rattle.script_hints.specs.Mistakes.{IsKnown, StandsAround};
 
 use crate::hint::{Fix, Hint, Note};
@@ -25,11 +24,17 @@ pub fn unexpected_hint(alloc: Global, blamed: Blamed<'_>) -> Result<Hint, AllocE
     ensures { IfOk result (λ hint. HelpsUnexpected blamed.entry hint.help.items) }
 {
     let expected = find_expected(alloc, blamed)?;
-    let hint = match mistake_at(blamed, &expected) {
-        Some(made) => of_mistake(alloc, blamed, made),
-        None => misspelled(alloc, blamed, &expected),
-    };
+    let hint = hint_of(alloc, blamed, &expected)?;
     with_expected(alloc, blamed, &expected, hint)
+}
+
+fn hint_of(alloc: Global, blamed: Blamed<'_>, expected: &Expected) -> Result<Hint, AllocError>
+    ensures { IfOk result (λ hint. HelpsUnexpected blamed.entry hint.help.items) }
+{
+    match mistake_at(blamed, expected) {
+        Some(made) => of_mistake(alloc, blamed, made),
+        None => misspelled(alloc, blamed, expected),
+    }
 }
 
 // A hint, with what could stand at the place.
@@ -37,11 +42,10 @@ fn with_expected(
     alloc: Global,
     blamed: Blamed<'_>,
     expected: &Expected,
-    hint: Result<Hint, AllocError>,
+    hint: Hint,
 ) -> Result<Hint, AllocError>
-    ensures { IfOk result (λ told. (given : Hint) × (hint ≡ Ok given) × (told.help ≡ given.help)) }
+    ensures { IfOk result (λ told. told.help.items ≡ hint.help.items) }
 {
-    let hint = hint?;
     let said = list_expected(alloc, blamed, expected)?;
     let Hint {
         help,
@@ -139,7 +143,14 @@ pub fn end_hint(alloc: Global, blamed: Blamed<'_>) -> Result<Hint, AllocError>
     ensures { IfOk result (λ hint. HelpsEnd hint.help.items) }
 {
     let expected = find_expected(alloc, blamed)?;
-    let hint = if expected.has(";") {
+    let hint = end_of(alloc, blamed, &expected)?;
+    with_expected(alloc, blamed, &expected, hint)
+}
+
+fn end_of(alloc: Global, blamed: Blamed<'_>, expected: &Expected) -> Result<Hint, AllocError>
+    ensures { IfOk result (λ hint. HelpsEnd hint.help.items) }
+{
+    if expected.has(";") {
         let help = bytes(alloc, b"add `;` at the end");
         ended(alloc, blamed, help, Repair::After(1, ";"))
     } else if expected.has("}") {
@@ -148,8 +159,7 @@ pub fn end_hint(alloc: Global, blamed: Blamed<'_>) -> Result<Hint, AllocError>
     } else {
         let help = bytes(alloc, b"write the rest");
         ended(alloc, blamed, help, Repair::Nothing)
-    };
-    with_expected(alloc, blamed, &expected, hint)
+    }
 }
 
 fn missing_text(alloc: Global, count: usize) -> Result<Vec<u8>, AllocError>

@@ -26,24 +26,44 @@ pub fn twice_hint(alloc: Global, blamed: Blamed<'_>) -> Result<Hint, AllocError>
         return shared_hint(alloc, blamed);
     }
     match first_of(blamed) {
-        Some((place, kind)) => {
-            let note = Some(Note {
-                place,
-                label: kind.label(),
-            });
-            let words = b": give this one another name, as `";
-            let help = taken_text(alloc, blamed.found, kind, words);
-            Hint::of(alloc, help, note, Ok(None))
-        }
+        Some((place, kind)) => taken_hint(alloc, blamed, place, kind),
         None => Ok(Hint::none(alloc)),
     }
+}
+
+fn taken_hint(
+    alloc: Global,
+    blamed: Blamed<'_>,
+    place: usize,
+    kind: Declared,
+) -> Result<Hint, AllocError>
+    requires { IsNamedAs blamed.tokens.now place blamed.found.now kind }
+    ensures { IfOk result (λ hint. HelpsTwice blamed.entry hint.help.items) }
+{
+    let note = Some(Note {
+        place,
+        label: kind.label(),
+    });
+    let words = b": give this one another name, as `";
+    let help = taken_text(alloc, blamed.found, kind, words);
+    Hint::of(alloc, help, note, Ok(None))
 }
 
 // What helps at the actor of an `assume` that has a field of a name that is taken.
 fn shared_hint(alloc: Global, blamed: Blamed<'_>) -> Result<Hint, AllocError>
     ensures { IfOk result (λ hint. HelpsTwice blamed.entry hint.help.items) }
 {
-    let Some((place, kind)) = field_taken(blamed) else {
+    match field_taken(blamed) {
+        Some(place) => shared_at(alloc, blamed, place),
+        None => Ok(Hint::none(alloc)),
+    }
+}
+
+fn shared_at(alloc: Global, blamed: Blamed<'_>, place: usize) -> Result<Hint, AllocError>
+    requires { IsShared blamed place }
+    ensures { IfOk result (λ hint. HelpsTwice blamed.entry hint.help.items) }
+{
+    let Some(kind) = declared_at(blamed.tokens, place) else {
         return Ok(Hint::none(alloc));
     };
     let Some(name) = name_at(blamed.tokens, place) else {
@@ -125,8 +145,8 @@ fn is_one_space(
 }
 
 // What has the name of a field of the actor that is named at the place.
-fn field_taken(blamed: Blamed<'_>) -> Option<(usize, Declared)>
-    ensures { IfSome result (λ found. IsShared blamed.entry found.0 found.1) }
+fn field_taken(blamed: Blamed<'_>) -> Option<usize>
+    ensures { IfSome result (IsShared blamed.entry) }
 {
     let tokens = blamed.tokens;
     let actor = actor_named(tokens, blamed.found)?;
@@ -138,7 +158,7 @@ fn field_taken(blamed: Blamed<'_>) -> Option<(usize, Declared)>
             && let Some(name) = name_at(tokens, at)
             && named_as(tokens, actor, end, name, Declared::Field).is_some()
         {
-            return Some((at, kind));
+            return Some(at);
         }
     }
     None

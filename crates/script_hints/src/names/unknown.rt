@@ -1,6 +1,6 @@
 //! Names that stand for nothing.
 
-ghost use Rattle.std.specs.Prelude.{◌≡◌, ◌∷◌, [], ◌⊎◌, IfOk, IfSome, IsSome, codes};
+ghost use Rattle.std.specs.Prelude.{◌≡◌, ◌∷◌, [], ◌⊎◌, IfOk, IfSome, codes};
 ghost use Rattle.std.specs.List.{concat};
 ghost use Rattle.script_context.specs.Declarations.{IsDeclared, IsNamedAs};
 ghost use Rattle.script_hints.specs.Helps.{HelpsUnknown, apart_words, late_text, local_text, near_text, quoted, root_text, undeclared_text};
@@ -29,8 +29,7 @@ pub fn unknown_hint(alloc: Global, blamed: Blamed<'_>) -> Result<Hint, AllocErro
         return meant_number(alloc, blamed, number);
     }
     if wanted == Wanted::Actor
-        && blamed.found == b"self".as_slice()
-        && let Some(actor) = actor_of(blamed.tokens, blamed.place)
+        && let Some(actor) = own_actor(blamed)
     {
         return own_name(alloc, blamed, actor);
     }
@@ -45,7 +44,7 @@ pub fn unknown_hint(alloc: Global, blamed: Blamed<'_>) -> Result<Hint, AllocErro
 
 // The number that is meant by a word of another language.
 fn number_meant(name: &[u8]) -> Option<&'static [u8]>
-    ensures { IsSome result → (name.now ≡ codes "true") ⊎ (name.now ≡ codes "false") }
+    ensures { IfSome result (λ number. (name.now ≡ codes "true") ⊎ (name.now ≡ codes "false")) }
 {
     if name == b"true".as_slice() {
         Some(b"1")
@@ -62,6 +61,17 @@ fn meant_number(alloc: Global, blamed: Blamed<'_>, number: &[u8]) -> Result<Hint
     let fix = Fix::over(alloc, blamed.place, number);
     let help = bytes(alloc, b"`1` stands for true, and `0` for false");
     Hint::of(alloc, help, None, fix)
+}
+
+// The actor that is meant by `self`.
+fn own_actor(blamed: Blamed<'_>) -> Option<usize>
+    ensures { IfSome result (λ actor. blamed.entry.found.now ≡ codes "self") }
+{
+    if blamed.found == b"self".as_slice() {
+        actor_of(blamed.tokens, blamed.place)
+    } else {
+        None
+    }
 }
 
 fn own_name(alloc: Global, blamed: Blamed<'_>, actor: usize) -> Result<Hint, AllocError>
