@@ -1,5 +1,5 @@
 -- What is said to help, by what is at fault (our own).
-use Rattle.std.specs.Prelude.{◌≡◌, ◌⊎◌, ◌<◌, ◌==◌, ◌-◌, ℕ, Bool, Option, Some, None, IfSome, MatchOption, List, [], ◌∷◌, codes, decimal, slice_index_or, false, if◌then◌else◌}
+use Rattle.std.specs.Prelude.{◌≡◌, ◌⊎◌, ◌==◌, ◌-◌, ℕ, Bool, Option, Some, IfSome, MatchOption, List, [], ◌∷◌, codes, decimal, slice_index_or, false, if◌then◌else◌}
 use Rattle.std.specs.List.{concat}
 use Rattle.script_tokens.specs.Spelling.{spelling}
 use Rattle.script_tokens.specs.declared.keyword.Keyword.{Keyword}

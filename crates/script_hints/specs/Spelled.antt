@@ -1,10 +1,9 @@
 -- Tokens as they are spelled in a hint (our own).
 use Rattle.std.specs.Prelude.{◌+◌, ◌-◌, ◌==◌, ◌&&◌, ℕ, Bool, Option, Some, None, List, [], ◌∷◌, ◌++◌, nat_le, slice_get, true, false, if◌then◌else◌}
 use Rattle.std.specs.Fmt.{signed_decimal}
-use Rattle.script_tokens.specs.declared.keyword.Keyword.TheVariants.{Actor}
 use Rattle.script_tokens.specs.declared.token.Token.{Token}
 use Rattle.script_tokens.specs.declared.token.Token.TheVariants.{Num}
-use Rattle.script_context.specs.Words.{IsKeyAt, word}
+use Rattle.script_context.specs.Words.{word}
 use Rattle.script_context.specs.declared.blamed.Blamed.{Blamed}
 
 -- the spelling of a token that may be there; a number in decimal

@@ -1,5 +1,5 @@
-use Rattle.std.proofs.Common.{◌≡◌, refl, sym, subst, ◌∙◌, inl, inr}
-use Rattle.script_hints.proofs.Told.{hint_is, hint_says, help_says, text_says}
+use Rattle.std.proofs.Common.{sym, subst}
+use Rattle.script_hints.proofs.Told.{hint_is}
 use Rattle.script_hints.specs.Helps.{HelpsArguments, no_counts, counts}
 use Rattle.script_hints.proofs.arguments.arguments_hint.Goals as goal
 

@@ -1,4 +1,3 @@
-use Rattle.std.proofs.Common.{◌≡◌, refl, sym, subst}
 use Rattle.script_hints.proofs.Told.{hint_is}
 use Rattle.script_hints.specs.Helps.{HelpsInvariant, never}
 use Rattle.script_hints.proofs.limits.false_invariant_hint.Goals as goal

@@ -1,5 +1,4 @@
-use Rattle.std.proofs.Common.{◌≡◌, refl, sym, subst, ◌∙◌, inl, inr}
-use Rattle.script_hints.proofs.Told.{hint_is, hint_says, help_says, text_says}
+use Rattle.script_hints.proofs.Told.{text_says}
 use Rattle.script_hints.specs.Helps.{HelpsInvariant, starts}
 use Rattle.script_hints.proofs.limits.starts_text.Goals as goal
 

@@ -1,4 +1,4 @@
-use Rattle.std.proofs.Common.{◌≡◌, ℕ, Option, IfSome, sym, subst, ◌∙◌, map}
+use Rattle.std.proofs.Common.{ℕ, Option, IfSome, sym, subst}
 use Rattle.script_hints.proofs.Told.{hint_is}
 use Rattle.script_hints.specs.Helps.{HelpsRoot, IsRoot, no_root, itself, later}
 use Rattle.script_hints.proofs.roots.root_hint.Goals as goal

@@ -1,5 +1,4 @@
-use Rattle.std.proofs.Common.{◌≡◌, refl, sym, subst, ◌∙◌, inl, inr}
-use Rattle.script_hints.proofs.Told.{hint_is, hint_says, help_says, text_says}
+use Rattle.script_hints.proofs.Told.{hint_is}
 use Rattle.script_hints.specs.Helps.{HelpsUnexpected, keyword}
 use Rattle.script_hints.proofs.unexpected.meant.Goals as goal
 

@@ -1,4 +1,4 @@
-use Rattle.std.proofs.Common.{◌≡◌, ℕ, Option, IfSome, sym, subst, ◌∙◌, map}
+use Rattle.std.proofs.Common.{sym, subst}
 use Rattle.script_hints.specs.Helps.{HelpsUnexpected, no_help}
 use Rattle.script_hints.proofs.unexpected.misspelled_at.Goals as goal
 

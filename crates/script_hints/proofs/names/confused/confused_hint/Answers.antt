@@ -1,4 +1,4 @@
-use Rattle.std.proofs.Common.{◌≡◌, refl, sym, subst}
+use Rattle.std.proofs.Common.{sym, subst}
 use Rattle.script_hints.proofs.Told.{hint_says}
 use Rattle.script_hints.specs.Helps.{HelpsConfused, not_meant}
 use Rattle.script_hints.proofs.names.confused.confused_hint.Goals as goal

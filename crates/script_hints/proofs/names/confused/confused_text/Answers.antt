@@ -1,4 +1,4 @@
-use Rattle.std.proofs.Common.{◌≡◌, refl, sym, subst}
+use Rattle.std.proofs.Common.{subst}
 use Rattle.script_context.specs.Declarations.{IsNamedAs}
 use Rattle.script_hints.proofs.Told.{text_says}
 use Rattle.script_hints.specs.Helps.{HelpsConfused, group, meant, task}

@@ -1,4 +1,3 @@
-use Rattle.std.proofs.Common.{◌≡◌, ℕ, Option, IfSome, sym, subst, ◌∙◌, map}
 use Rattle.script_hints.proofs.Told.{hint_is}
 use Rattle.script_hints.specs.Helps.{HelpsTwice, taken}
 use Rattle.script_hints.proofs.names.twice.taken_hint.Goals as goal

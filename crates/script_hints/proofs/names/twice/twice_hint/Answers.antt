@@ -1,4 +1,4 @@
-use Rattle.std.proofs.Common.{◌≡◌, ℕ, Option, IfSome, sym, subst, ◌∙◌, map}
+use Rattle.std.proofs.Common.{sym, subst}
 use Rattle.script_hints.specs.Helps.{HelpsTwice, not_taken}
 use Rattle.script_hints.proofs.names.twice.twice_hint.Goals as goal
 

@@ -1,6 +1,5 @@
-use Rattle.std.proofs.Common.{◌≡◌, refl, sym, subst, ◌∙◌, inl, inr}
 use Rattle.script_context.specs.declared.wanted.Wanted.TheVariants as wanted
-use Rattle.script_hints.proofs.Told.{hint_is, hint_says, help_says, text_says}
+use Rattle.script_hints.proofs.Told.{hint_is, help_says}
 use Rattle.script_hints.specs.Helps.{HelpsUnknown, near, undeclared}
 use Rattle.script_hints.proofs.names.unknown.nearly.Goals as goal
 

@@ -1,4 +1,3 @@
-use Rattle.std.proofs.Common.{◌≡◌, ℕ, Option, IfSome, sym, subst, ◌∙◌, map}
 use Rattle.script_hints.proofs.Told.{help_says}
 use Rattle.script_hints.specs.Helps.{HelpsUnknown, this, truth, undeclared}
 use Rattle.script_hints.proofs.names.unknown.unknown_hint.Goals as goal
