@@ -96,16 +96,16 @@ rootless_json n = if n == 0 then codes "{\"severity\":\"note\",\"code\":\"\",\"t
 abbrev pub counts_json : ScriptView → List ℕ
 counts_json s = concat (codes "\"actors\":" ∷ decimal (actor_count s) ∷ codes ",\"methods\":" ∷ decimal (method_count s) ∷ codes ",\"roots\":" ∷ decimal (root_count s) ∷ codes "," ∷ [])
 
--- The counts of a script are said, behind the name of a file.
-pub record SaysCounts (script : ScriptView) (said : List ℕ) : Type 0 where
-  pub file : List ℕ
-  pub is : said ≡ concat (codes "{\"file\":\"" ∷ file ∷ codes "\",\"accepted\":true," ∷ counts_json script ∷ codes "\"diagnostics\":[" ∷ rootless_json (root_count script) ∷ codes "]}\n" ∷ [])
+-- what is said of a script, with the name of the file as JSON has it
+abbrev pub accepted_json : List ℕ → ScriptView → List ℕ
+accepted_json file s = concat (codes "{\"file\":\"" ∷ file ∷ codes "\",\"accepted\":true," ∷ counts_json s ∷ codes "\"diagnostics\":[" ∷ rootless_json (root_count s) ∷ codes "]}\n" ∷ [])
 
--- A text is accepted, and its counts are said.
+-- A text is accepted, and its counts are said. How the name of the file is written, this does not say.
 pub record IsAcceptedJson (text said : List ℕ) : Type 0 where
   pub script : ScriptView
   pub accepted : IsAccepted text script
-  pub says : SaysCounts script said
+  pub file : List ℕ
+  pub is : said ≡ accepted_json file script
 
 -- what an answer as JSON says of a text
 abbrev pub Tells : List ℕ → Checked → Type 0

@@ -6,7 +6,7 @@ ghost use Rattle.swift_script.specs.FaultLines.{IsAtItsLine};
 ghost use Rattle.swift_script.specs.Refuses.{Refuses};
 ghost use Rattle.nuchapay_tool.specs.Advised.{help_text};
 ghost use Rattle.nuchapay_tool.specs.Marks.{mark_of};
-ghost use Rattle.nuchapay_tool.specs.ChecksJson.{IsRefusedJson, SaysCounts, Tells, advice_json, column_of, counts_json, from_of, head_json, place_json, rootless_json, second_json, to_of};
+ghost use Rattle.nuchapay_tool.specs.ChecksJson.{IsRefusedJson, Tells, accepted_json, advice_json, column_of, counts_json, from_of, head_json, place_json, rootless_json, second_json, to_of};
 
 use crate::advice::{Second, advise};
 use crate::checks::{Checked, help_of};
@@ -33,16 +33,18 @@ pub fn check_json(alloc: Global, file: &str, text: &[u8]) -> Result<Checked, All
     ensures { IfOk result (Tells text.now) }
 {
     match read(alloc, text) {
-        Ok(script) => Ok(Checked::Accepted(accepted_json(alloc, file, &script)?)),
+        Ok(script) => {
+            let name = escaped_name(alloc, file)?;
+            Ok(Checked::Accepted(accepted_json(alloc, &name, &script)?))
+        }
         Err(fault) => Ok(Checked::Refused(refused_json(alloc, file, text, fault)?)),
     }
 }
 
 // What is said of a script.
-fn accepted_json(alloc: Global, file: &str, script: &Script) -> Result<String, AllocError>
-    ensures { IfOk result (λ said. SaysCounts script.now (string_bytes said)) }
+fn accepted_json(alloc: Global, name: &String, script: &Script) -> Result<String, AllocError>
+    ensures { IfOk result (λ said. string_bytes said ≡ accepted_json (string_bytes name.now) script.now) }
 {
-    let name = escaped_name(alloc, file)?;
     let counts = counts_json(alloc, script)?;
     let parts = [
         "{\"file\":\"",
@@ -100,13 +102,13 @@ fn refused_json(
     let span = blamed(alloc, text, fault.kind)?;
     let page = page_of(Topic::Script(fault.kind));
     let advice = advise(alloc, text, fault.kind, span)?;
+    let second = second_json(alloc, text, advice.second)?;
     let help = help_of(advice.help.as_str(), page);
     let said = advice_json(alloc, advice.expected.as_str(), help)?;
-    let second = second_json(alloc, text, advice.second)?;
     let fix = fix_json(alloc, text, &advice.fix)?;
     drop(advice);
     let name = escaped_name(alloc, file)?;
-    let head = head_json(alloc, name.as_str(), page)?;
+    let head = head_json(alloc, &name, page)?;
     let mark = mark_of(text, fault.line, span);
     let place = place_json(alloc, text, fault.line, span, mark)?;
     let parts = [
@@ -121,12 +123,12 @@ fn refused_json(
 }
 
 // The beginning, up to the place.
-fn head_json(alloc: Global, name: &str, page: &Page) -> Result<String, AllocError>
-    ensures { IfOk result (λ said. string_bytes said ≡ head_json name.now page.now) }
+fn head_json(alloc: Global, name: &String, page: &Page) -> Result<String, AllocError>
+    ensures { IfOk result (λ said. string_bytes said ≡ head_json (string_bytes name.now) page.now) }
 {
     let parts = [
         "{\"file\":\"",
-        name,
+        name.as_str(),
         "\",\"accepted\":false,\"diagnostics\":[{\"severity\":\"error\",\"code\":\"",
         page.name,
         "\",\"title\":\"",
