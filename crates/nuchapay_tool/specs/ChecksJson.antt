@@ -53,11 +53,13 @@ place_json text line s mark = concat (
     codes "\"from\":" ∷ decimal (from_of text s) ∷ codes ",\"to\":" ∷ decimal (to_of text s) ∷ codes ",\"line\":" ∷ decimal line ∷ codes ",\"column\":" ∷ decimal (column_of line mark) ∷ codes "," ∷ []
     )
 
+-- the number and the title of a refusal
+abbrev pub code_json : Page → List ℕ
+code_json p = concat (codes "{\"severity\":\"error\",\"code\":\"" ∷ p.name.now ∷ codes "\",\"title\":\"" ∷ p.title.now ∷ codes "\"," ∷ [])
+
 -- the beginning of what is said of a refusal, with the name of the file as JSON has it
 abbrev pub head_json : List ℕ → Page → List ℕ
-head_json file p = concat (
-    codes "{\"file\":\"" ∷ file ∷ codes "\",\"accepted\":false,\"diagnostics\":[{\"severity\":\"error\",\"code\":\"" ∷ p.name.now ∷ codes "\",\"title\":\"" ∷ p.title.now ∷ codes "\"," ∷ []
-    )
+head_json file p = concat (codes "{\"file\":\"" ∷ file ∷ codes "\",\"accepted\":false,\"diagnostics\":[" ∷ code_json p ∷ [])
 
 -- what was expected, and what to do
 abbrev pub advice_json : List ℕ → List ℕ → List ℕ
@@ -96,9 +98,13 @@ rootless_json n = if n == 0 then codes "{\"severity\":\"note\",\"code\":\"\",\"t
 abbrev pub counts_json : ScriptView → List ℕ
 counts_json s = concat (codes "\"actors\":" ∷ decimal (actor_count s) ∷ codes ",\"methods\":" ∷ decimal (method_count s) ∷ codes ",\"roots\":" ∷ decimal (root_count s) ∷ codes "," ∷ [])
 
+-- the counts of a script, and a note where it has no root
+abbrev pub body_json : ScriptView → List ℕ
+body_json s = concat (counts_json s ∷ codes "\"diagnostics\":[" ∷ rootless_json (root_count s) ∷ codes "]}\n" ∷ [])
+
 -- what is said of a script, with the name of the file as JSON has it
 abbrev pub accepted_json : List ℕ → ScriptView → List ℕ
-accepted_json file s = concat (codes "{\"file\":\"" ∷ file ∷ codes "\",\"accepted\":true," ∷ counts_json s ∷ codes "\"diagnostics\":[" ∷ rootless_json (root_count s) ∷ codes "]}\n" ∷ [])
+accepted_json file s = concat (codes "{\"file\":\"" ∷ file ∷ codes "\",\"accepted\":true," ∷ body_json s ∷ [])
 
 -- A text is accepted, and its counts are said. How the name of the file is written, this does not say.
 pub record IsAcceptedJson (text said : List ℕ) : Type 0 where

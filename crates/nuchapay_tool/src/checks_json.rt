@@ -6,9 +6,9 @@ ghost use Rattle.swift_script.specs.FaultLines.{IsAtItsLine};
 ghost use Rattle.swift_script.specs.Refuses.{Refuses};
 ghost use Rattle.nuchapay_tool.specs.Advised.{help_text};
 ghost use Rattle.nuchapay_tool.specs.Marks.{mark_of};
-ghost use Rattle.nuchapay_tool.specs.ChecksJson.{IsRefusedJson, Tells, accepted_json, advice_json, column_of, counts_json, from_of, head_json, place_json, rootless_json, second_json, to_of};
+ghost use Rattle.nuchapay_tool.specs.ChecksJson.{IsRefusedJson, Tells, accepted_json, advice_json, body_json, code_json, column_of, counts_json, from_of, head_json, place_json, rootless_json, second_json, to_of};
 
-use crate::advice::{Second, advise};
+use crate::advice::{Advice, Second, advise};
 use crate::checks::{Checked, help_of};
 use crate::fixes::Change;
 use crate::json_text::{escaped_name, escaped_text};
@@ -45,11 +45,22 @@ pub fn check_json(alloc: Global, file: &str, text: &[u8]) -> Result<Checked, All
 fn accepted_json(alloc: Global, name: &String, script: &Script) -> Result<String, AllocError>
     ensures { IfOk result (λ said. string_bytes said ≡ accepted_json (string_bytes name.now) script.now) }
 {
-    let counts = counts_json(alloc, script)?;
+    let body = body_json(alloc, script)?;
     let parts = [
         "{\"file\":\"",
         name.as_str(),
         "\",\"accepted\":true,",
+        body.as_str(),
+    ];
+    parts.as_slice().concat(alloc)
+}
+
+// Its counts, and a note where it has no root.
+fn body_json(alloc: Global, script: &Script) -> Result<String, AllocError>
+    ensures { IfOk result (λ said. string_bytes said ≡ body_json script.now) }
+{
+    let counts = counts_json(alloc, script)?;
+    let parts = [
         counts.as_str(),
         "\"diagnostics\":[",
         rootless_json(script.root_count()),
@@ -103,8 +114,7 @@ fn refused_json(
     let page = page_of(Topic::Script(fault.kind));
     let advice = advise(alloc, text, fault.kind, span)?;
     let second = second_json(alloc, text, advice.second)?;
-    let help = help_of(advice.help.as_str(), page);
-    let said = advice_json(alloc, advice.expected.as_str(), help)?;
+    let said = said_json(alloc, page, &advice)?;
     let fix = fix_json(alloc, text, &advice.fix)?;
     drop(advice);
     let name = escaped_name(alloc, file)?;
@@ -126,10 +136,22 @@ fn refused_json(
 fn head_json(alloc: Global, name: &String, page: &Page) -> Result<String, AllocError>
     ensures { IfOk result (λ said. string_bytes said ≡ head_json (string_bytes name.now) page.now) }
 {
+    let code = code_json(alloc, page)?;
     let parts = [
         "{\"file\":\"",
         name.as_str(),
-        "\",\"accepted\":false,\"diagnostics\":[{\"severity\":\"error\",\"code\":\"",
+        "\",\"accepted\":false,\"diagnostics\":[",
+        code.as_str(),
+    ];
+    parts.as_slice().concat(alloc)
+}
+
+// The number and the title of a refusal.
+fn code_json(alloc: Global, page: &Page) -> Result<String, AllocError>
+    ensures { IfOk result (λ said. string_bytes said ≡ code_json page.now) }
+{
+    let parts = [
+        "{\"severity\":\"error\",\"code\":\"",
         page.name,
         "\",\"title\":\"",
         page.title,
@@ -194,6 +216,14 @@ fn column_of(line: u32, mark: Option<LineMark>) -> usize
         Some(mark) => mark.column,
         None => { if line == 0 { 0 } else { 1 } }
     }
+}
+
+fn said_json(alloc: Global, page: &Page, advice: &Advice) -> Result<String, AllocError>
+    ensures { IfOk result (λ said. string_bytes said ≡ advice_json (string_bytes advice.now.expected) (help_text (string_bytes advice.now.help) page.now)) }
+{
+    let expected = advice.expected.as_str();
+    let help = help_of(advice.help.as_str(), page);
+    advice_json(alloc, expected, help)
 }
 
 // What was expected, and what to do.
