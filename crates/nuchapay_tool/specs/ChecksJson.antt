@@ -57,10 +57,6 @@ place_json text line s mark = concat (
 abbrev pub code_json : Page → List ℕ
 code_json p = concat (codes "{\"severity\":\"error\",\"code\":\"" ∷ p.name.now ∷ codes "\",\"title\":\"" ∷ p.title.now ∷ codes "\"," ∷ [])
 
--- the beginning of what is said of a refusal, with the name of the file as JSON has it
-abbrev pub head_json : List ℕ → Page → List ℕ
-head_json file p = concat (codes "{\"file\":\"" ∷ file ∷ codes "\",\"accepted\":false,\"diagnostics\":[" ∷ code_json p ∷ [])
-
 -- what was expected, and what to do
 abbrev pub advice_json : List ℕ → List ℕ → List ℕ
 advice_json expected help = concat (codes "\"expected\":\"" ∷ escaped_text expected ∷ codes "\",\"help\":\"" ∷ escaped_text help ∷ codes "\"," ∷ [])
@@ -88,7 +84,7 @@ pub record IsRefusedJson (text said : List ℕ) : Type 0 where
   pub second : Option Second
   pub on_token : IfSome second (λ s. IsOnToken text s.span)
   pub fix : List ℕ
-  pub is : said ≡ concat (head_json file page ∷ place_json text fault.line span (mark_of text fault.line span) ∷ advice_json expected (help_text help page) ∷ second_json text second ∷ fix ∷ codes "}]}\n" ∷ [])
+  pub is : said ≡ concat (codes "{\"file\":\"" ∷ file ∷ codes "\",\"accepted\":false,\"diagnostics\":[" ∷ code_json page ∷ place_json text fault.line span (mark_of text fault.line span) ∷ advice_json expected (help_text help page) ∷ second_json text second ∷ fix ∷ codes "}]}\n" ∷ [])
 
 -- what is said of a script without a root
 abbrev pub rootless_json : ℕ → List ℕ

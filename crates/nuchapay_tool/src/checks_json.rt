@@ -6,7 +6,7 @@ ghost use Rattle.swift_script.specs.FaultLines.{IsAtItsLine};
 ghost use Rattle.swift_script.specs.Refuses.{Refuses};
 ghost use Rattle.nuchapay_tool.specs.Advised.{help_text};
 ghost use Rattle.nuchapay_tool.specs.Marks.{mark_of};
-ghost use Rattle.nuchapay_tool.specs.ChecksJson.{IsRefusedJson, Tells, accepted_json, advice_json, body_json, code_json, column_of, counts_json, from_of, head_json, place_json, rootless_json, second_json, to_of};
+ghost use Rattle.nuchapay_tool.specs.ChecksJson.{IsRefusedJson, Tells, accepted_json, advice_json, body_json, code_json, column_of, counts_json, from_of, place_json, rootless_json, second_json, to_of};
 
 use crate::advice::{Advice, Second, advise};
 use crate::checks::{Checked, help_of};
@@ -118,30 +118,19 @@ fn refused_json(
     let fix = fix_json(alloc, text, &advice.fix)?;
     drop(advice);
     let name = escaped_name(alloc, file)?;
-    let head = head_json(alloc, &name, page)?;
+    let code = code_json(alloc, page)?;
     let mark = mark_of(text, fault.line, span);
     let place = place_json(alloc, text, fault.line, span, mark)?;
-    let parts = [
-        head.as_str(),
-        place.as_str(),
-        said.as_str(),
-        second.as_str(),
-        fix.as_str(),
-        "}]}\n",
-    ];
-    parts.as_slice().concat(alloc)
-}
-
-// The beginning, up to the place.
-fn head_json(alloc: Global, name: &String, page: &Page) -> Result<String, AllocError>
-    ensures { IfOk result (λ said. string_bytes said ≡ head_json (string_bytes name.now) page.now) }
-{
-    let code = code_json(alloc, page)?;
     let parts = [
         "{\"file\":\"",
         name.as_str(),
         "\",\"accepted\":false,\"diagnostics\":[",
         code.as_str(),
+        place.as_str(),
+        said.as_str(),
+        second.as_str(),
+        fix.as_str(),
+        "}]}\n",
     ];
     parts.as_slice().concat(alloc)
 }
