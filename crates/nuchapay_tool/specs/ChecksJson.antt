@@ -48,21 +48,21 @@ column_of line None = if line == 0 then 0 else 1
 column_of line (Some m) = m.column
 
 -- the place of some bytes, with the mark on their line
-abbrev pub place_json : List ℕ → ℕ → Option Span → Option LineMark → List ℕ
+unfoldable pub place_json : List ℕ → ℕ → Option Span → Option LineMark → List ℕ
 place_json text line s mark = concat (
     codes "\"from\":" ∷ decimal (from_of text s) ∷ codes ",\"to\":" ∷ decimal (to_of text s) ∷ codes ",\"line\":" ∷ decimal line ∷ codes ",\"column\":" ∷ decimal (column_of line mark) ∷ codes "," ∷ []
     )
 
 -- the number and the title of a refusal
-abbrev pub code_json : Page → List ℕ
+unfoldable pub code_json : Page → List ℕ
 code_json p = concat (codes "{\"severity\":\"error\",\"code\":\"" ∷ p.name.now ∷ codes "\",\"title\":\"" ∷ p.title.now ∷ codes "\"," ∷ [])
 
 -- what was expected, and what to do
-abbrev pub advice_json : List ℕ → List ℕ → List ℕ
+unfoldable pub advice_json : List ℕ → List ℕ → List ℕ
 advice_json expected help = concat (codes "\"expected\":\"" ∷ escaped_text expected ∷ codes "\",\"help\":\"" ∷ escaped_text help ∷ codes "\"," ∷ [])
 
 -- a second token that is concerned
-abbrev pub second_json : List ℕ → Option Second → List ℕ
+unfoldable pub second_json : List ℕ → Option Second → List ℕ
 second_json text None = codes "\"second\":null,"
 second_json text (Some s) = concat (codes "\"second\":{" ∷ place_json text s.line (Some s.span) (mark_of text s.line (Some s.span)) ∷ codes "\"label\":\"" ∷ s.label.now ∷ codes "\"}," ∷ [])
 

@@ -136,6 +136,7 @@ fn refused_json(
 }
 
 // The number and the title of a refusal.
+#[tactic(auto, unfolding(crate::specs::ChecksJson::code_json))]
 fn code_json(alloc: Global, page: &Page) -> Result<String, AllocError>
     ensures { IfOk result (λ said. string_bytes said ≡ code_json page.now) }
 {
@@ -150,6 +151,7 @@ fn code_json(alloc: Global, page: &Page) -> Result<String, AllocError>
 }
 
 // The place of some bytes, with the mark on their line.
+#[tactic(auto, unfolding(crate::specs::ChecksJson::place_json))]
 fn place_json(
     alloc: Global,
     text: &[u8],
@@ -216,6 +218,7 @@ fn said_json(alloc: Global, page: &Page, advice: &Advice) -> Result<String, Allo
 }
 
 // What was expected, and what to do.
+#[tactic(auto, unfolding(crate::specs::ChecksJson::advice_json))]
 fn advice_json(alloc: Global, expected: &str, help: &str) -> Result<String, AllocError>
     ensures { IfOk result (λ said. string_bytes said ≡ advice_json expected.now help.now) }
 {
@@ -232,6 +235,7 @@ fn advice_json(alloc: Global, expected: &str, help: &str) -> Result<String, Allo
 }
 
 // A second token that is concerned.
+#[tactic(auto, unfolding(crate::specs::ChecksJson::second_json))]
 fn second_json(alloc: Global, text: &[u8], second: Option<Second>) -> Result<String, AllocError>
     ensures { IfOk result (λ said. string_bytes said ≡ second_json text.now second) }
 {
@@ -241,6 +245,7 @@ fn second_json(alloc: Global, text: &[u8], second: Option<Second>) -> Result<Str
     }
 }
 
+#[tactic(auto, unfolding(crate::specs::ChecksJson::second_json))]
 fn label_json(alloc: Global, text: &[u8], second: Second) -> Result<String, AllocError>
     ensures { IfOk result (λ said. string_bytes said ≡ second_json text.now (Some second)) }
 {
