@@ -12,8 +12,10 @@ function showFields(turn, run) {
     found(\"values\").replaceChildren(...[...fields].map(([field, before]) => {
         const change = changes.get(field);
         const isKept = !change || turn.outcome === \"kept\";
-        const after = !change ? [before] : isKept ? [change.after] : [before + \" \", make(\"s\", { title: \"It would have left this\" }, change.after)];
-        return make(\"tr\", { class: !change ? null : isKept ? \"changed\" : \"taken\" }, make(\"td\", {}, field), make(\"td\", {}, before), make(\"td\", {}, ...after));
+        const left = (value) => make(\"s\", { title: \"It would have left this\" }, value);
+        const after = !change ? [before] : isKept ? [change.after] : [before + \" \", left(change.after)];
+        const name = !change ? null : isKept ? \"changed\" : \"taken\";
+        return make(\"tr\", { class: name }, make(\"td\", {}, field), make(\"td\", {}, before), make(\"td\", {}, ...after));
     }));
 }
 
@@ -21,7 +23,8 @@ function showFold({ run, first }) {
     found(\"turn-name\").textContent = `${counted(run.length, \"turn\")} that only gave way`;
     const open = make(\"button\", { type: \"button\", class: \"link\", id: \"open\" }, \"Show them\");
     open.addEventListener(\"click\", () => { opened.add(first); relay(); });
-    found(\"said\").replaceChildren(`From ${run[0].name} to ${run[run.length - 1].name}: each went on, changed no field, and gave way to others again. Below stands the first of them. `, open);
+    const ends = `From ${run[0].name} to ${run[run.length - 1].name}`;
+    found(\"said\").replaceChildren(`${ends}: each went on, changed no field, and gave way to others again. Below stands the first of them. `, open);
 }
 
 function showTurn(turn) {
@@ -51,7 +54,8 @@ function choose(slot) {
     if (cell.run) showFold(cell);
     else showTurn(cell.turn);
     found(\"method\").replaceChildren(...methodPieces(cell.turn));
-    found(\"why\").textContent = why.get(cell.turn.name) || `This page explains the last ${more.why[0]} turns. nuchapay why FILE ${cell.turn.name} explains this one.`;
+    const name = cell.turn.name;
+    found(\"why\").textContent = why.get(name) || `This page explains the last ${more.why[0]} turns. nuchapay why FILE ${name} explains this one.`;
     showFields(cell.turn, cell.run);
     drawView();
 }
@@ -79,7 +83,8 @@ function taskItem(number) {
     const { from, by, ending: end } = report.tasks[number];
     const box = make(\"input\", { type: \"checkbox\", \"aria-label\": `Show the turns of t${number}`, \"data-task\": number });
     box.checked = !hidden.has(number);
-    const name = make(\"button\", { type: \"button\", class: \"link\", title: \"Go to its first turn\", \"data-first\": number }, `t${number} ${taskNames[number]}`);
+    const link = { type: \"button\", class: \"link\", title: \"Go to its first turn\", \"data-first\": number };
+    const name = make(\"button\", link, `t${number} ${taskNames[number]}`);
     const only = make(\"button\", { type: \"button\", class: \"only\", title: \"Show the turns of this task alone\", \"data-only\": number }, \"only\");
     const how = make(\"span\", { class: end.is === \"fault\" ? \"bad-word\" : \"good-word\" }, ending(end));
     const made = from === \"root\" ? \"root\" : `${from === \"child\" ? \"child of\" : from + \" by\"} t${by}`;
@@ -90,13 +95,17 @@ function taskItem(number) {
 // The tasks that the words in the field ask for.
 function listed() {
     const wanted = found(\"find\").value.trim().toLowerCase();
-    const about = (number) => `t${number} ${taskNames[number]} ${report.tasks[number].from} ${ending(report.tasks[number].ending)}`.toLowerCase();
+    const about = (number) => {
+        const { from, ending: end } = report.tasks[number];
+        return `t${number} ${taskNames[number]} ${from} ${ending(end)}`.toLowerCase();
+    };
     return report.tasks.map((_, number) => number).filter((number) => about(number).includes(wanted));
 }
 
 function showTasks() {
     const numbers = listed();
-    found(\"list\").replaceChildren(...numbers.slice(0, 500).map(taskItem), ...(numbers.length > 500 ? [make(\"li\", { class: \"note\" }, `and ${numbers.length - 500} more`)] : []));
+    const others = numbers.length > 500 ? [make(\"li\", { class: \"note\" }, `and ${numbers.length - 500} more`)] : [];
+    found(\"list\").replaceChildren(...numbers.slice(0, 500).map(taskItem), ...others);
 }
 
 // Shows the turns of some tasks, and of no others of the list.
@@ -130,8 +139,10 @@ function some(all, piece) {
 function showSummary() {
     const undone = turns.filter((turn) => turn.undone);
     const failed = report.tasks.filter((task) => task.ending.is === \"fault\").map((task) => task.task);
-    const pieces = [`${counted(turns.length + folded, \"turn\")} of ${counted(report.tasks.length, \"task\")} on ${counted(executors.length, \"executor\")}, by ${counted(more.workers, \"worker\")}. `];
-    if (undone.length > 0) pieces.push(`${counted(undone.length, \"turn was\", \"turns were\")} undone: `, ...some(undone, (turn) => toTurn(turn)), \". \");
+    const many = `${counted(turns.length + folded, \"turn\")} of ${counted(report.tasks.length, \"task\")}`;
+    const pieces = [`${many} on ${counted(executors.length, \"executor\")}, by ${counted(more.workers, \"worker\")}. `];
+    const taken = counted(undone.length, \"turn was\", \"turns were\");
+    if (undone.length > 0) pieces.push(`${taken} undone: `, ...some(undone, (turn) => toTurn(turn)), \". \");
     if (failed.length === 0) pieces.push(\"Each task ended with a value. \");
     else pieces.push(`${counted(failed.length, \"task\", \"tasks\")} ended with a fault: `, ...some(failed, failure), \". \");
     if (folded > 0) pieces.push(`The first ${folded} of these turns were folded, and are not here.`);
@@ -141,9 +152,12 @@ function showSummary() {
     document.title = `${name}: a run`;
 }
 
+const LINKS = { goes: \"goes on\", call: \"calls\", return: \"returns\", spawn: \"makes a task\", waits: \"waits\", wake: \"wakes\" };
+
 function showLegend() {
-    for (const [link, text] of [[\"goes\", \"goes on\"], [\"call\", \"calls\"], [\"return\", \"returns\"], [\"spawn\", \"makes a task\"], [\"waits\", \"waits\"], [\"wake\", \"wakes\"]]) {
-        const sample = shape(\"svg\", { width: 34, height: 8, class: \"task c8\" }, shape(\"path\", { class: \"link-line \" + link, d: \"M0,4h34\" }));
+    for (const [link, text] of Object.entries(LINKS)) {
+        const stroke = shape(\"path\", { class: \"link-line \" + link, d: \"M0,4h34\" });
+        const sample = shape(\"svg\", { width: 34, height: 8, class: \"task c8\" }, stroke);
         found(\"links\").append(make(\"span\", {}, sample, text));
     }
 }

@@ -5,7 +5,7 @@ pub(crate) static HEAD: &str = "<!doctype html>
 <html lang=\"en\">
 <head>
 <meta charset=\"utf-8\">
-<meta http-equiv=\"Content-Security-Policy\" content=\"default-src 'none'; style-src 'sha256-Eo+BhDHXfn3fnJfRVuTcc51zenPgmXL320RfarCkknA='; script-src 'sha256-AGTT6sGkl86zV0APR2/B6PUby+OkK8SbVyHYyQupEI4='\">
+<meta http-equiv=\"Content-Security-Policy\" content=\"default-src 'none'; style-src 'sha256-Eo+BhDHXfn3fnJfRVuTcc51zenPgmXL320RfarCkknA='; script-src 'sha256-mOkDxQNOfiMa/zsB/GIEn5DZpe4fCwFmMBaUofYk8KQ='\">
 <meta name=\"viewport\" content=\"width=device-width, initial-scale=1\">
 <title>A run</title>
 <style>";

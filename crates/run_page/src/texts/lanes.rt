@@ -28,7 +28,12 @@ let chosen = 0;
 
 const isFull = (level = zoom) => PITCHES[level] >= 110;
 const isNamed = () => PITCHES[zoom] >= 44;
-const sizes = () => (isFull() ? { over: 34, tall: 52, under: 46 } : isNamed() ? { over: 24, tall: 24, under: 8 } : { over: 10, tall: 20, under: 8 });
+
+function sizes() {
+    if (isFull()) return { over: 34, tall: 52, under: 46 };
+    return isNamed() ? { over: 24, tall: 24, under: 8 } : { over: 10, tall: 20, under: 8 };
+}
+
 const laneTall = () => { const { over, tall, under } = sizes(); return over + tall + under; };
 
 // Adds a run of turns that only give way: the first one, and the others folded where they are three or more.
@@ -98,11 +103,13 @@ function drawFold(cell, slot, x, top, tall) {
     for (const turn of cell.run) own.set(turn.executor, (own.get(turn.executor) || 0) + 1);
     const wide = PITCHES[zoom] - gap();
     const group = shape(\"g\", { class: `turn folded${slot === chosen ? \" chosen\" : \"\"}`, \"data-slot\": slot });
-    group.append(shape(\"title\", {}, `${counted(cell.run.length, \"turn\")} that only gave way: ${cell.run[0].name} to ${cell.run[cell.run.length - 1].name}`));
+    const ends = `${cell.run[0].name} to ${cell.run[cell.run.length - 1].name}`;
+    group.append(shape(\"title\", {}, `${counted(cell.run.length, \"turn\")} that only gave way: ${ends}`));
     for (const [executor, many] of own) {
         const y = top + executor * laneTall();
         group.append(shape(\"rect\", { x, y, width: wide, height: tall, rx: isNamed() ? 6 : 2 }));
-        if (isNamed()) group.append(words(isFull() ? `+ ${many} more` : \"+\" + many, x + wide / 2, y + tall / 2 + (isFull() ? -2 : 4), \"middle bold\"));
+        const text = isFull() ? `+ ${many} more` : \"+\" + many;
+        if (isNamed()) group.append(words(text, x + wide / 2, y + tall / 2 + (isFull() ? -2 : 4), \"middle bold\"));
         if (isFull()) group.append(words(\"that only give way\", x + wide / 2, y + tall / 2 + 13, \"middle faint\"));
     }
     return group;
@@ -114,15 +121,21 @@ function drawTurn(turn, slot) {
     const [own, wide] = [PITCHES[zoom] - gap(), endOf(turn) - x];
     const names = [\"turn\", colour(turn.task), turn.undone ? \"undone\" : \"\", isNamed() ? \"\" : \"small\", slot === chosen ? \"chosen\" : \"\"];
     const group = shape(\"g\", { class: names.filter((name) => name).join(\" \"), \"data-slot\": slot, \"data-turn\": turn.name });
-    group.append(shape(\"title\", {}, [line(turn), ...below(turn)].join(\"\\n\")), shape(\"rect\", { x, y, width: wide, height: tall, rx: isNamed() ? 6 : 2 }));
-    if (turn.undone && isNamed()) group.append(shape(\"path\", { class: \"cross\", d: `M${x + 4},${y + 4}l${wide - 8},${tall - 8}m0,${8 - tall}l${8 - wide},${tall - 8}` }));
+    group.append(shape(\"title\", {}, [line(turn), ...below(turn)].join(\"\\n\")));
+    group.append(shape(\"rect\", { x, y, width: wide, height: tall, rx: isNamed() ? 6 : 2 }));
+    const cross = `M${x + 4},${y + 4}l${wide - 8},${tall - 8}m0,${8 - tall}l${8 - wide},${tall - 8}`;
+    if (turn.undone && isNamed()) group.append(shape(\"path\", { class: \"cross\", d: cross }));
     if (isFull()) {
         inBox(turn, own).forEach(([text, names, right, rightNames], at) => {
             group.append(words(text, x + 7, y + 15 + 15 * at, names));
             if (right) group.append(words(right, x + own - 7, y + 15, rightNames));
         });
-        below(turn).forEach((text, at) => group.append(words(fitting(text, Math.floor(own / 6.63)), x, y + tall + 13 + 13 * at, turn.undone ? \"bad\" : \"faint\")));
-    } else if (isNamed() && turn.name.length * 5.42 < own) group.append(words(turn.name, x + own / 2, y + 15, \"tiny middle \" + (turn.undone ? \"bad\" : \"\")));
+        below(turn).forEach((text, at) => {
+            group.append(words(fitting(text, Math.floor(own / 6.63)), x, y + tall + 13 + 13 * at, turn.undone ? \"bad\" : \"faint\"));
+        });
+    } else if (isNamed() && turn.name.length * 5.42 < own) {
+        group.append(words(turn.name, x + own / 2, y + 15, \"tiny middle \" + (turn.undone ? \"bad\" : \"\")));
+    }
     return group;
 }
 
@@ -141,7 +154,8 @@ function drawLine(from, turn, link) {
     const same = from.executor === turn.executor;
     const path = `M${out},${top}v${-level}` + (same ? `H${x + along}V${y}` : `H${x - gap() / 2}V${y + 9}H${x}`);
     const head = same ? `M${x + along - 4},${y - 7}h8l-4,7z` : `M${x - 6},${y + 5}v8l6,-4z`;
-    return [shape(\"path\", { class: `link-line ${link} ${colour(turn.task)}`, d: path }), shape(\"path\", { class: `head ${colour(turn.task)}`, d: head })];
+    const names = colour(turn.task);
+    return [shape(\"path\", { class: `link-line ${link} ${names}`, d: path }), shape(\"path\", { class: `head ${names}`, d: head })];
 }
 
 // The lines to a turn that is shown, from those that are shown too.
@@ -160,7 +174,9 @@ function drawGutter(x, scroll) {
         const y = executor * laneTall() + (isFull() ? 44 : 24);
         group.append(words(fitting(journal.executor, 14), x + 10, y, \"name\"));
         const kind = journal.kind === \"pinned\" ? \"pinned \" + journal.pinned : journal.kind === \"priority\" ? \"by priority\" : journal.kind;
-        const lines = isFull() ? [kind, counted(journal.turns, \"turn\"), ...(journal.folded ? [journal.folded + \" not here\"] : [])] : isNamed() ? [counted(journal.turns, \"turn\")] : [];
+        const lines = isNamed() ? [counted(journal.turns, \"turn\")] : [];
+        if (isFull()) lines.unshift(kind);
+        if (isFull() && journal.folded) lines.push(journal.folded + \" not here\");
         lines.forEach((text, at) => group.append(words(text, x + 10, y + 15 + 13 * at, \"faint\")));
     });
     return group;
@@ -173,15 +189,19 @@ function drawPart(svg, first, last, x, y, wide, tall) {
     svg.setAttribute(\"viewBox\", `${x} ${y} ${wide} ${tall}`);
     const rails = executors.map((_, executor) => {
         const base = executor * laneTall();
-        return shape(\"path\", { class: \"rail\", d: `M${x},${base + sizes().over + sizes().tall / 2}h${wide}M${x},${base + laneTall()}h${wide}` });
+        const middle = base + sizes().over + sizes().tall / 2;
+        return shape(\"path\", { class: \"rail\", d: `M${x},${middle}h${wide}M${x},${base + laneTall()}h${wide}` });
     });
-    const cursor = cells[chosen] && shape(\"rect\", { class: \"cursor\", x: chosen * PITCHES[zoom] - gap() / 2, y: 0, width: PITCHES[zoom], height });
+    const pitch = PITCHES[zoom];
+    const cursor = cells[chosen] && shape(\"rect\", { class: \"cursor\", x: chosen * pitch - gap() / 2, y: 0, width: pitch, height });
     const lines = [];
     const isSeen = (from, to) => slotOf.get(to) >= first && slotOf.get(from) <= last;
     // Between boxes of a few pixels, lines are drawn to the turn that is chosen alone.
-    const targets = PITCHES[zoom] >= 28 ? turns.filter((turn) => slotOf.has(turn) && !cells[slotOf.get(turn)].run) : cells[chosen] ? [cells[chosen].turn] : [];
+    const own = cells[chosen] ? [cells[chosen].turn] : [];
+    const targets = pitch >= 28 ? turns.filter((turn) => slotOf.has(turn) && !cells[slotOf.get(turn)].run) : own;
     for (const turn of targets) lines.push(...linesTo(turn, isSeen));
-    const boxes = kept.map((cell, at) => (cell.run ? drawFold(cell, first + at, (first + at) * PITCHES[zoom], sizes().over, sizes().tall) : drawTurn(cell.turn, first + at)));
+    const drawCell = (cell, slot) => (cell.run ? drawFold(cell, slot, slot * pitch, sizes().over, sizes().tall) : drawTurn(cell.turn, slot));
+    const boxes = kept.map((cell, at) => drawCell(cell, first + at));
     // Boxes that began before the window and reach into it.
     cells.slice(Math.max(0, first - 40), first).forEach((cell, at) => {
         if (!cell.run && endOf(cell.turn) > x + GUTTER) boxes.unshift(drawTurn(cell.turn, Math.max(0, first - 40) + at));
@@ -226,8 +246,10 @@ function drawOverview() {
         const path = `M${(slot * step + step / 2).toFixed(1)},${(4 + turn.executor * row).toFixed(1)}v${(row - 1.5).toFixed(1)}`;
         paths.set(names, (paths.get(names) || \"\") + path);
     });
-    const strokes = [...paths].map(([names, d]) => shape(\"path\", { class: names, d, \"stroke-width\": Math.max(names === \"tick bad\" ? 2.5 : .6, step * .8) }));
-    overview.replaceChildren(...strokes, shape(\"rect\", { class: \"window\", y: 1, height: height - 2, rx: 3 }), shape(\"path\", { class: \"here\" }));
+    const thick = (names) => Math.max(names === \"tick bad\" ? 2.5 : .6, step * .8);
+    const strokes = [...paths].map(([names, d]) => shape(\"path\", { class: names, d, \"stroke-width\": thick(names) }));
+    const window = shape(\"rect\", { class: \"window\", y: 1, height: height - 2, rx: 3 });
+    overview.replaceChildren(...strokes, window, shape(\"path\", { class: \"here\" }));
 }
 
 // The part of the overview that the window shows, and the turn that is chosen.

@@ -35,12 +35,15 @@ function placeOf(said, [first, last]) {
     return [own[places[0]].from, own[places[0] + wanted.length - 1].to];
 }
 
+// What is marked there: how `why` says it, the mark's class, and what it means.
+const MARKED = [[\"began at\", \"began\", \"the turn began here\"], [\"goes on at\", \"goes-on\", \"its frame goes on here\"]];
+
 // The pieces of a method's text: each line's number, and its text, where a turn began and where it goes on marked.
 function methodPieces(turn) {
     const range = methodTokens(turn.method);
     if (!range) return [make(\"span\", {}, \"The method was not found in the script's text.\")];
     const said = why.get(turn.name) || \"\";
-    const marks = [[\"began at\", \"began\", \"the turn began here\"], [\"goes on at\", \"goes-on\", \"its frame goes on here\"]].map(([words, name, title]) => {
+    const marks = MARKED.map(([words, name, title]) => {
         const text = new RegExp(`^    ${words} (.*)$`, \"m\").exec(said);
         const place = text && placeOf(text[1], range);
         return place && { name, title, from: place[0], to: place[1] };

@@ -61,7 +61,8 @@ function listen() {
         event.preventDefault();
         KEYS[event.key]();
     });
-    for (const [id, key] of [[\"back\", \"ArrowLeft\"], [\"forward\", \"ArrowRight\"], [\"smaller\", \"-\"], [\"larger\", \"+\"], [\"fit\", \"0\"], [\"theme\", \"d\"], [\"help\", \"?\"]]) {
+    const buttons = { back: \"ArrowLeft\", forward: \"ArrowRight\", smaller: \"-\", larger: \"+\", fit: \"0\", theme: \"d\", help: \"?\" };
+    for (const [id, key] of Object.entries(buttons)) {
         found(id).addEventListener(\"click\", KEYS[key]);
     }
     found(\"fold\").addEventListener(\"change\", refold);
@@ -127,6 +128,6 @@ relay();
 // A short run is shown whole, if its boxes can have texts in them.
 if (isFull(zoomOfAll())) zoomToAll();
 // What a reader looks for first: the turn of the address, one that was undone, one that ended with a fault, or the first.
-const look = byName.get(location.hash.slice(1)) || turns.find((turn) => turn.undone) || turns.find((turn) => turn.exit.is === \"fault\") || turns[0];
-chooseTurn(look);
+const failed = turns.find((turn) => turn.undone) || turns.find((turn) => turn.exit.is === \"fault\");
+chooseTurn(byName.get(location.hash.slice(1)) || failed || turns[0]);
 ";

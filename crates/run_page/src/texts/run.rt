@@ -2,8 +2,8 @@
 
 /// Its text.
 pub(crate) static RUN: &str = "\"use strict\";
-// The run, as the two pieces of JSON that stand in the page have it. These files are one script, in the order of page.html; the last one starts
-// the page. Texts of the run are set as text, never as markup. It loads nothing.
+// The run, as the two pieces of JSON that stand in the page have it. These files are one script, in the order of page.html; the last
+// one starts the page. Texts of the run are set as text, never as markup. It loads nothing.
 
 const found = (id) => document.getElementById(id);
 const [view, picture, overview] = [\"view\", \"picture\", \"overview\"].map(found);

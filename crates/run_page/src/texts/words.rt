@@ -15,13 +15,15 @@ function began(turn) {
     const own = executors[turn.executor];
     const method = turn.method.startsWith(own + \".\") ? turn.method : `${turn.method}, on the executor ${own}`;
     const came = resume.is === \"fault\" ? \"the fault \" + fault(resume) : \"the value \" + resume.value;
-    if (resume.is === \"start\") return turn.turn === 0 ? `began its task in ${method}` : `began ${method}, which ${before ? \"it had called in \" + before.name : \"was called\"}`;
+    if (resume.is === \"start\" && turn.turn === 0) return `began its task in ${method}`;
+    if (resume.is === \"start\") return `began ${method}, which ${before ? \"it had called in \" + before.name : \"was called\"}`;
     const last = before && before.exit;
     if (last && last.is === \"wait\") return `went on in ${method}, after the task that it had waited for ended with ${came}`;
     if (last && last.is === \"next\") return `went on in ${method}, after the next child of its group, for which it had waited, gave ${came}`;
     if (last && last.is === \"close\") return `went on in ${method}, after all children of its group had ended`;
     if (resume.is === \"go\") return `went on in ${method}, after it had given way`;
-    return last && last.is !== \"call\" ? `went on in ${method}, after what it had called came back with ${came}` : `went on in ${method} with ${came}`;
+    const called = last && last.is !== \"call\" ? \", after what it had called came back\" : \"\";
+    return `went on in ${method}${called} with ${came}`;
 }
 
 // How a turn ended, by the word of its exit.
@@ -40,8 +42,10 @@ function changedMeanwhile(turn) {
     const actor = turn.method.split(\".\")[0] + \".\";
     const own = taskTurns[turn.task].filter((other) => other.executor === turn.executor && other.place < turn.place).pop();
     if (!own) return [];
-    const between = turns.filter((other) => other.executor === turn.executor && other.place > own.place && other.place < turn.place && other.outcome === \"kept\");
-    return between.flatMap((other) => other.changes.filter(({ field }) => field.startsWith(actor)).map((change) => ({ ...change, by: other.name })));
+    const isBetween = ({ executor, place }) => executor === turn.executor && place > own.place && place < turn.place;
+    const between = turns.filter((other) => isBetween(other) && other.outcome === \"kept\");
+    const ofActor = (changes) => changes.filter(({ field }) => field.startsWith(actor));
+    return between.flatMap((other) => ofActor(other.changes).map((change) => ({ ...change, by: other.name })));
 }
 
 const changed = ({ field, before, after }) => `${field} from ${before} to ${after}`;
@@ -50,7 +54,8 @@ const changed = ({ field, before, after }) => `${field} from ${before} to ${afte
 function broke(turn) {
     const said = /^    (invariant .*)$/m.exec(why.get(turn.name) || \"\");
     const leaving = turn.changes.map(({ field, after }) => `${field} at ${after}`).join(\", \");
-    const would = leaving ? ` It would have left ${leaving}${said ? `, where the ${said[1].replace(/\\( /g, \"(\").replace(/ \\)/g, \")\")}` : \"\"}.` : \"\";
+    const falseThere = said ? `, where the ${said[1].replace(/\\( /g, \"(\").replace(/ \\)/g, \")\")}` : \"\";
+    const would = leaving ? ` It would have left ${leaving}${falseThere}.` : \"\";
     return \"It was undone: what it had done was taken back.\" + would;
 }
 
@@ -58,7 +63,8 @@ function broke(turn) {
 function sentences(turn) {
     const said = [`Task ${task(turn.task)} ${began(turn)}.`];
     const others = changedMeanwhile(turn);
-    if (others.length > 0) said.push(`Meanwhile others had changed ${others.slice(-3).map((change) => `${changed(change)} (${change.by})`).join(\", \")}${others.length > 3 ? `, and more before` : \"\"}.`);
+    const lately = others.slice(-3).map((change) => `${changed(change)} (${change.by})`).join(\", \");
+    if (others.length > 0) said.push(`Meanwhile others had changed ${lately}${others.length > 3 ? \", and more before\" : \"\"}.`);
     said.push(`It ${ENDED[turn.exit.is](turn.exit)}.`);
     const last = taskTurns[turn.task][taskTurns[turn.task].length - 1] === turn;
     if (turn.undone) said.push(broke(turn));
@@ -66,7 +72,8 @@ function sentences(turn) {
     else said.push(\"It changed \" + turn.changes.map(changed).join(\", \") + \".\");
     if (turn.made.length > 0) said.push(`It made ${turn.made.map(task).join(\", \")}.`);
     if (turn.marks.length > 0) said.push(`It ${turn.marks.join(\", \")}.`);
-    if (turn.raised) said.push(`Its task had become more urgent since its last turn: priority ${turn.before.priority} before, ${turn.priority} now.`);
+    const raised = turn.raised ? `priority ${turn.before.priority} before, ${turn.priority} now` : \"\";
+    if (turn.raised) said.push(`Its task had become more urgent since its last turn: ${raised}.`);
     if (turn.cancelled) said.push(\"Its task had been cancelled.\");
     if (last) said.push(`This was its task's last turn: the task ended with ${ending(report.tasks[turn.task].ending)}.`);
     if (turn.exit.fault) said.push(`\"nuchapay explain ${turn.exit.fault}\" says what this fault means.`);
@@ -75,6 +82,7 @@ function sentences(turn) {
 
 // The turn's line in the journal.
 function line(turn) {
-    return `${turn.place} ${turn.name} w${turn.worker} ${turn.method} p${turn.priority} c${turn.cancelled ? 1 : 0} ${resumeText(turn.resume)} -> ${exitText(turn.exit)}`;
+    const given = `w${turn.worker} ${turn.method} p${turn.priority} c${turn.cancelled ? 1 : 0}`;
+    return `${turn.place} ${turn.name} ${given} ${resumeText(turn.resume)} -> ${exitText(turn.exit)}`;
 }
 ";
