@@ -71,7 +71,7 @@ swift: $(DAILY)
 one_core: $(PROGRAM)
 	@tools/one_core.py $(PROGRAM)
 
-# Whether nuchapay check marks the token of each refusal of examples/nuchapay/marks.
+# Whether nuchapay check marks the token of each refusal of examples/nuchapay/marks, and helps with each of examples/nuchapay/mistakes.
 marks: $(DAILY)
 	@tools/marks.py $(DAILY)
 

@@ -22,6 +22,7 @@ _nuchapay() {
         why:--schedule) words='' ;;
         why:--limit) words='' ;;
         check:--color) words='always never' ;;
+        check:--format) words='text json' ;;
         show:--workers) words='1 2 3 4 5 6 7 8' ;;
         show:--format) words='svg html trace' ;;
         show:--outcome) words='' ;;
@@ -39,7 +40,7 @@ _nuchapay() {
                 run:*:0) files='*.actors' ;;
                 why:-*) words='--workers --outcome --schedule --broken --limit --help' ;;
                 why:*:0) files='*.actors' ;;
-                check:-*) words='--color --help' ;;
+                check:-*) words='--color --format --help' ;;
                 check:*:0) files='*.actors' ;;
                 explain:-*) words='--help' ;;
                 explain:*:0) words='S1 S2 S3 S4 S5 S6 S7 S8 S9 S10 S11 S12 S13 S14 N1 N2 N3 N4 N5 thrown cancelled invariant overflow steps tasks isolation empty depth turns' ;;

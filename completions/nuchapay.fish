@@ -29,6 +29,7 @@ complete -c nuchapay -n '__fish_seen_subcommand_from why' -l limit -x -d 'Keeps 
 complete -c nuchapay -n '__fish_seen_subcommand_from why' -l help -d 'Print help'
 complete -c nuchapay -n '__fish_seen_subcommand_from why' -k -a '(__fish_complete_suffix .actors)'
 complete -c nuchapay -n '__fish_seen_subcommand_from check' -l color -x -a 'always never' -d 'Colours what is said of a refusal: always or never'
+complete -c nuchapay -n '__fish_seen_subcommand_from check' -l format -x -a 'text json' -d 'Says it as text, or as JSON for an editor, on standard output'
 complete -c nuchapay -n '__fish_seen_subcommand_from check' -l help -d 'Print help'
 complete -c nuchapay -n '__fish_seen_subcommand_from check' -k -a '(__fish_complete_suffix .actors)'
 complete -c nuchapay -n '__fish_seen_subcommand_from explain' -l help -d 'Print help'

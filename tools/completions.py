@@ -71,7 +71,10 @@ NUCHAPAY = (
     ),
     Command(
         "check", "Says whether a script is accepted; else why not, where, and what to do", ("[FILE]",),
-        (Option("color", "Colours what is said of a refusal: always or never", "WHEN", ("always", "never")),),
+        (
+            Option("color", "Colours what is said of a refusal: always or never", "WHEN", ("always", "never")),
+            Option("format", "Says it as text, or as JSON for an editor, on standard output", "FORMAT", ("text", "json")),
+        ),
     ),
     Command("explain", "Explains a refusal or a fault, with a script for which it comes, and the same one mended", ("<TOPIC>",)),
     Command(

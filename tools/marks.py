@@ -1,12 +1,17 @@
 #!/usr/bin/env python3
-"""Whether `nuchapay check` marks the token of a refusal.
+"""Whether `nuchapay check` marks the token of a refusal, and says what helps.
 
     tools/marks.py NUCHAPAY
 
 Each text of examples/nuchapay/marks is checked: the refusal has to have the number, the line, the column and the mark that stand there,
 on standard error, without and with colours. So are the scripts of `nuchapay explain` that are refused: each has to have a mark, on the line
-that is shown. Status 0 where all agrees.
+that is shown.
+
+Each file of examples/nuchapay/mistakes is a text with a mistake, then a line `== says` with all that has to be said of it, and where a fix is
+offered a line `== fixed` with the text that the fix gives. What `--format json` says has to have the same number, place and texts, and a
+text that was fixed has to be accepted, or refused further on. Status 0 where all agrees.
 """
+import json
 import os
 import re
 import subprocess
@@ -14,6 +19,7 @@ import sys
 
 TOP = os.path.dirname(os.path.dirname(os.path.abspath(__file__)))
 TABLE = os.path.join(TOP, "examples", "nuchapay", "marks")
+MISTAKES = os.path.join(TOP, "examples", "nuchapay", "mistakes")
 NUMBERS = [f"S{number}" for number in range(1, 14)]
 ESCAPE = re.compile(r"\x1b\[[0-9;]*m")
 
@@ -37,9 +43,85 @@ def rows():
     return [Row(part.split("\n")[0], part.split("\n")[1:]) for part in parts]
 
 
+class Mistake:
+    """A text with a mistake, what is said of it, and the text that a fix gives, or none."""
+
+    def __init__(self, name):
+        self.name = name
+        with open(os.path.join(MISTAKES, name), "rb") as file:
+            self.text, after = file.read().split(b"== says\n")
+        self.says, _, fixed = after.partition(b"== fixed\n")
+        self.fixed = fixed or None
+
+
+def mistakes():
+    return [Mistake(name) for name in sorted(os.listdir(MISTAKES))]
+
+
+def diagnostic(program, text):
+    """What `nuchapay check --format json` says of a text that is refused; none where it is accepted."""
+    ran = subprocess.run([program, "check", "--format", "json"], input=text, capture_output=True, check=False)
+    told = json.loads(ran.stdout)
+    if ran.stderr or told["file"] != "<stdin>" or ran.returncode != (0 if told["accepted"] else 3):
+        raise ValueError(f"it ends with {ran.returncode}, and says {ran.stdout!r} and {ran.stderr!r}")
+    return None if told["accepted"] else told["diagnostics"][0]
+
+
+def place_faults(text, found):
+    """What is otherwise with the bytes, the line and the column of something that is found in a text."""
+    before = text[:found["from"]]
+    if not 0 <= found["from"] <= found["to"] <= len(text):
+        yield "its bytes do not lie in the text"
+    elif (found["line"], found["column"]) != (before.count(b"\n") + 1, len(before) - before.rfind(b"\n")):
+        yield "its line and column are not those of its bytes"
+
+
+def told_faults(mistake, found):
+    """What of JSON is not as the text that is said has it."""
+    text = mistake.says.decode()
+    seconds = re.findall(r"(?m)^note: (.*)\n *--> <stdin>:(\d+):(\d+)$", text)
+    second = found["second"]
+    wanted = [(second["label"], str(second["line"]), str(second["column"]))] if second else []
+    if (found["severity"], found["code"], found["line"], found["column"]) != ("error", *mark_of(text)[:3]):
+        yield "JSON has another number or place"
+    if seconds != wanted:
+        yield "JSON has another second place"
+    if f" = help: {found['help']}\n" not in text or bool(found["expected"]) != (" = note: " in text):
+        yield "JSON has other help"
+    if f" = note: {found['expected']}\n" not in text and found["expected"]:
+        yield "JSON expects something else"
+
+
+def fix_faults(program, mistake, found):
+    """What is otherwise with the fix of a mistake."""
+    fix = found["fix"]
+    fixed = mistake.text[:fix["from"]] + fix["text"].encode() + mistake.text[fix["to"]:] if fix else None
+    if fixed != mistake.fixed:
+        yield f"a fix gives {fixed!r}"
+    elif fixed is not None:
+        after = diagnostic(program, fixed)
+        if after and after["code"] == found["code"] and len(fixed) - after["from"] >= len(mistake.text) - found["from"]:
+            yield "what was fixed is not read further"
+
+
+def mistake_faults(program, mistake):
+    """What is otherwise with what is said of a mistake."""
+    ended, out, _ = said(program, mistake.text)
+    told = subprocess.run([program, "check"], input=mistake.text, capture_output=True, check=False).stderr
+    if (ended, out) != (3, b"") or told != mistake.says:
+        yield f"{mistake.name}: it ends with {ended}, and says\n{told.decode(errors='replace')}"
+        return
+    found = diagnostic(program, mistake.text)
+    for part in filter(None, (found, found["second"], found["fix"])):
+        yield from (f"{mistake.name}: {fault}" for fault in place_faults(mistake.text, part))
+    yield from (f"{mistake.name}: {fault}" for fault in told_faults(mistake, found))
+    yield from (f"{mistake.name}: {fault}" for fault in fix_faults(program, mistake, found))
+
+
 def said(program, text, *words):
     """How `nuchapay check` ends, and what it says, of a text."""
-    ran = subprocess.run([program, "check", *words], input=text.encode(), capture_output=True, check=False)
+    given = text if isinstance(text, bytes) else text.encode()
+    ran = subprocess.run([program, "check", *words], input=given, capture_output=True, check=False)
     return ran.returncode, ran.stdout, ran.stderr.decode(errors="replace")
 
 
@@ -81,12 +163,14 @@ def main():
     found = rows()
     faults = [fault for row in found for fault in row_faults(program, row)]
     faults += [fault for number in NUMBERS for fault in page_faults(program, number)]
+    made = mistakes()
+    faults += [fault for mistake in made for fault in mistake_faults(program, mistake)]
     for number in NUMBERS:
         if all(row.number != number for row in found):
             faults.append(f"{number} has no text")
     for fault in faults:
         print(fault)
-    print(f"{len(found)} marks of refusals and {len(NUMBERS)} pages, {len(faults)} otherwise")
+    print(f"{len(found)} marks of refusals, {len(NUMBERS)} pages and {len(made)} mistakes, {len(faults)} otherwise")
     sys.exit(bool(faults))
 
 

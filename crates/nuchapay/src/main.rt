@@ -40,7 +40,8 @@ use crate::show::show_run;
 use crate::turn_answers::say_turn;
 use crate::values::{explained_turn, report_of};
 use nuchapay_tool::{
-    Checked, Question, Request, Topic, check, explain, page_of, pretty, print, request, translate,
+    Checked, Question, Request, Topic, check, check_json, explain, page_of, pretty, print, request,
+    translate,
 };
 use std::alloc::{AllocError, AllocGlobal};
 use std::env;
@@ -112,6 +113,7 @@ where
             say_turn(host, word, explained_turn(rt, text, word, workers))
         }
         Question::Check(colour) => say_check(host, name, text, colour),
+        Question::CheckJson => say_checked(host, check_json(host.alloc(), name, text)),
         // What a Swift file becomes is laid out, and says from which lines each method is.
         Question::Print(_) if is_swift(name) => tell(host, write_out(host, text)),
         Question::Print(is_pretty) => tell(host, write_printed(host, text, is_pretty)),
@@ -143,6 +145,18 @@ fn say_check(rt: &HostRuntime, name: &str, text: &[u8], colour: bool) -> u8 {
         Ok(Checked::Refused(said)) => match write_all(&mut rt.stderr(), said.as_bytes()) {
             Ok(()) => 3,
             Err(_) => 4,
+        },
+        Err(fault) => tell(rt, Err(ToolFault::from(fault))),
+    }
+}
+
+// Says as JSON whether a text is a script, on standard output. The status to end with.
+fn say_checked(rt: &HostRuntime, checked: Result<Checked, AllocError>) -> u8 {
+    match checked {
+        Ok(Checked::Accepted(said)) => tell(rt, write_out(rt, said.as_bytes())),
+        Ok(Checked::Refused(said)) => match write_all(&mut rt.stdout(), said.as_bytes()) {
+            Ok(()) => 3,
+            Err(fault) => tell(rt, Err(ToolFault::from(fault))),
         },
         Err(fault) => tell(rt, Err(ToolFault::from(fault))),
     }

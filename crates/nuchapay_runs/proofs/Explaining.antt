@@ -4,6 +4,8 @@ use Rattle.std.specs.Prelude.{Contains, IfNone, IfOk, IfSome, None, Ok, Err, Opt
 use Rattle.std.proofs.lemmas.List.Elements.{Contains-get_or}
 use Rattle.std.proofs.lemmas.Option.{get_or_from_slice_get, slice_get_within}
 use Rattle.std.specs.Global.{Vec}
+use Rattle.swift_types.specs.declared.outcome.Ending.{Ending}
+use Rattle.swift_events.specs.declared.life.Origin.{Origin}
 use Rattle.swift_script.specs.Scripts.{ScriptView}
 use Rattle.swift_journal.specs.Checkpoints.{CheckpointRoomView}
 use Rattle.swift_journal.specs.Records.{RecordView}
@@ -24,11 +26,11 @@ is_last journal place None some none = none
 is_last journal place (Some last) some none = some
 
 -- all that was written, where there was memory for it
-pub is_why : {E : Type 0} (p : ScriptView) (e : ℕ) (c : CheckpointRoomView) (journal : List RecordView) (place : ℕ) (k : KnownTurn) (a b : Text) (r : Result (Vec ℕ) E)
-    → IsKnown p e c journal place k → Says a b (why_text k) → a.bytes.items ≡ [] → IfOk r (λ _. b.is_cut ≡ false) → IfOk r (λ bytes. bytes.items ≡ b.bytes.items)
-    → IfOk r (λ text. IsWhyAt p e c journal place text.items)
-is_why p e c journal place k a b (Ok text) known says empty uncut bytes = (k, known, bytes ∙ whole says empty uncut)
-is_why p e c journal place k a b (Err d) known says empty uncut bytes = uncut
+pub is_why : {E : Type 0} (p : ScriptView) (es : List (Origin × Ending)) (e : ℕ) (c : CheckpointRoomView) (journal : List RecordView) (place : ℕ) (k : KnownTurn) (a b : Text) (r : Result (Vec ℕ) E)
+    → IsKnown p es e c journal place k → Says a b (why_text k) → a.bytes.items ≡ [] → IfOk r (λ _. b.is_cut ≡ false) → IfOk r (λ bytes. bytes.items ≡ b.bytes.items)
+    → IfOk r (λ text. IsWhyAt p es e c journal place text.items)
+is_why p es e c journal place k a b (Ok text) known says empty uncut bytes = (k, known, bytes ∙ whole says empty uncut)
+is_why p es e c journal place k a b (Err d) known says empty uncut bytes = uncut
 
 contains_read : {X : Type 0} (xs : List X) (k : ℕ) (x : X) → slice_get xs k ≡ Some x → Contains xs x
 contains_read xs k x is = subst (λ (y : _). Contains xs y) (get_or_from_slice_get xs k x x is) (Contains-get_or xs k x (slice_get_within xs k x is))

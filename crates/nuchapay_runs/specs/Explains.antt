@@ -1,5 +1,7 @@
 -- Where a turn stands of which something is said.
 use Rattle.std.specs.Prelude.{◌≡◌, ℕ, ◌+◌, ◌<◌, Option, Some, None, List, Contains, length, slice_get, slice_index_or, take}
+use Rattle.swift_types.specs.declared.outcome.Ending.{Ending}
+use Rattle.swift_events.specs.declared.life.Origin.{Origin}
 use Rattle.script_code.specs.Instructions.{FollowsCode}
 use Rattle.script_code.specs.Layout.{code_at}
 use Rattle.swift_script.specs.Scripts.{ScriptView, method_actor, method_code}
@@ -65,10 +67,11 @@ abbrev pub IsLast : List RecordView → ℕ → Option ℕ → Type 0
 IsLast journal place (Some last) = IsLastTurn journal place last
 IsLast journal place None = (earlier : ℕ) → earlier < place → IsOfOther journal place earlier
 
--- This is known of the turn at a place of a journal of executor `e`, which goes on after a checkpoint. What its variables are called, and the
+-- This is known of the turn at a place of a journal of executor `e`, which goes on after a checkpoint, where tasks come from there. What its variables are called, and the
 -- text of its method, is left open.
-pub record IsKnown (p : ScriptView) (e : ℕ) (c : CheckpointRoomView) (journal : List RecordView) (place : ℕ) (k : KnownTurn) : Type 0 where
+pub record IsKnown (p : ScriptView) (es : List (Origin × Ending)) (e : ℕ) (c : CheckpointRoomView) (journal : List RecordView) (place : ℕ) (k : KnownTurn) : Type 0 where
   pub script : k.names.script ≡ p
+  pub endings : k.endings ≡ es
   pub executor : k.names.executor ≡ e
   pub actor : k.names.actor ≡ method_actor p k.turn.frame.method
   pub instructions : FollowsCode k.instructions (method_code p k.turn.frame.method) (code_at (method_code p k.turn.frame.method))
@@ -82,8 +85,8 @@ pub record IsKnown (p : ScriptView) (e : ℕ) (c : CheckpointRoomView) (journal 
   pub last : IsLast journal place k.last
 
 -- A text explains the turn at a place of a journal: it is that of what is known of the turn.
-abbrev pub IsWhyAt : ScriptView → ℕ → CheckpointRoomView → List RecordView → ℕ → List ℕ → Type 0
-IsWhyAt p e c journal place text = (k : KnownTurn) × IsKnown p e c journal place k × (text ≡ why_text k)
+abbrev pub IsWhyAt : ScriptView → List (Origin × Ending) → ℕ → CheckpointRoomView → List RecordView → ℕ → List ℕ → Type 0
+IsWhyAt p es e c journal place text = (k : KnownTurn) × IsKnown p es e c journal place k × (text ≡ why_text k)
 
 -- A text explains the turn at a place of an executor's journal in a report.
 pub record IsWhyIn (p : ScriptView) (report : Report) (executor place : ℕ) (text : List ℕ) : Type 0 where
@@ -91,7 +94,7 @@ pub record IsWhyIn (p : ScriptView) (report : Report) (executor place : ℕ) (te
   pub journal : List RecordView
   pub checkpoint_is : slice_get report.checkpoints.items executor ≡ Some checkpoint
   pub journal_is : slice_get report.journals.items executor ≡ Some journal
-  pub explains : IsWhyAt p executor checkpoint journal place text
+  pub explains : IsWhyAt p report.endings.items executor checkpoint journal place text
 
 -- A text explains this turn of a report: it explains the turn at a place where a journal has this one.
 pub record IsWhy (p : ScriptView) (report : Report) (task number : ℕ) (text : List ℕ) : Type 0 where

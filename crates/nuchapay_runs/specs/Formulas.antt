@@ -1,5 +1,5 @@
 -- Expressions in words, as bytes: as the printed form has them, with each use of an operator in a parenthesis.
-use Rattle.std.specs.Prelude.{ℕ, ◌==◌, List, [], ◌++◌, codes, decimal, if◌then◌else◌, slice_get, Option, Some, None}
+use Rattle.std.specs.Prelude.{ℕ, ◌==◌, List, [], ◌∷◌, ◌++◌, codes, decimal, if◌then◌else◌, slice_get, unwrap_or}
 use Rattle.std.specs.Fmt.{signed_decimal}
 use Rattle.swift_types.specs.declared.operator.Operator.{Operator}
 use Rattle.script_code.specs.Tree.{Term, number, variable, field, local, priority, cancelled, opposite, denial, binary}
@@ -9,21 +9,21 @@ use Rattle.script_tokens.specs.Spelling.{mark_spelling}
 use Rattle.swift_script.specs.Scripts.{ScriptView, actor_name, field_name, local_name}
 use Rattle.nuchapay_runs.specs.Notes.{actor_at}
 
--- what names are found by: the script, the executor and the actor, and the names of the first variables
+-- what names are found by: the script, the executor and the actor, and the names of the first variables, empty where none is known
 pub record NamesView : Type 0 where
   pub script : ScriptView
   pub executor : ℕ
   pub actor : ℕ
   pub variables : List (List ℕ)
 
--- a variable's name where it has one, else its number
-abbrev pub name_or_number : ℕ → Option (List ℕ) → List ℕ
-name_or_number k None = codes "variable " ++ decimal k
-name_or_number k (Some name) = name
+-- a name, or a variable's number where that is empty
+abbrev pub name_or_number : ℕ → List ℕ → List ℕ
+name_or_number k [] = codes "variable " ++ decimal k
+name_or_number k (x ∷ xs) = x ∷ xs
 
--- a variable of the frame
+-- a variable of the frame: its name where it has one, else its number
 abbrev pub variable_text : NamesView → ℕ → List ℕ
-variable_text ns k = name_or_number k (slice_get ns.variables k)
+variable_text ns k = name_or_number k (unwrap_or (slice_get ns.variables k) [])
 
 -- what stands in front of a field of this actor: nothing where the names are of that actor
 abbrev pub owner_text : NamesView → ℕ → List ℕ

@@ -14,7 +14,7 @@ use Rattle.nuchapay_runs.specs.declared.explained.Explained.TheVariants as said
 
 -- what is known of a turn behind references, as callers see it
 abbrev pub known_of : ExplainedTurn → KnownTurn
-known_of t = record { names = names_view t.names; method = t.method.now; instructions = t.instructions.now; position = t.position; journal = t.journal.now; place = t.place; turn = owned_view t.found.now; before = rows_of t.before.now; own = values_view t.own.now; values = values_views t.values.now; last = t.last }
+known_of t = record { names = names_view t.names; endings = t.endings.now; method = t.method.now; instructions = t.instructions.now; position = t.position; journal = t.journal.now; place = t.place; turn = owned_view t.found.now; before = rows_of t.before.now; own = values_view t.own.now; values = values_views t.values.now; last = t.last }
 
 -- the text that is said of the turn at a place explains it
 abbrev pub TellsAt : ScriptView → Report → ℕ → ℕ → Explained → Type 0

@@ -2,6 +2,8 @@
 use Rattle.std.specs.Prelude.{ℕ, ◌+◌, ◌==◌, ℤ, Bool, true, false, if◌then◌else◌, Option, Some, None, List, [], ◌∷◌, ◌++◌, codes, decimal, reverse, flat_map, slice_get, slice_range, unwrap_or}
 use Rattle.std.specs.Fmt.{signed_decimal}
 use Rattle.swift_types.specs.Priority.{rank}
+use Rattle.swift_types.specs.declared.outcome.Ending.{Ending}
+use Rattle.swift_events.specs.declared.life.Origin.{Origin}
 use Rattle.script_code.specs.declared.instruction.Instruction.{Instruction}
 use Rattle.swift_script.specs.Scripts.{ScriptView, executor_actors, local_name}
 use Rattle.swift_interpreter.specs.Frames.{FrameView}
@@ -11,6 +13,7 @@ use Rattle.nuchapay_runs.specs.Formulas.{NamesView, variable_text}
 use Rattle.nuchapay_runs.specs.Noted.{broken_lines}
 use Rattle.nuchapay_runs.specs.Notes.{change_lines, change_text, note_line, note_lines, place_text}
 use Rattle.nuchapay_runs.specs.Statements.{statement_text}
+use Rattle.nuchapay_runs.specs.TaskNames.{task_name}
 use Rattle.run_pictures.specs.Values.{ValuesView}
 use Rattle.run_pictures.specs.declared.values.change.Change.{Change}
 use Rattle.run_pictures.specs.declared.values.change.Outcome.{Outcome}
@@ -106,40 +109,48 @@ undone_text p e before changes (Broke k) = left_by_text p e before changes (Brok
 abbrev pub fields_text : ScriptView → ℕ → ℕ → List (List ℤ) → ValuesView → List ℕ
 fields_text p e actor before v = codes "fields\n" ++ row_text p e actor (kept_changes v) 0 (unwrap_or (slice_get before actor) []) ++ flat_map (other_text p e actor) (kept_changes v) ++ undone_text p e before v.changes v.outcome
 
+-- the name of a task, after its number
+abbrev pub name_note : ScriptView → List (Origin × Ending) → ℕ → List ℕ
+name_note p es t = codes " (" ++ task_name p es t ++ codes ")"
+
 -- which turn made a change
-abbrev pub by_text : ℕ → ℕ → List ℕ
-by_text by number = codes " by t" ++ decimal by ++ codes "." ++ decimal number ++ codes "\n"
+abbrev pub by_text : ScriptView → List (Origin × Ending) → ℕ → ℕ → List ℕ
+by_text p es by number = codes " by t" ++ decimal by ++ codes "." ++ decimal number ++ name_note p es by ++ codes "\n"
+
+-- who was waiting
+abbrev pub waiting_text : ScriptView → List (Origin × Ending) → ℕ → List ℕ
+waiting_text p es waiting = codes "changed while t" ++ decimal waiting ++ name_note p es waiting ++ codes " was waiting: "
 
 -- the line of a change that turn `number` of task `by` made while task `waiting` was waiting
-abbrev pub blame_text : ScriptView → ℕ → ℕ → ℕ → ℕ → Change → List ℕ
-blame_text p e waiting by number c =
-    codes "changed while t" ++ decimal waiting ++ codes " was waiting: " ++ change_text p e c ++ by_text by number
+abbrev pub blame_text : ScriptView → List (Origin × Ending) → ℕ → ℕ → ℕ → ℕ → Change → List ℕ
+blame_text p es e waiting by number c = waiting_text p es waiting ++ change_text p e c ++ by_text p es by number
 
 -- this line for a change of a field of the actor at this place
-abbrev pub blamed_text : ScriptView → ℕ → ℕ → ℕ → ℕ → ℕ → Change → List ℕ
-blamed_text p e actor waiting by number c = if c.actor == actor then blame_text p e waiting by number c else []
+abbrev pub blamed_text : ScriptView → List (Origin × Ending) → ℕ → ℕ → ℕ → ℕ → ℕ → Change → List ℕ
+blamed_text p es e actor waiting by number c = if c.actor == actor then blame_text p es e waiting by number c else []
 
 -- those lines of each change that these turns made and that stayed, with what each turn did
-abbrev pub meanwhile_text : ScriptView → ℕ → ℕ → ℕ → List RecordView → List ValuesView → List ℕ
-meanwhile_text p e actor task [] vs = []
-meanwhile_text p e actor task (r ∷ rs) [] = []
-meanwhile_text p e actor task (r ∷ rs) (v ∷ vs) = flat_map (blamed_text p e actor task r.task r.number) (kept_changes v) ++ meanwhile_text p e actor task rs vs
+abbrev pub meanwhile_text : ScriptView → List (Origin × Ending) → ℕ → ℕ → ℕ → List RecordView → List ValuesView → List ℕ
+meanwhile_text p es e actor task [] vs = []
+meanwhile_text p es e actor task (r ∷ rs) [] = []
+meanwhile_text p es e actor task (r ∷ rs) (v ∷ vs) = flat_map (blamed_text p es e actor task r.task r.number) (kept_changes v) ++ meanwhile_text p es e actor task rs vs
 
 -- those lines of the turns after the one at `last` and before the one at `place`; none where there is no last one
-abbrev pub since_text : ScriptView → ℕ → ℕ → ℕ → List RecordView → List ValuesView → Option ℕ → ℕ → List ℕ
-since_text p e actor waiting rs vs None place = []
-since_text p e actor waiting rs vs (Some last) place = meanwhile_text p e actor waiting (slice_range rs (last + 1) place) (slice_range vs (last + 1) place)
+abbrev pub since_text : ScriptView → List (Origin × Ending) → ℕ → ℕ → ℕ → List RecordView → List ValuesView → Option ℕ → ℕ → List ℕ
+since_text p es e actor waiting rs vs None place = []
+since_text p es e actor waiting rs vs (Some last) place = meanwhile_text p es e actor waiting (slice_range rs (last + 1) place) (slice_range vs (last + 1) place)
 
 -- the place of an actor among these; past the last where it is not there
 abbrev pub place_among : List ℕ → ℕ → ℕ
 place_among [] a = 0
 place_among (b ∷ bs) a = if b == a then 0 else place_among bs a + 1
 
--- A turn that is explained, and what is known of it: how things are called; the text of its method, and the instructions; its place among
+-- A turn that is explained, and what is known of it: how things are called, and where tasks come from; the text of its method, and the instructions; its place among
 -- all turns of its executor, those of the journal, and its place among these; what it was; the fields before it, and what it did to them; what
 -- each turn of the journal did; and the place there of the last turn of its task, if it has one.
 pub record KnownTurn : Type 0 where
   pub names : NamesView
+  pub endings : List (Origin × Ending)
   pub method : List ℕ
   pub instructions : List Instruction
   pub position : ℕ
@@ -155,13 +166,17 @@ pub record KnownTurn : Type 0 where
 abbrev pub own_place : NamesView → ℕ
 own_place ns = place_among (executor_actors ns.script ns.executor) ns.actor
 
--- the line of the report, the method, and where in it the turn began
+-- what stands in the line of the report
+abbrev pub legend_text : List ℕ
+legend_text = codes "    place, task.turn, worker, method, priority, cancelled, what it began with -> how it ended\n"
+
+-- the line of the report, what stands in it, the method, and where in it the turn began
 abbrev pub head_text : KnownTurn → List ℕ
-head_text k = turn_text k.names.script k.position (line_of k.turn) ++ codes "method\n    " ++ k.method ++ ends_text k.names k.instructions k.turn
+head_text k = turn_text k.names.script k.position (line_of k.turn) ++ legend_text ++ codes "method\n    " ++ k.method ++ ends_text k.names k.instructions k.turn
 
 -- who changed fields of its actor since the last turn of its task
 abbrev pub meantime_text : KnownTurn → List ℕ
-meantime_text k = since_text k.names.script k.names.executor (own_place k.names) k.turn.task k.journal k.values k.last k.place
+meantime_text k = since_text k.names.script k.endings k.names.executor (own_place k.names) k.turn.task k.journal k.values k.last k.place
 
 -- The text that explains a turn: its head, what it found, the fields, and who changed them meanwhile.
 abbrev pub why_text : KnownTurn → List ℕ

@@ -20,7 +20,7 @@ ghost use Rattle.nuchapay_runs.specs.Why.{head_text, meantime_text, own_place, p
 use crate::formula::NamesAt;
 use crate::line::write_turn;
 use crate::names::{Found, find_turn};
-use crate::printed::{method_text, method_word, parameters_of};
+use crate::printed::{method_text, method_word, variables_of};
 use crate::text::Text;
 use crate::why::{write_ends, write_fields, write_found, write_meanwhile};
 use crate::words::Words;
@@ -28,10 +28,11 @@ use run_pictures::picture::{TurnBox, box_at};
 use run_pictures::{TurnValues, fields_before, last_turn, turn_values};
 use script_code::Instruction;
 use std::alloc::{AllocError, Global};
+use swift_events::Origin;
 use swift_journal::{Checkpoint, Journal, OwnedRecord};
 use swift_report::Report;
 use swift_script::Script;
-use swift_types::{ActorId, ExecId, MethodId, TaskId};
+use swift_types::{ActorId, Ending, ExecId, MethodId, TaskId};
 
 /// What is known of a turn (our own).
 #[derive(Drop)]
@@ -102,7 +103,15 @@ fn explain_at(
     let executor = ExecId(executor);
     let position = checkpoint.len() + place;
     let said = turn_text(
-        alloc, script, executor, checkpoint, position, journal, place, method,
+        alloc,
+        script,
+        &report.endings,
+        executor,
+        checkpoint,
+        position,
+        journal,
+        place,
+        method,
     )?;
     Ok(Explained::Found(said))
 }
@@ -123,6 +132,8 @@ fn place_among(actors: &[ActorId], actor: ActorId) -> usize
 #[derive(Clone, Copy)]
 struct ExplainedTurn<'a> {
     names: NamesAt<'a>,
+    // Where the tasks of the run come from.
+    endings: &'a [(Origin, Ending)],
     // The text of its method, and the instructions.
     method: &'a [u8],
     instructions: &'a [Instruction],
@@ -145,6 +156,7 @@ struct ExplainedTurn<'a> {
 fn turn_text(
     alloc: Global,
     script: &Script,
+    endings: &[(Origin, Ending)],
     executor: ExecId,
     start: &Checkpoint,
     position: usize,
@@ -156,14 +168,14 @@ fn turn_text(
     requires position { position ≡ length start.now.view.folded + place }
     requires method { method.0 < method_count script.now }
     requires of_method { (d : RecordView) → method.0 ≡ (slice_index_or journal.now place d).frame.method }
-    ensures { IfOk result (λ text. IsWhyAt script.now executor.0 start.now journal.now place text.items) }
+    ensures { IfOk result (λ text. IsWhyAt script.now endings.now executor.0 start.now journal.now place text.items) }
 {
     let found = journal.read(alloc, place)?;
     let actor = script.method_actor(method);
     let printed = Words::new(alloc, script.printed())?;
     let word = method_word(&printed, actor.0 as usize, script.method_name(method));
     let params = script.method_params(method) as usize;
-    let variables = parameters_of(alloc, &printed, word, params)?;
+    let variables = variables_of(alloc, &printed, word, params)?;
     let before = fields_before(alloc, script, start.fields(), journal, place)?;
     let values = turn_values(alloc, script, start.fields(), journal)?;
     let names = NamesAt {
@@ -177,6 +189,7 @@ fn turn_text(
     why_text(
         alloc,
         names,
+        endings,
         body,
         instructions,
         start,
@@ -193,6 +206,7 @@ fn turn_text(
 fn why_text(
     alloc: Global,
     names: NamesAt<'_>,
+    endings: &[(Origin, Ending)],
     method: &[u8],
     instructions: &[Instruction],
     start: &Checkpoint,
@@ -210,10 +224,11 @@ fn why_text(
     requires found { (d : RecordView) → owned_view found.now ≡ slice_index_or journal.now place d }
     requires before { rows_of before.now ≡ replay names.script.now start.now.view.fields (take place journal.now) }
     requires values { values_views values.now ≡ values_from names.script.now start.now.view.fields journal.now }
-    ensures { IfOk result (λ text. IsWhyAt names.entry.script.now names.entry.executor.0 start.now journal.now place text.items) }
+    ensures { IfOk result (λ text. IsWhyAt names.entry.script.now endings.now names.entry.executor.0 start.now journal.now place text.items) }
 {
     let turn = ExplainedTurn {
         names,
+        endings,
         method,
         instructions,
         position,
@@ -237,6 +252,9 @@ fn write_head(out: &mut Text, turn: &ExplainedTurn<'_>)
     ensures { Says out.old out.new (head_text (known_of turn.now)) }
 {
     write_turn(out, turn.names.script, turn.position, &turn.line);
+    out.say(
+        b"    place, task.turn, worker, method, priority, cancelled, what it began with -> how it ended\n",
+    );
     out.say(b"method\n    ");
     out.say(turn.method);
     write_ends(out, &turn.names, turn.instructions, turn.found)
@@ -256,6 +274,7 @@ fn write_since(out: &mut Text, turn: &ExplainedTurn<'_>, actor: usize)
             turn.names.script,
             turn.names.executor,
             actor,
+            turn.endings,
             turn.found.task,
             turn.journal,
             turn.values,

@@ -1,6 +1,6 @@
 //! Expressions in words.
 
-ghost use Rattle.std.specs.Prelude.{◌≡◌};
+ghost use Rattle.std.specs.Prelude.{◌≡◌, [], slice_get, unwrap_or};
 ghost use Rattle.script_code.specs.Tree.{term_of};
 ghost use Rattle.nuchapay_runs.specs.Formulas.{field_text, formula_text, operator_text, owner_text, variable_text};
 ghost use Rattle.nuchapay_runs.specs.NamedInside.{names_view};
@@ -12,7 +12,7 @@ use script_code::{FieldPlace, Formula};
 use swift_script::Script;
 use swift_types::{ActorId, ExecId, Operator};
 
-/// What names are found by: the executor and the actor, and the names of the first variables.
+/// What names are found by: the executor and the actor, and the names of the first variables, empty where none is known.
 #[derive(Clone, Copy)]
 pub(crate) struct NamesAt<'a> {
     pub script: &'a Script,
@@ -21,17 +21,27 @@ pub(crate) struct NamesAt<'a> {
     pub variables: &'a [&'a [u8]],
 }
 
+// The name of a variable; empty where none is known.
+fn variable_name<'a>(names: &NamesAt<'a>, variable: usize) -> &'a [u8]
+    ensures { result.now ≡ unwrap_or (slice_get (names_view names.now).variables variable) [] }
+{
+    match names.variables.get(variable) {
+        Some(name) => name,
+        None => &[],
+    }
+}
+
 /// Goes on with a variable by its name where it has one, and else by its number: `variable 2`.
 pub(crate) fn write_variable(out: &mut Text, names: &NamesAt<'_>, variable: usize)
     ensures { Says out.old out.new (variable_text (names_view names.now) variable) }
 {
-    match names.variables.get(variable) {
-        Some(name) => out.say(name),
-        None => {
-            out.say(b"variable ");
-            out.number(variable)
-        }
-    }
+    let name = variable_name(names, variable);
+    let [_first, _rest @ ..] = name else {
+        out.say(b"variable ");
+        out.number(variable);
+        return;
+    };
+    out.say(name)
 }
 
 // Goes on with the name of an actor, and a dot, where it is another one.

@@ -64,6 +64,18 @@ fn write_within(
     }
 }
 
+/// Appends the name of a task of a run whose tasks come from there.
+pub(crate) fn write_name(
+    out: &mut Vec<u8>,
+    script: &Script,
+    endings: &[(Origin, Ending)],
+    task: TaskId,
+) -> Result<(), AllocError>
+    ensures { OnOk result (out.new.items ≡ out.old.items ++ task_name script.now endings.now task.0) }
+{
+    write_within(out, script, endings, task, endings.len())
+}
+
 /// The name of a task of a run whose tasks come from there, in their order (our own): of a root's its root's name, `second`; and of
 /// another one its maker's, and its place among those that its maker has made, from 1: `second/1`. Empty where there is no such task.
 ///
@@ -81,7 +93,7 @@ pub fn task_name(
     ensures { IfOk result (λ name. name.items ≡ task_name script.now endings.now task.0) }
 {
     let mut name = Vec::new(alloc);
-    write_within(&mut name, script, endings, task, endings.len())?;
+    write_name(&mut name, script, endings, task)?;
     Ok(name)
 }
 

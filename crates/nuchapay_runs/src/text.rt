@@ -4,16 +4,19 @@ ghost use Rattle.std.specs.Prelude.{◌≡◌, [], false, true, IfOk};
 ghost use Rattle.swift_report.specs.Text.{exit_text, method_text, resume_text};
 ghost use Rattle.nuchapay_runs.specs.Notes.{change_text, place_text};
 ghost use Rattle.nuchapay_runs.specs.SaysInside.{Says};
+ghost use Rattle.nuchapay_runs.specs.TaskNames.{task_name};
 
 use crate::notes::{write_change, write_place};
 use crate::number::number;
+use crate::task_names::write_name;
 use itoa::Integer;
 use run_pictures::Change;
 use run_pictures::picture::word;
 use std::alloc::{AllocError, Global};
+use swift_events::Origin;
 use swift_journal::BriefExit;
 use swift_script::Script;
-use swift_types::{ExecId, MethodId, Resume};
+use swift_types::{Ending, ExecId, MethodId, Resume, TaskId};
 
 /// A text that is being written. Where memory runs out it ends there, and `into_bytes` says so: who writes it asks at the end alone.
 pub(crate) struct Text {
@@ -97,6 +100,15 @@ impl Text {
     {
         if !self.is_cut {
             self.is_cut = word::method(&mut self.bytes, script, method).is_err();
+        }
+    }
+
+    /// Goes on with the name of a task of a run whose tasks come from there.
+    pub(crate) fn task(&mut self, script: &Script, endings: &[(Origin, Ending)], task: TaskId)
+        ensures { Says self.old self.new (task_name script.now endings.now task.0) }
+    {
+        if !self.is_cut {
+            self.is_cut = write_name(&mut self.bytes, script, endings, task).is_err();
         }
     }
 

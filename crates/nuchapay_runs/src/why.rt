@@ -7,7 +7,7 @@ ghost use Rattle.swift_journal.specs.Records.{owned_view};
 ghost use Rattle.nuchapay_runs.specs.NamedInside.{names_view};
 ghost use Rattle.nuchapay_runs.specs.SaysInside.{Says};
 ghost use Rattle.run_pictures.specs.Values.{values_view, values_views};
-ghost use Rattle.nuchapay_runs.specs.Why.{arrow_text, binding_text, bindings_text, blame_text, blamed_text, by_text, cancelled_text, changed_to, ends_text, field_line, fields_text, found_text, given_text, goes_on_text, is_change_at, kept_changes, left_by_text, meanwhile_text, other_text, row_text, undone_text, variable_line, variables_text};
+ghost use Rattle.nuchapay_runs.specs.Why.{arrow_text, binding_text, bindings_text, blame_text, blamed_text, by_text, cancelled_text, changed_to, ends_text, field_line, fields_text, found_text, given_text, goes_on_text, is_change_at, kept_changes, left_by_text, meanwhile_text, name_note, other_text, row_text, undone_text, variable_line, variables_text, waiting_text};
 
 use crate::formula::{NamesAt, write_variable};
 use crate::notes::{write_broken, write_change_line, write_lines};
@@ -16,10 +16,11 @@ use crate::text::Text;
 use run_pictures::{Change, Outcome, TurnValues};
 use script_code::{Binding, Instruction};
 use std::alloc::Global;
+use swift_events::Origin;
 use swift_interpreter::Frame;
 use swift_journal::{Journal, OwnedRecord};
 use swift_script::Script;
-use swift_types::{ExecId, LocalId, TaskId};
+use swift_types::{Ending, ExecId, LocalId, TaskId};
 
 // Where a frame goes on, if it does.
 fn write_goes_on(
@@ -292,23 +293,44 @@ pub(crate) fn write_fields(
     write_undone(out, alloc, script, executor, before, values)
 }
 
-// A turn that made changes while a task was waiting.
+// A turn that made changes while a task was waiting, of a run whose tasks come from there.
 #[derive(Clone, Copy)]
-struct TurnBetween {
+struct TurnBetween<'a> {
+    endings: &'a [(Origin, Ending)],
     waiting: TaskId,
     task: TaskId,
     number: u32,
 }
 
+// The name of a task, after its number.
+fn write_name_note(out: &mut Text, script: &Script, endings: &[(Origin, Ending)], task: TaskId)
+    ensures { Says out.old out.new (name_note script.now endings.now task.0) }
+{
+    out.say(b" (");
+    out.task(script, endings, task);
+    out.say(b")")
+}
+
 // Which turn made a change.
-fn write_by(out: &mut Text, task: TaskId, number: u32)
-    ensures { Says out.old out.new (by_text task.0 number) }
+fn write_by(out: &mut Text, script: &Script, between: TurnBetween<'_>)
+    ensures { Says out.old out.new (by_text script.now between.entry.endings.now between.entry.task.0 between.entry.number) }
 {
     out.say(b" by t");
-    out.number(task.0);
+    out.number(between.task.0);
     out.say(b".");
-    out.number(number);
+    out.number(between.number);
+    write_name_note(out, script, between.endings, between.task);
     out.say(b"\n")
+}
+
+// Who was waiting.
+fn write_waiting(out: &mut Text, script: &Script, between: TurnBetween<'_>)
+    ensures { Says out.old out.new (waiting_text script.now between.entry.endings.now between.entry.waiting.0) }
+{
+    out.say(b"changed while t");
+    out.number(between.waiting.0);
+    write_name_note(out, script, between.endings, between.waiting);
+    out.say(b" was waiting: ")
 }
 
 // A line for a change that a turn made while a task was waiting.
@@ -316,16 +338,14 @@ fn write_blamed(
     out: &mut Text,
     script: &Script,
     executor: ExecId,
-    between: TurnBetween,
+    between: TurnBetween<'_>,
     change: &Change,
 )
-    ensures { Says out.old out.new (blame_text script.now executor.0 between.waiting.0 between.task.0 between.number change.now) }
+    ensures { Says out.old out.new (blame_text script.now between.entry.endings.now executor.0 between.entry.waiting.0 between.entry.task.0 between.entry.number change.now) }
 {
-    out.say(b"changed while t");
-    out.number(between.waiting.0);
-    out.say(b" was waiting: ");
+    write_waiting(out, script, between);
     out.change(script, executor, change);
-    write_by(out, between.task, between.number)
+    write_by(out, script, between)
 }
 
 // This line for a change of the actor's field.
@@ -334,10 +354,10 @@ fn write_if_blamed(
     script: &Script,
     executor: ExecId,
     actor: usize,
-    between: TurnBetween,
+    between: TurnBetween<'_>,
     change: &Change,
 )
-    ensures { Says out.old out.new (blamed_text script.now executor.0 actor between.waiting.0 between.task.0 between.number change.now) }
+    ensures { Says out.old out.new (blamed_text script.now between.entry.endings.now executor.0 actor between.entry.waiting.0 between.entry.task.0 between.entry.number change.now) }
 {
     if change.actor == actor {
         write_blamed(out, script, executor, between, change)
@@ -350,22 +370,24 @@ fn write_changed(
     script: &Script,
     executor: ExecId,
     actor: usize,
-    between: TurnBetween,
+    between: TurnBetween<'_>,
     changes: &[Change],
 )
-    ensures { Says out.old out.new (flat_map (blamed_text script.now executor.0 actor between.waiting.0 between.task.0 between.number) changes.now) }
+    ensures { Says out.old out.new (flat_map (blamed_text script.now between.entry.endings.now executor.0 actor between.entry.waiting.0 between.entry.task.0 between.entry.number) changes.now) }
 {
     for change in changes {
         write_if_blamed(out, script, executor, actor, between, change);
     }
 }
 
-/// Goes on with a line for each change of an actor's field that the turns between two places of a journal made, while a task was waiting.
+/// Goes on with a line for each change of an actor's field that the turns between two places of a journal made, while a task was waiting, in
+/// a run whose tasks come from there.
 pub(crate) fn write_meanwhile(
     out: &mut Text,
     script: &Script,
     executor: ExecId,
     actor: usize,
+    endings: &[(Origin, Ending)],
     waiting: TaskId,
     journal: &Journal,
     values: &[TurnValues],
@@ -374,10 +396,11 @@ pub(crate) fn write_meanwhile(
 )
     requires turns { to ≤ length journal.now }
     requires values { to ≤ length values.now }
-    ensures { Says out.old out.new (meanwhile_text script.now executor.0 actor waiting.0 (slice_range journal.now from to) (slice_range (values_views values.now) from to)) }
+    ensures { Says out.old out.new (meanwhile_text script.now endings.now executor.0 actor waiting.0 (slice_range journal.now from to) (slice_range (values_views values.now) from to)) }
 {
     for place in from..to {
         let between = TurnBetween {
+            endings,
             waiting,
             task: journal.task(place),
             number: journal.number(place),

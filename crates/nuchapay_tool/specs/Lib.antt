@@ -1,4 +1,6 @@
+pub mod Advised
 pub mod Checks
+pub mod ChecksJson
 pub mod Colours
 pub mod InputInside
 pub mod LayoutsInside

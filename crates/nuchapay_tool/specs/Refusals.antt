@@ -31,30 +31,47 @@ bar_text colour gutter = concat (gutter ∷ blue colour ∷ codes " |" ∷ plain
 abbrev pub source_text : Bool → List ℕ → List ℕ → ℕ → List ℕ
 source_text colour number text line = concat (blue colour ∷ number ∷ codes " |" ∷ plain colour ∷ codes " " ∷ shown_line text line ∷ codes "\n" ∷ [])
 
--- what to do
-abbrev pub advice_text : Bool → List ℕ → List ℕ → List ℕ
-advice_text colour gutter help = concat (gutter ∷ blue colour ∷ codes " =" ∷ plain colour ∷ codes " " ∷ bold colour ∷ codes "help" ∷ plain colour ∷ codes ": " ∷ help ∷ codes "\n" ∷ [])
+-- what was expected, or what to do, after the word for it
+abbrev pub advice_text : Bool → List ℕ → List ℕ → List ℕ → List ℕ
+advice_text colour gutter word said = concat (gutter ∷ blue colour ∷ codes " =" ∷ plain colour ∷ codes " " ∷ bold colour ∷ word ∷ plain colour ∷ codes ": " ∷ said ∷ codes "\n" ∷ [])
 
--- where a refusal is, with that line of the text and the mark under it, and what to do; with this number beside the line, and the
--- gutter beside all else
-abbrev pub text_beside : Bool → List ℕ → List ℕ → List ℕ → List ℕ → ℕ → Option LineMark → List ℕ → List ℕ
-text_beside colour gutter number file text line mark help = concat (
+-- where something is, with that line of the text and the mark under it; with this number beside the line, and the gutter beside all else
+abbrev pub lines_beside : Bool → List ℕ → List ℕ → List ℕ → List ℕ → ℕ → Option LineMark → List ℕ
+lines_beside colour gutter number file text line mark = concat (
     arrow_text colour gutter file number (column_text mark)
     ∷ bar_text colour gutter
     ∷ source_text colour number text line
-    ∷ mark_text colour gutter mark
-    ∷ bar_text colour gutter
-    ∷ advice_text colour gutter help ∷ []
+    ∷ mark_text colour gutter mark ∷ []
     )
 
+-- what was expected, unless nothing is said of that
+abbrev pub expected_text : Bool → List ℕ → List ℕ → List ℕ
+expected_text colour gutter expected = if length expected == 0 then [] else advice_text colour gutter (codes "note") expected
+
+-- what was expected, and what to do
+abbrev pub said_beside : Bool → List ℕ → List ℕ → List ℕ → List ℕ
+said_beside colour gutter expected help = concat (bar_text colour gutter ∷ expected_text colour gutter expected ∷ advice_text colour gutter (codes "help") help ∷ [])
+
+-- where a refusal is, what was expected there, and what to do; with this number beside the line, and the gutter beside all else
+abbrev pub text_beside : Bool → List ℕ → List ℕ → List ℕ → List ℕ → ℕ → Option LineMark → List ℕ → List ℕ → List ℕ
+text_beside colour gutter number file text line mark expected help = concat (lines_beside colour gutter number file text line mark ∷ said_beside colour gutter expected help ∷ [])
+
 -- what follows the first line of a refusal on line `line` of the text, with the number of that line beside it
-abbrev pub located_text : Bool → List ℕ → List ℕ → ℕ → Option LineMark → List ℕ → List ℕ
-located_text colour file text line mark help = text_beside colour (gutter line) (decimal line) file text line mark help
+abbrev pub located_text : Bool → List ℕ → List ℕ → ℕ → Option LineMark → List ℕ → List ℕ → List ℕ
+located_text colour file text line mark expected help = text_beside colour (gutter line) (decimal line) file text line mark expected help
 
 -- what follows the first line of a refusal; out of memory stands on line 0
-abbrev pub place_text : Bool → List ℕ → List ℕ → ℕ → Option LineMark → List ℕ → List ℕ
-place_text colour file text line mark help = if line == 0 then lost_text colour help else located_text colour file text line mark help
+abbrev pub place_text : Bool → List ℕ → List ℕ → ℕ → Option LineMark → List ℕ → List ℕ → List ℕ
+place_text colour file text line mark expected help = if line == 0 then lost_text colour help else located_text colour file text line mark expected help
 
 -- what is said of a refusal
-abbrev pub refusal_text : Bool → List ℕ → List ℕ → ℕ → Option LineMark → Page → List ℕ
-refusal_text colour file text line mark p = concat (head_text colour p ∷ place_text colour file text line mark p.help.now ∷ [])
+abbrev pub refusal_text : Bool → List ℕ → List ℕ → ℕ → Option LineMark → Page → List ℕ → List ℕ → List ℕ
+refusal_text colour file text line mark p expected help = concat (head_text colour p ∷ place_text colour file text line mark expected help ∷ [])
+
+-- what is said of a second place, without that place
+abbrev pub label_text : Bool → List ℕ → List ℕ
+label_text colour label = concat (bold colour ∷ codes "note" ∷ plain colour ∷ codes ": " ∷ label ∷ codes "\n" ∷ [])
+
+-- what is said of a second place
+abbrev pub second_text : Bool → List ℕ → List ℕ → ℕ → Option LineMark → List ℕ → List ℕ
+second_text colour file text line mark label = concat (label_text colour label ∷ lines_beside colour (gutter line) (decimal line) file text line mark ∷ [])

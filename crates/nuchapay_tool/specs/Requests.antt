@@ -2,7 +2,7 @@
 use Rattle.std.specs.Prelude.{◌≤◌}
 use Rattle.swift_types.specs.declared.limits.TheConstants.{WORKERS}
 use Rattle.nuchapay_tool.specs.declared.requests.Question.{Question}
-use Rattle.nuchapay_tool.specs.declared.requests.Question.TheVariants.{Run, RunJson, Values, Why, Check, Print, Show, Scheduled, Swift, Explore, ExploreBroken, Rerun}
+use Rattle.nuchapay_tool.specs.declared.requests.Question.TheVariants.{Run, RunJson, Values, Why, Check, CheckJson, Print, Show, Scheduled, Swift, Explore, ExploreBroken, Rerun}
 use Rattle.nuchapay_tool.specs.declared.requests.Request.{Request}
 use Rattle.nuchapay_tool.specs.declared.requests.Request.TheVariants.{Explain, Ask}
 
@@ -13,6 +13,7 @@ IsOnCrew (RunJson workers quiet) = (1 ≤ workers) × (workers ≤ WORKERS)
 IsOnCrew (Values workers) = (1 ≤ workers) × (workers ≤ WORKERS)
 IsOnCrew (Why name workers) = (1 ≤ workers) × (workers ≤ WORKERS)
 IsOnCrew (Check colour) = Unit {0}
+IsOnCrew CheckJson = Unit {0}
 IsOnCrew (Print pretty) = Unit {0}
 IsOnCrew (Show workers format) = (1 ≤ workers) × (workers ≤ WORKERS)
 IsOnCrew (Scheduled schedule form) = Unit {0}

@@ -1,12 +1,20 @@
 //! The commands of the program `nuchapay`, each from text to text.
 #![tactic(auto)]
 
+// What helps to mend a text that is refused.
+mod advice;
 // Whether a text is a script, and why not.
 mod checks;
+// Whether a text is a script, as JSON.
+mod checks_json;
 // The colours of a text for a terminal.
 mod colours;
+// What to write, where that helps.
+mod fixes;
 // A script from a device.
 mod input;
+// JSON that is being written.
+mod json_text;
 // Tokens as a person would lay them out.
 mod layout;
 // Where in a text a refusal stands.
@@ -47,6 +55,7 @@ mod turn_names;
 mod words;
 
 pub use checks::{Checked, check};
+pub use checks_json::check_json;
 pub use input::read_input;
 pub use laid::pretty;
 pub use page::{Page, ScriptPair, explain};

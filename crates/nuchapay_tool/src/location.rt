@@ -14,4 +14,4 @@ mod span;
 mod sought;
 
 pub(crate) use blame::blamed;
-pub(crate) use span::Span;
+pub(crate) use span::{Span, token_span};

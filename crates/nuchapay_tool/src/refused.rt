@@ -3,7 +3,7 @@
 ghost use Rattle.std.specs.Prelude.{◌≡◌, IfOk};
 ghost use Rattle.std.specs.String.{string_bytes};
 ghost use Rattle.nuchapay_tool.specs.Marks.{column_text};
-ghost use Rattle.nuchapay_tool.specs.Refusals.{advice_text, arrow_text, bar_text, head_text, located_text, lost_text, place_text, refusal_text, source_text, text_beside};
+ghost use Rattle.nuchapay_tool.specs.Refusals.{advice_text, arrow_text, bar_text, expected_text, head_text, label_text, lines_beside, located_text, lost_text, place_text, refusal_text, said_beside, second_text, source_text, text_beside};
 
 use crate::colours::{blue, bold, plain, red};
 use crate::mark::{LineMark, column_text, mark_text};
@@ -11,7 +11,8 @@ use crate::page::Page;
 use crate::source::shown_line;
 use std::alloc::{AllocError, Global};
 
-/// What is said of a refusal: its page's number and text, where it is, that line of the text with a mark under it, and what to do.
+/// What is said of a refusal: its page's number and text, where it is, that line of the text with a mark under it, what was expected
+/// there, unless that is empty, and what to do.
 /// Linear in the text.
 ///
 /// # Errors
@@ -25,14 +26,16 @@ pub(crate) fn refusal(
     line: u32,
     mark: Option<LineMark>,
     page: &Page,
+    expected: &str,
+    help: &str,
 ) -> Result<String, AllocError>
-    ensures { IfOk result (λ said. string_bytes said ≡ refusal_text colour file.now text.now line mark page.now) }
+    ensures { IfOk result (λ said. string_bytes said ≡ refusal_text colour file.now text.now line mark page.now expected.now help.now) }
 {
     let head = head(alloc, colour, page)?;
     let place = if line == 0 {
-        lost(alloc, colour, page.help)?
+        lost(alloc, colour, help)?
     } else {
-        located(alloc, colour, file, text, line, mark, page.help)?
+        located(alloc, colour, file, text, line, mark, expected, help)?
     };
     let parts = [head.as_str(), place.as_str()];
     parts.as_slice().concat(alloc)
@@ -71,9 +74,10 @@ fn located(
     text: &[u8],
     line: u32,
     mark: Option<LineMark>,
+    expected: &str,
     help: &str,
 ) -> Result<String, AllocError>
-    ensures { IfOk result (λ said. string_bytes said ≡ located_text colour file.now text.now line mark help.now) }
+    ensures { IfOk result (λ said. string_bytes said ≡ located_text colour file.now text.now line mark expected.now help.now) }
 {
     let number = line.to_string(alloc)?;
     let gutter = " ".repeat(alloc, number.len())?;
@@ -86,6 +90,7 @@ fn located(
         text,
         line,
         mark,
+        expected,
         help,
     )
 }
@@ -100,23 +105,114 @@ fn beside(
     text: &[u8],
     line: u32,
     mark: Option<LineMark>,
+    expected: &str,
     help: &str,
 ) -> Result<String, AllocError>
-    ensures { IfOk result (λ said. string_bytes said ≡ text_beside colour gutter.now number.now file.now text.now line mark help.now) }
+    ensures { IfOk result (λ said. string_bytes said ≡ text_beside colour gutter.now number.now file.now text.now line mark expected.now help.now) }
+{
+    let shown = lines_beside(alloc, colour, gutter, number, file, text, line, mark)?;
+    let said = said_beside(alloc, colour, gutter, expected, help)?;
+    let parts = [shown.as_str(), said.as_str()];
+    parts.as_slice().concat(alloc)
+}
+
+// Where something is, and that line of the text with the mark under it.
+fn lines_beside(
+    alloc: Global,
+    colour: bool,
+    gutter: &str,
+    number: &str,
+    file: &str,
+    text: &[u8],
+    line: u32,
+    mark: Option<LineMark>,
+) -> Result<String, AllocError>
+    ensures { IfOk result (λ said. string_bytes said ≡ lines_beside colour gutter.now number.now file.now text.now line mark) }
 {
     let arrow = arrow(alloc, colour, gutter, file, number, mark)?;
     let bar = bar(alloc, colour, gutter)?;
     let source = source(alloc, colour, number, text, line)?;
     let under = mark_text(alloc, colour, gutter, mark)?;
-    let advice = advice(alloc, colour, gutter, help)?;
     let parts = [
         arrow.as_str(),
         bar.as_str(),
         source.as_str(),
         under.as_str(),
-        bar.as_str(),
-        advice.as_str(),
     ];
+    parts.as_slice().concat(alloc)
+}
+
+// What was expected, and what to do.
+fn said_beside(
+    alloc: Global,
+    colour: bool,
+    gutter: &str,
+    expected: &str,
+    help: &str,
+) -> Result<String, AllocError>
+    ensures { IfOk result (λ said. string_bytes said ≡ said_beside colour gutter.now expected.now help.now) }
+{
+    let bar = bar(alloc, colour, gutter)?;
+    let note = expected_line(alloc, colour, gutter, expected)?;
+    let advice = advice(alloc, colour, gutter, "help", help)?;
+    let parts = [bar.as_str(), note.as_str(), advice.as_str()];
+    parts.as_slice().concat(alloc)
+}
+
+// What was expected, unless nothing is said of that.
+fn expected_line(
+    alloc: Global,
+    colour: bool,
+    gutter: &str,
+    expected: &str,
+) -> Result<String, AllocError>
+    ensures { IfOk result (λ said. string_bytes said ≡ expected_text colour gutter.now expected.now) }
+{
+    if expected.len() == 0 {
+        Ok(String::new(alloc))
+    } else {
+        advice(alloc, colour, gutter, "note", expected)
+    }
+}
+
+/// What is said of a second place that is concerned: a label, where it is, and that line of the text with a mark under it.
+///
+/// # Errors
+///
+/// `AllocError` where there is no memory for it.
+pub(crate) fn second_place(
+    alloc: Global,
+    colour: bool,
+    file: &str,
+    text: &[u8],
+    line: u32,
+    mark: Option<LineMark>,
+    label: &str,
+) -> Result<String, AllocError>
+    ensures { IfOk result (λ said. string_bytes said ≡ second_text colour file.now text.now line mark label.now) }
+{
+    let number = line.to_string(alloc)?;
+    let gutter = " ".repeat(alloc, number.len())?;
+    let shown = lines_beside(
+        alloc,
+        colour,
+        gutter.as_str(),
+        number.as_str(),
+        file,
+        text,
+        line,
+        mark,
+    )?;
+    let label = label_line(alloc, colour, label)?;
+    let parts = [label.as_str(), shown.as_str()];
+    parts.as_slice().concat(alloc)
+}
+
+// What is said of a second place.
+fn label_line(alloc: Global, colour: bool, label: &str) -> Result<String, AllocError>
+    ensures { IfOk result (λ said. string_bytes said ≡ label_text colour label.now) }
+{
+    let parts = [bold(colour), "note", plain(colour), ": ", label, "\n"];
     parts.as_slice().concat(alloc)
 }
 
@@ -177,9 +273,15 @@ fn source(
     parts.as_slice().concat(alloc)
 }
 
-// What to do.
-fn advice(alloc: Global, colour: bool, gutter: &str, help: &str) -> Result<String, AllocError>
-    ensures { IfOk result (λ said. string_bytes said ≡ advice_text colour gutter.now help.now) }
+// What was expected, or what to do, after the word for it.
+fn advice(
+    alloc: Global,
+    colour: bool,
+    gutter: &str,
+    word: &str,
+    said: &str,
+) -> Result<String, AllocError>
+    ensures { IfOk result (λ told. string_bytes told ≡ advice_text colour gutter.now word.now said.now) }
 {
     let parts = [
         gutter,
@@ -188,10 +290,10 @@ fn advice(alloc: Global, colour: bool, gutter: &str, help: &str) -> Result<Strin
         plain(colour),
         " ",
         bold(colour),
-        "help",
+        word,
         plain(colour),
         ": ",
-        help,
+        said,
         "\n",
     ];
     parts.as_slice().concat(alloc)

@@ -71,6 +71,8 @@ pub enum Question<'a> {
     Why(TurnWord<'a>, u32),
     /// Whether its text is a script, and why not; with colours where this says so.
     Check(bool),
+    /// The same as JSON.
+    CheckJson,
     /// Its printed form; laid out for people where this says so.
     Print(bool),
     /// Its run on this number of threads, as a picture in this format.

@@ -32,7 +32,12 @@ fn dots(len: usize) -> &'static str
     if len > SHOWN { " .." } else { "" }
 }
 
-fn shown(alloc: Global, line: &[u8]) -> Result<String, AllocError>
+/// Bytes as they are shown to people.
+///
+/// # Errors
+///
+/// `AllocError` where there is no memory for them.
+pub(crate) fn shown(alloc: Global, line: &[u8]) -> Result<String, AllocError>
     ensures { IfOk result (λ shown. string_bytes shown ≡ map shown_byte line.now) }
 {
     let bytes: Vec<u8> = line.iter().map(|b| shown_byte(*b)).collect(alloc)?;
@@ -67,6 +72,17 @@ pub(crate) fn from_line(text: &[u8], line: u32) -> &[u8]
         rest = after_line(rest);
     }
     rest
+}
+
+/// The line on which a byte of a text stands, counted from 1.
+pub(crate) fn line_of(text: &[u8], place: usize) -> u32 {
+    let mut line = 1u32;
+    for byte in &text[..place.min(text.len())] {
+        if *byte == b'\n' {
+            line = line.saturating_add(1);
+        }
+    }
+    line
 }
 
 /// What stands before the first line feed.

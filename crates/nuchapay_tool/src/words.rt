@@ -150,10 +150,13 @@ fn check_command<'a>(alloc: Global) -> Result<Command<'a>, AllocError> {
     );
     let words = with_arg(Ok(words), file(alloc));
     let colour = "Colours what is said of a refusal: always or never";
-    with_arg(
-        words,
-        option(alloc, "color", "WHEN", colour).default_value("never"),
-    )
+    let colour = option(alloc, "color", "WHEN", colour).default_value("never");
+    let words = with_arg(words, colour);
+    let format = "Says it as text, or as JSON for an editor, on standard output";
+    let format = option(alloc, "format", "FORMAT", format)
+        .value_parser(["text", "json"].as_slice())
+        .default_value("text");
+    with_arg(words, format)
 }
 
 fn explain_command<'a>(alloc: Global) -> Result<Command<'a>, AllocError> {
@@ -408,6 +411,7 @@ fn check_request<'a>(matches: &ArgMatches<'a>) -> Result<Request<'a>, Refused>
     ensures { IfOk result HasCrew }
 {
     match is_second(matches, "color", "never", "always") {
+        Some(_) if is_json(matches) => Ok(Request::Ask(source(matches), Question::CheckJson)),
         Some(colour) => Ok(Request::Ask(source(matches), Question::Check(colour))),
         None => Err(Refused {
             kind: ErrorKind::InvalidValue,
@@ -561,7 +565,8 @@ fn is_second(matches: &ArgMatches<'_>, argument: &str, first: &str, second: &str
 ///   10,000,000, and `--broken`, or `--expect EXPR`, also more than once, `--no-fault`, and `--format` with `text` or `json`, `text` where
 ///   it is not given;
 /// - `show`, with a file, `--workers N`, and `--format` with `svg`, `html` or `trace`, `svg` where it is not given;
-/// - `check`, with a file and `--color always` or `never`, which is meant where it is not given;
+/// - `check`, with a file, `--color always` or `never`, which is meant where it is not given, and `--format` with `text` or `json`, `text`
+///   where it is not given;
 /// - `print`, with a file and `--pretty`;
 /// - `explain`, with the word of a topic.
 ///

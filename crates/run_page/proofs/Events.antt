@@ -9,12 +9,15 @@ first_of : {X : Type 0} (xs : List X) (k : ℕ) → k < length xs → X
 first_of [] k lt = absurd (omega (arith, lt))
 first_of (x ∷ xs) k lt = x
 
+-- the events from one on
+pub from_place : (k : ℕ) (es : List Event) (e : Event) → k < length es → ((d : Event) → e ≡ get_or es k d) → drop k es ≡ e ∷ drop (k + 1) es
+from_place k es e lt is =
+    let d = first_of es k lt in
+    drop_more es k d lt ∙ ap (λ (x : Event). x ∷ drop (k + 1) es) (sym (is d))
+
 events_from : (place : ℕ) (es : List Event) (e : Event) → place < length es → ((d : Event) → e ≡ get_or es place d)
     → events_json place (drop place es) ≡ event_json place e ++ events_json (place + 1) (drop (place + 1) es)
-events_from place es e lt is =
-    let d = first_of es place lt in
-    ap (events_json place) (drop_more es place d lt)
-    ∙ ap (λ (x : Event). event_json place x ++ events_json (place + 1) (drop (place + 1) es)) (sym (is d))
+events_from place es e lt is = ap (events_json place) (from_place place es e lt is)
 
 -- a step of the loop that writes them
 pub events_more : (place : ℕ) (es : List Event) (e : Event) (old new whole : List ℕ) → place < length es → ((d : Event) → e ≡ get_or es place d)

@@ -1,3 +1,4 @@
+mod Applied
 mod Events
 mod Executors
 mod Explained

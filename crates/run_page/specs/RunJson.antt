@@ -1,17 +1,19 @@
 -- What stands in a page beside the report, as JSON (the format is our own).
-use Rattle.std.specs.Prelude.{◌≡◌, ℕ, zero, suc, ◌+◌, ◌==◌, Option, Some, None, List, [], ◌∷◌, ◌++◌, All, codes, decimal, flat_map, if◌then◌else◌, slice_get}
+use Rattle.std.specs.Prelude.{◌≡◌, ℕ, zero, suc, ◌+◌, ◌==◌, ◌-◌, Option, Some, None, List, [], ◌∷◌, ◌++◌, codes, decimal, drop, flat_map, if◌then◌else◌, length, slice_get}
 use Rattle.std.specs.declared.vec.Vec.{Vec}
 use Rattle.std.specs.declared.alloc.Global.{Global}
 use Rattle.swift_script.specs.Scripts.{ScriptView, executor_count}
+use Rattle.swift_types.specs.declared.id.TaskId.{TaskId}
 use Rattle.swift_events.specs.Events.{task_of}
 use Rattle.swift_events.specs.declared.event.Event.{Event}
 use Rattle.swift_events.specs.declared.event.Event.TheVariants.{Root, Begin, Apply, Free, Open, Child, Skip, CancelTask, CancelGroup, Wait, Next, Close, End, Give}
 use Rattle.swift_journal.specs.Checkpoints.{CheckpointRoomView}
 use Rattle.swift_journal.specs.Records.{RecordView}
 use Rattle.swift_report.specs.declared.report.Report.{Report}
-use Rattle.nuchapay_runs.specs.Explains.{Explains}
+use Rattle.nuchapay_runs.specs.Explains.{Explains, Tells}
 use Rattle.nuchapay_runs.specs.Notes.{change_text}
 use Rattle.run_pictures.specs.Values.{ValuesView, values_from}
+use Rattle.nuchapay_runs.specs.declared.explained.Explained.{Explained}
 use Rattle.nuchapay_runs.specs.declared.explained.Explained.TheVariants as said
 use Rattle.run_pictures.specs.declared.values.change.Change.{Change}
 use Rattle.run_pictures.specs.declared.values.change.Outcome.{Outcome}
@@ -132,13 +134,52 @@ pub record ExplainedTurn : Type 0 where
 abbrev pub all_explained_json : List ExplainedTurn → List ℕ
 all_explained_json = flat_map (λ e. explained_json e.task e.number e.text.items)
 
--- What is said of a turn is what explains it.
-abbrev pub IsExplained : Report → ExplainedTurn → Type 0
-IsExplained r e = Explains r e.task e.number (said.Found e.text)
+-- the turn that an event applies
+abbrev pub applied_turn : Event → Option (TaskId × ℕ)
+applied_turn (Apply t n) = Some (t, n)
+applied_turn _ = None
 
--- A text that has what explains some turns of a report is appended.
-abbrev pub AppendsExplained : Report → (List ExplainedTurn → List ℕ) → List ℕ → List ℕ → Type 0
-AppendsExplained r text old new = (turns : List ExplainedTurn) × All (IsExplained r) turns × (new ≡ old ++ text turns)
+-- a turn before others, if there is one
+abbrev pub before_others : Option (TaskId × ℕ) → List (TaskId × ℕ) → List (TaskId × ℕ)
+before_others (Some turn) turns = turn ∷ turns
+before_others None turns = turns
+
+-- the turns that events apply, in order
+abbrev pub applied_turns : List Event → List (TaskId × ℕ)
+applied_turns [] = []
+applied_turns (e ∷ es) = before_others (applied_turn e) (applied_turns es)
+
+-- the last turns that events apply, as many as are explained
+abbrev pub last_turns : List Event → List (TaskId × ℕ)
+last_turns es = drop (length (applied_turns es) - EXPLAINED) (applied_turns es)
+
+-- what stands in a page of a turn, by what is said of it: nothing where it was folded, or is found nowhere
+abbrev pub told_of : ℕ → ℕ → Explained → List ExplainedTurn
+told_of task number (said.Found text) = record { task = task; number = number; text = text } ∷ []
+told_of task number said.Folded = []
+told_of task number said.Nowhere = []
+
+-- This stands in a page of a turn: what explains it, which is the text of `why`.
+abbrev pub IsTold : ScriptView → Report → ℕ → ℕ → List ExplainedTurn → Type 0
+IsTold p r task number told = (said : Explained) × Explains r task number said × Tells p r task number said × (told ≡ told_of task number said)
+
+-- This stands in a page of a turn, if there is one.
+abbrev pub IsToldOfOne : ScriptView → Report → Option (TaskId × ℕ) → List ExplainedTurn → Type 0
+IsToldOfOne p r (Some turn) told = IsTold p r turn.0.0 turn.1 told
+IsToldOfOne p r None told = told ≡ []
+
+-- This stands in a page of turns: what explains each, in order.
+abbrev pub AreTold : ScriptView → Report → List (TaskId × ℕ) → List ExplainedTurn → Type 0
+AreTold p r [] told = told ≡ []
+AreTold p r (turn ∷ turns) told = (first : List ExplainedTurn) × (rest : List ExplainedTurn) × IsTold p r turn.0.0 turn.1 first × AreTold p r turns rest × (told ≡ first ++ rest)
+
+-- What is told of a run: what explains each of the last turns of its log.
+abbrev pub IsToldOfRun : ScriptView → Report → List ExplainedTurn → Type 0
+IsToldOfRun p r told = AreTold p r (last_turns r.log.events) told
+
+-- A text is appended that has something told in it.
+abbrev pub AppendsTold : (List ExplainedTurn → Type 0) → (List ExplainedTurn → List ℕ) → List ℕ → List ℕ → Type 0
+AppendsTold IsSo text old new = (told : List ExplainedTurn) × IsSo told × (new ≡ old ++ text told)
 
 -- What stands beside the report of a run: what it is headed with, its log, what its turns did, and what explains some of them.
 abbrev pub more_json : ScriptView → Report → Heading → List ExplainedTurn → List ℕ

@@ -1,7 +1,7 @@
 //! What is said of each turn.
 
-ghost use Rattle.std.specs.Prelude.{◌≡◌, ◌++◌, OnOk, codes, decimal};
-ghost use Rattle.run_page.specs.RunJson.{AppendsExplained, all_explained_json, explained_json};
+ghost use Rattle.std.specs.Prelude.{◌≡◌, ◌++◌, OnOk, codes, decimal, drop};
+ghost use Rattle.run_page.specs.RunJson.{AppendsTold, IsTold, IsToldOfOne, IsToldOfRun, all_explained_json, applied_turn, applied_turns, explained_json, last_turns};
 
 use crate::append::{labelled, say};
 use crate::quote::labelled_text;
@@ -35,7 +35,7 @@ fn explanation(
     task: TaskId,
     number: u32,
 ) -> Result<(), AllocError>
-    ensures { OnOk result (AppendsExplained report.now all_explained_json out.old.items out.new.items) }
+    ensures { OnOk result (AppendsTold (IsTold script.now report.now task.0 number) all_explained_json out.old.items out.new.items) }
 {
     match explain_turn(alloc, script, report, task, number)? {
         Explained::Found(said) => explained(out, task, number, &said),
@@ -43,32 +43,44 @@ fn explanation(
     }
 }
 
-// What is said of the turn that this event applies.
-fn explanation_at(
+// The turn that an event applies.
+fn applied_turn(event: Event) -> Option<(TaskId, u32)>
+    ensures { result ≡ applied_turn event }
+{
+    match event {
+        Event::Apply(task, number) => Some((task, number)),
+        _ => None,
+    }
+}
+
+// What is said of a turn, if there is one.
+fn explanation_of(
     alloc: Global,
     out: &mut Vec<u8>,
     script: &Script,
     report: &Report,
-    event: Event,
+    turn: Option<(TaskId, u32)>,
 ) -> Result<(), AllocError>
-    ensures { OnOk result (AppendsExplained report.now all_explained_json out.old.items out.new.items) }
+    ensures { OnOk result (AppendsTold (IsToldOfOne script.now report.now turn) all_explained_json out.old.items out.new.items) }
 {
-    match event {
-        Event::Apply(task, number) => explanation(alloc, out, script, report, task, number),
-        _ => Ok(()),
+    match turn {
+        Some((task, number)) => explanation(alloc, out, script, report, task, number),
+        None => Ok(()),
     }
 }
 
 // From which place of the log turns are explained.
-fn first_explained(log: &EventLog) -> usize {
+fn first_explained(log: &EventLog) -> usize
+    ensures { applied_turns (drop result log.now.events) ≡ last_turns log.now.events }
+{
     let mut many = 0_usize;
     for back in 0..log.len() {
         let place = log.len() - 1 - back;
-        if let Event::Apply(_, _) = log.event(place) {
+        if applied_turn(log.event(place)).is_some() {
             if many == EXPLAINED {
                 return place + 1;
             }
-            many = many.saturating_add(1);
+            many += 1;
         }
     }
     0
@@ -81,10 +93,11 @@ pub(crate) fn explanations(
     script: &Script,
     report: &Report,
 ) -> Result<(), AllocError>
-    ensures { OnOk result (AppendsExplained report.now all_explained_json out.old.items out.new.items) }
+    ensures { OnOk result (AppendsTold (IsToldOfRun script.now report.now) all_explained_json out.old.items out.new.items) }
 {
     for place in first_explained(&report.log)..report.log.len() {
-        explanation_at(alloc, out, script, report, report.log.event(place))?;
+        let turn = applied_turn(report.log.event(place));
+        explanation_of(alloc, out, script, report, turn)?;
     }
     Ok(())
 }

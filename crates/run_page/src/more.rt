@@ -1,7 +1,7 @@
 //! What stands beside the report.
 
 ghost use Rattle.std.specs.Prelude.{◌≡◌, ◌++◌, OnOk, codes, decimal};
-ghost use Rattle.run_page.specs.RunJson.{AppendsExplained, heading_json, more_json, run_json};
+ghost use Rattle.run_page.specs.RunJson.{AppendsTold, IsToldOfRun, heading_json, more_json, run_json};
 
 use crate::append::{labelled, say};
 use crate::explanations::{EXPLAINED, explanations};
@@ -51,7 +51,7 @@ pub(crate) fn more(
     report: &Report,
     head: Heading<'_>,
 ) -> Result<(), AllocError>
-    ensures { OnOk result (AppendsExplained report.now (more_json script.now report.now head.entry) out.old.items out.new.items) }
+    ensures { OnOk result (AppendsTold (IsToldOfRun script.now report.now) (more_json script.now report.now head.entry) out.old.items out.new.items) }
 {
     put_heading(out, head)?;
     run(alloc, out, script, report)?;

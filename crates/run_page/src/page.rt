@@ -4,7 +4,7 @@ ghost use Rattle.std.specs.Prelude.{◌≡◌, ◌++◌, IfOk, OnOk, false};
 ghost use Rattle.swift_tool.specs.ReportJson.{report_json as json_of};
 ghost use Rattle.run_page.specs.Escapes.{escaped};
 ghost use Rattle.run_page.specs.Pages.{IsPage, page_bytes};
-ghost use Rattle.run_page.specs.RunJson.{AppendsExplained, more_json};
+ghost use Rattle.run_page.specs.RunJson.{AppendsTold, IsToldOfRun, more_json};
 
 use crate::append::say_text;
 use crate::escape::escape;
@@ -35,7 +35,7 @@ fn more_part(
     report: &Report,
     heading: Heading<'_>,
 ) -> Result<(), AllocError>
-    ensures { OnOk result (AppendsExplained report.now (λ turns. escaped (more_json script.now report.now heading.entry turns)) out.old.items out.new.items) }
+    ensures { OnOk result (AppendsTold (IsToldOfRun script.now report.now) (λ told. escaped (more_json script.now report.now heading.entry told)) out.old.items out.new.items) }
 {
     let mut json = Vec::new(alloc);
     more(alloc, &mut json, script, report, heading)?;
@@ -49,7 +49,7 @@ fn parts(
     report: &Report,
     heading: Heading<'_>,
 ) -> Result<(), AllocError>
-    ensures { OnOk result (AppendsExplained report.now (page_bytes script.now report.now heading.entry) out.old.items out.new.items) }
+    ensures { OnOk result (AppendsTold (IsToldOfRun script.now report.now) (page_bytes script.now report.now heading.entry) out.old.items out.new.items) }
 {
     front(out)?;
     report_part(alloc, out, script, report)?;

@@ -37,10 +37,11 @@ returns c =
     let before = rows_of c.args.before.now in
     let values = c.args.values.now in
     let own = c.index-values-place.result in
-    let k : KnownTurn = record { names = names_view c.args.names; method = c.args.method.now; instructions = c.args.instructions.now; position = c.args.position; journal = journal; place = place; turn = r; before = before; own = values_view own; values = values_views values; last = c.last_turn.result } in
-    is_why p c.args.names.executor.0 start journal place k c.new-out.result c.write_why.new.out c.into_bytes.result
+    let k : KnownTurn = record { names = names_view c.args.names; endings = c.args.endings.now; method = c.args.method.now; instructions = c.args.instructions.now; position = c.args.position; journal = journal; place = place; turn = r; before = before; own = values_view own; values = values_views values; last = c.last_turn.result } in
+    is_why p c.args.endings.now c.args.names.executor.0 start journal place k c.new-out.result c.write_why.new.out c.into_bytes.result
     (record {
       script = refl;
+      endings = refl;
       executor = refl;
       actor = c.requires.actor;
       instructions = c.requires.instructions;

@@ -20,8 +20,8 @@ loop-place-preserved c =
     let here : i < length values = omega (arith, c.loop-place-test.true, c.requires.values) in
     let below : i < length (values_views values) = omega (arith, here, length-map values values_view) in
     let is = ap values_view c.index-values-place.is ∙ sym (get_or-map values_view values i c.index-values-place.result v here) in
-    let kept = ap (λ (cs : List Change). flat_map (blamed_text p e c.args.actor c.args.waiting.0 c.task.result.0 c.number.result) cs) c.kept_changes.ensures in
-    meanwhile_more p e c.args.actor c.args.waiting.0 c.args.journal.now (values_views values) i c.args.to c.task.result.0 c.number.result v c.args.out.now c.loop-place.out c.write_changed.new.out _ within lt below
+    let kept = ap (λ (cs : List Change). flat_map (blamed_text p c.args.endings.now e c.args.actor c.args.waiting.0 c.task.result.0 c.number.result) cs) c.kept_changes.ensures in
+    meanwhile_more p c.args.endings.now e c.args.actor c.args.waiting.0 c.args.journal.now (values_views values) i c.args.to c.task.result.0 c.number.result v c.args.out.now c.loop-place.out c.write_changed.new.out _ within lt below
     c.task.ensures
     c.number.ensures
     is

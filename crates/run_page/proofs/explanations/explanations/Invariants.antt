@@ -1,5 +1,10 @@
-use Rattle.run_page.specs.RunJson.{AppendsExplained, all_explained_json}
+use Rattle.std.proofs.Common.{◌≡◌, ℕ, List, ◌++◌, drop, length}
+use Rattle.run_page.specs.RunJson.{AppendsTold, AreTold, ExplainedTurn, IsToldOfRun, all_explained_json, applied_turns}
 use Rattle.run_page.proofs.explanations.explanations.Given as goal
 
 abbrev pub invariant-loop-place : goal.invariant-loop-place
-invariant-loop-place l = AppendsExplained l.report all_explained_json l.initial.out.items l.out.items
+invariant-loop-place l = record {
+  told : (rest : List ExplainedTurn) (whole : List ℕ) → AreTold l.script l.report (applied_turns (drop l.place l.report.log.events)) rest → whole ≡ l.out.items ++ all_explained_json rest →
+      AppendsTold (IsToldOfRun l.script l.report) all_explained_json l.initial.out.items whole;
+  end : l.place-end ≡ length l.report.log.events;
+}

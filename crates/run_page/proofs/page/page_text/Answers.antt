@@ -12,7 +12,7 @@ returns c =
     let h = c.args.heading in
     let said = c.in_ok-parts.ensures in
     record {
-      turns = said.0;
+      told = said.0;
       explained = said.1;
       is = said.2 ∙ ap (λ (xs : List ℕ). xs ++ page_bytes p r h said.0) c.new-out.ensures.items;
       plain_report = plain (report_json p r false);

@@ -2,7 +2,7 @@ use Rattle.std.proofs.Common.{ℕ, List, ◌++◌, false}
 use Rattle.swift_tool.specs.ReportJson.{report_json}
 use Rattle.run_page.specs.Escapes.{escaped}
 use Rattle.run_page.specs.Pages.{back_text, front_text}
-use Rattle.run_page.specs.RunJson.{ExplainedTurn, more_json}
+use Rattle.run_page.specs.RunJson.{ExplainedTurn, IsToldOfRun, more_json}
 use Rattle.run_page.specs.declared.texts.frame.TheConstants.{MIDDLE}
 use Rattle.run_page.proofs.Joined.{between, onto}
 use Rattle.run_page.proofs.page.parts.Goals as goal
@@ -16,5 +16,5 @@ returns c =
     let x3 = c.say_text.new.out.items in
     let first = onto x0 c.front.new.out.items x2 front_text json c.in_ok-front.ensures c.in_ok-report_part.ensures in
     let before = onto x0 x2 x3 (front_text ++ json) MIDDLE.now first c.in_ok-say_text.ensures in
-    let text : List ExplainedTurn → List ℕ = λ turns. escaped (more_json c.args.script.now r c.args.heading turns) in
-    between c.back.result r text x0 x3 c.more_part.new.out.items c.back.new.out.items (front_text ++ json ++ MIDDLE.now) back_text before c.in_ok-more_part.ensures c.back.ensures
+    let text : List ExplainedTurn → List ℕ = λ told. escaped (more_json c.args.script.now r c.args.heading told) in
+    between c.back.result (IsToldOfRun c.args.script.now r) text x0 x3 c.more_part.new.out.items c.back.new.out.items (front_text ++ json ++ MIDDLE.now) back_text before c.in_ok-more_part.ensures c.back.ensures

@@ -1,0 +1,4 @@
+pub mod BegunInside
+pub mod Declarations
+pub mod Wants
+pub mod Words

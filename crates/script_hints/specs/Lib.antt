@@ -1,0 +1,3 @@
+pub mod Helps
+pub mod Mistakes
+pub mod Spelled
