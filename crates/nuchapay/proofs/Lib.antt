@@ -1,3 +1,2 @@
 mod OfRun
 mod Chosen
-mod Spelling

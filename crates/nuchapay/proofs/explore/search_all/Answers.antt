@@ -1,6 +1,5 @@
-use Rattle.std.proofs.Common.{◌≡◌, ◌∙◌, sym, subst}
+use Rattle.std.proofs.Common.{◌∙◌, subst}
 use Rattle.std.specs.Prelude.{All, IfSome}
-use Rattle.std.specs.Arc.{arc_value}
 use Rattle.swift_script.specs.Scripts.{ScriptView}
 use Rattle.swift_explorer.specs.Outcomes.{HasEachOutcome, IsBrokenAfter, IsOutcomeOf, NeverBreaks}
 use Rattle.nuchapay.proofs.explore.search_all.Goals as goal
