@@ -10,19 +10,19 @@ map_ok (Err e) P Q f is = tt
 
 pub returns : goal.returns
 returns c = map_ok c.concat.result _ _ (λ said is. record {
-    fault = c.args.fault;
-    page = c.page_of-page.result.now;
-    cause = c.requires.cause;
-    at_line = c.requires.line;
-    named = c.page_of-page.ensures;
-    span = c.in_ok-span.span;
-    blames = c.in_ok-span.ensures;
-    file = string_bytes c.in_ok-name.name;
-    expected = string_bytes c.in_ok-advice.advice.expected;
-    help = string_bytes c.in_ok-advice.advice.help;
-    helps = c.in_ok-advice.ensures.help;
-    second = c.in_ok-advice.advice.second;
-    on_token = c.in_ok-advice.ensures.second;
-    fix = string_bytes c.in_ok-fix.fix;
-    is = is ∙ (rw (c.as_slice.ensures, c.as_str.ensures.value, c.as_str-2.ensures.value, c.as_str-3.ensures.value, c.as_str-4.ensures.value, c.as_str-5.ensures.value, c.as_str-6.ensures.value, c.in_ok-code.ensures, c.in_ok-place.ensures, c.in_ok-said.ensures, c.in_ok-second.ensures, c.mark_of-mark.ensures) refl);
-    }) c.concat.ensures.ok
+  fault = c.args.fault;
+  page = c.page_of-page.result.now;
+  cause = c.requires.cause;
+  at_line = c.requires.line;
+  named = c.page_of-page.ensures;
+  span = c.in_ok-span.span;
+  blames = c.in_ok-span.ensures;
+  file = string_bytes c.in_ok-name.name;
+  expected = string_bytes c.in_ok-advice.advice.expected;
+  help = string_bytes c.in_ok-advice.advice.help;
+  helps = c.in_ok-advice.ensures.help;
+  second = c.in_ok-advice.advice.second;
+  on_token = c.in_ok-advice.ensures.second;
+  fix = string_bytes c.in_ok-fix.fix;
+  is = is ∙ (rw (c.as_slice.ensures, c.as_str.ensures.value, c.as_str-2.ensures.value, c.as_str-3.ensures.value, c.as_str-4.ensures.value, c.as_str-5.ensures.value, c.as_str-6.ensures.value, c.in_ok-code.ensures, c.in_ok-place.ensures, c.in_ok-said.ensures, c.in_ok-second.ensures, c.mark_of-mark.ensures) refl);
+}) c.concat.ensures.ok
