@@ -5,7 +5,7 @@ use crate::closure::lone_value;
 use crate::code::{Code, Instruction, NONE, UnitKind};
 use crate::effect::DEPTH;
 use crate::lowering::{Kind, Lowering, kind_of, setting_of};
-use crate::naming::{actor_of, instance_at};
+use crate::naming::{actor_of, instance_at, is_kept};
 use crate::returns::exits;
 use crate::scope::{declare, leave};
 use crate::statement::{expression, statements};
@@ -29,10 +29,26 @@ fn refuse_same(lowering: &mut Lowering<'_>, left: usize, right: usize) {
     }
 }
 
+// Refuses the name of a member that would stand for what is global, or for what Swift itself has.
+fn check_member(lowering: &mut Lowering<'_>, name: usize) {
+    let tree = lowering.tree;
+    for instance in tree.instances.iter() {
+        refuse_same(lowering, name, instance.name);
+    }
+    for constant in tree.constants.iter() {
+        refuse_same(lowering, name, constant.name);
+    }
+    for local in tree.locals.iter() {
+        refuse_same(lowering, name, local.of);
+    }
+    refuse_kept(lowering, name);
+}
+
 // Refuses methods and fields of one actor with one name.
 fn check_members(lowering: &mut Lowering<'_>) {
     let tree = lowering.tree;
     for method in tree.methods.iter() {
+        check_member(lowering, method.name);
         for other in tree.methods.iter() {
             if method.actor == other.actor {
                 refuse_same(lowering, method.name, other.name);
@@ -45,11 +61,19 @@ fn check_members(lowering: &mut Lowering<'_>) {
         }
     }
     for field in tree.fields.iter() {
+        check_member(lowering, field.name);
         for other in tree.fields.iter() {
             if field.actor == other.actor {
                 refuse_same(lowering, field.name, other.name);
             }
         }
+    }
+}
+
+// Refuses a name of what Swift itself has.
+fn refuse_kept(lowering: &mut Lowering<'_>, name: usize) {
+    if is_kept(lowering, name) {
+        lowering.refuse(Rule::NameTwice, name);
     }
 }
 
@@ -71,9 +95,7 @@ fn check_global(lowering: &mut Lowering<'_>, name: usize) {
     for main in tree.mains.iter() {
         refuse_same(lowering, name, main.name);
     }
-    if lowering.spells(name, "Task") || lowering.spells(name, "print") {
-        lowering.refuse(Rule::NameTwice, name);
-    }
+    refuse_kept(lowering, name);
 }
 
 fn check_globals(lowering: &mut Lowering<'_>) {

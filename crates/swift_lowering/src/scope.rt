@@ -1,6 +1,7 @@
 //! What stands in scope.
 
 use crate::lowering::{Kind, Lowering};
+use crate::naming::is_kept;
 use swift_syntax::Rule;
 
 /// What a name in scope stands for.
@@ -125,6 +126,9 @@ pub(crate) fn declare_as(
     count: usize,
 ) {
     let loops = lowering.setting.loops;
+    if is_kept(lowering, token) {
+        lowering.refuse(Rule::NameTwice, token);
+    }
     lowering.bind(Binding {
         token,
         standing,
