@@ -175,7 +175,7 @@ pub(crate) fn direct(lowering: &mut Lowering<'_>, body: ClosureBody) -> Option<M
     Some(MadeClosure {
         callee: Callee::Method(instance, method, given.first),
         kind: kind_of(declared.result),
-        is_throwing: declared.is_throwing,
+        is_throwing: declared.is_throwing || is_tried,
     })
 }
 

@@ -237,8 +237,10 @@ pub(crate) fn begin_results(
     if found.is_partial || !lowering.setting.is_async {
         lowering.refuse(Rule::NotYet, group);
     }
-    if found.is_throwing {
+    if is_tried {
         lowering.setting.has_thrown = true;
+    }
+    if found.is_throwing {
         if !is_tried || !lowering.setting.is_throwing {
             lowering.refuse(Rule::Try, group);
         }
@@ -263,6 +265,9 @@ pub(crate) fn begin_results(
 
 /// Refuses a group or a binding without `await`, or with `try` missing.
 pub(crate) fn want_cover(lowering: &mut Lowering<'_>, stmt: Stmt, is_throwing: bool) {
+    if stmt.is_tried {
+        lowering.setting.has_thrown = true;
+    }
     if !stmt.is_awaited || !lowering.setting.is_async {
         lowering.refuse(Rule::Await, stmt.token);
     }

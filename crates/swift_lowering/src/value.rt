@@ -341,6 +341,8 @@ fn tried(lowering: &mut Lowering<'_>, inner: usize, token: usize, depth: u32) ->
     if !lowering.setting.is_throwing {
         lowering.refuse(Rule::Try, token);
     }
+    // Swift takes a closure with a `try` for one that throws, whatever is tried.
+    lowering.setting.has_thrown = true;
     let before = lowering.setting.is_tried;
     lowering.setting.is_tried = true;
     let found = value(lowering, inner, depth - 1);
