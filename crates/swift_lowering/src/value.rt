@@ -277,7 +277,11 @@ fn shortcut(
         _ => so_far,
     };
     lowering.put(Instruction::If(test));
+    // It is an autoclosure, which an `await` on its left does not cover; one of its own stands only behind a comma.
+    let before = lowering.setting.is_awaited;
+    lowering.setting.is_awaited = false;
     let second = value(lowering, right, depth - 1);
+    lowering.setting.is_awaited = before;
     want(lowering, second, Kind::Bool, token);
     lowering.put(Instruction::Set(variable, second.value));
     lowering.put(Instruction::End);
