@@ -91,7 +91,14 @@ fn require(lowering: &mut Lowering<'_>, first: usize, token: usize) {
         lowering.refuse(Rule::Arguments, token);
         return;
     };
+    // It is an autoclosure, which can neither wait nor throw.
+    let outer = lowering.setting;
+    lowering.setting.is_async = false;
+    lowering.setting.is_throwing = false;
+    lowering.setting.is_awaited = false;
+    lowering.setting.is_tried = false;
     let found = expression(lowering, argument.value);
+    lowering.setting = outer;
     want(lowering, found, Kind::Bool, token);
     lowering.put(Instruction::Require(found.value));
 }
