@@ -109,6 +109,10 @@ fn ignore_fault(lowering: &mut Lowering<'_>, inner: usize) {
     let zero = lowering.number(0);
     lowering.setting.fallback = Fallback::Fault(zero);
     expression(lowering, inner);
+    // It was taken by the wait.
+    if !matches!(lowering.setting.fallback, Fallback::None) {
+        lowering.refuse(Rule::NotYet, lowering.tree.expr(inner).token);
+    }
     lowering.setting.fallback = Fallback::None;
 }
 
