@@ -586,22 +586,28 @@ fn closed(lowering: &mut Lowering<'_>, stmt: Stmt, depth: u32) {
         return;
     }
     let start = lowering.scope.len();
+    let outer = lowering.setting;
     let (into, variable, kind) = match stmt.form {
         StmtForm::Group(into, found, is_throwing, body) => {
             want_cover(lowering, stmt, is_throwing);
             let variable = begin_result(lowering, into);
             begin_group(lowering, stmt, kind_of(found), is_throwing);
+            lowering.setting.is_throwing = is_throwing;
             let kind = closure_block(lowering, body, variable, depth - 1);
             (into, variable, kind)
         }
         StmtForm::Bind(into, of, given, body) => {
             let variable = begin_result(lowering, into);
             begin_bind(lowering, of, stmt.token, given);
+            lowering.setting.is_throwing &= stmt.is_tried;
+            lowering.setting.is_async &= stmt.is_awaited;
             let kind = closure_block(lowering, body, variable, depth - 1);
             (into, variable, kind)
         }
         _ => return,
     };
+    lowering.setting.is_throwing = outer.is_throwing;
+    lowering.setting.is_async = outer.is_async;
     lowering.put(Instruction::End);
     leave(lowering, start);
     if let Some(found) = result_of(lowering, variable, kind, stmt.token) {
