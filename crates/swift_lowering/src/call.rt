@@ -1,6 +1,6 @@
 //! Calls of methods.
 
-use crate::code::{Instruction, NONE, Target, Value, Wait};
+use crate::code::{Instruction, NONE, Target, UnitKind, Value, Wait};
 use crate::lowering::{Fallback, Kind, Lowering, Typed, kind_of};
 use crate::naming::{actor_of, instance_named, method_at, method_named};
 use crate::scope::{Standing, binding_at, find};
@@ -251,6 +251,18 @@ fn call_method(
     }
 }
 
+// Whether a task begins only where its maker waits: `main` and what it spawns share the main actor.
+fn begins_behind(lowering: &Lowering<'_>, variable: usize) -> bool {
+    let is_main = match lowering.code.units.get(lowering.setting.unit) {
+        Some(unit) => matches!(unit.kind, UnitKind::Main),
+        None => false,
+    };
+    is_main && lowering.code.instructions.iter().any(|i| match i {
+        Instruction::Make(made, false, _, _) => *made == variable,
+        _ => false,
+    })
+}
+
 // `Task.sleep`: any delay is among the orders that are searched.
 fn sleep(lowering: &mut Lowering<'_>, token: usize) {
     want_await(lowering, token);
@@ -290,7 +302,13 @@ pub(crate) fn call(
                 lowering.put(Instruction::Check);
             }
         }
-        Called::Cancel(variable) => lowering.put(Instruction::Cancel(variable)),
+        Called::Cancel(variable) => {
+            // What was made before may begin before it is cancelled. In an actor's method others would come in here.
+            if lowering.setting.is_closure && !begins_behind(lowering, variable) {
+                lowering.put(Instruction::Yield);
+            }
+            lowering.put(Instruction::Cancel(variable));
+        }
     }
     typed(lowering, Value::Number(0), Kind::Void)
 }
