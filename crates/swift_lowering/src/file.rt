@@ -7,7 +7,7 @@ use crate::effect::DEPTH;
 use crate::lowering::{Kind, Lowering, kind_of, setting_of};
 use crate::naming::{actor_of, instance_at, is_kept};
 use crate::returns::exits;
-use crate::scope::{declare, leave};
+use crate::scope::{declare, leave, standing_at};
 use crate::statement::{expression, statements};
 use crate::value::{literal, want};
 use std::alloc::Global;
@@ -95,6 +95,12 @@ fn check_global(lowering: &mut Lowering<'_>, name: usize) {
     for main in tree.mains.iter() {
         refuse_same(lowering, name, main.name);
     }
+    for local in tree.locals.iter() {
+        refuse_same(lowering, name, local.of);
+    }
+    for case in tree.cases.iter() {
+        refuse_same(lowering, name, case.of);
+    }
     refuse_kept(lowering, name);
 }
 
@@ -115,6 +121,14 @@ fn check_globals(lowering: &mut Lowering<'_>) {
     for main in tree.mains.iter() {
         check_global(lowering, main.name);
     }
+    for case in tree.cases.iter() {
+        check_global(lowering, case.of);
+        for other in tree.cases.iter() {
+            if case.of == other.of {
+                refuse_same(lowering, case.name, other.name);
+            }
+        }
+    }
     for local in tree.locals.iter() {
         check_global(lowering, local.of);
         for other in tree.locals.iter() {
@@ -127,6 +141,9 @@ fn check_globals(lowering: &mut Lowering<'_>) {
 fn declare_params(lowering: &mut Lowering<'_>, method: MethodDecl) {
     for place in method.first_param..method.params_end {
         if let Some(param) = lowering.tree.params.get(place).copied() {
+            if standing_at(lowering, param.name).is_some() {
+                lowering.refuse(Rule::NameTwice, param.name);
+            }
             let variable = lowering.variable(param.name, true);
             let kind = kind_of(param.value_type);
             declare(lowering, param.name, variable, kind, false);
