@@ -9,9 +9,11 @@ use crate::naming::{actor_of, instance_at, is_kept};
 use crate::returns::exits;
 use crate::scope::{declare, leave, standing_at};
 use crate::statement::{expression, statements};
-use crate::value::{literal, want};
+use crate::value::{field_kind, literal, want};
 use std::alloc::Global;
-use swift_syntax::{MethodDecl, Refusal, Rule, Token, Tree};
+use swift_syntax::{
+    ExprForm, FieldDecl, FieldStart, MethodDecl, Refusal, Rule, Token, Tree, ValueType,
+};
 
 /// What a file becomes.
 #[derive(Drop)]
@@ -256,6 +258,65 @@ fn check_instance(lowering: &mut Lowering<'_>, instance: usize) {
     }
 }
 
+// Refuses a literal of another type than the one that is declared.
+fn check_start(lowering: &mut Lowering<'_>, wanted: Option<ValueType>, value: usize, name: usize) {
+    let (_, kind) = literal(lowering, value);
+    if wanted.is_some_and(|w| kind_of(w) != kind) {
+        lowering.refuse(Rule::WrongType, name);
+    }
+}
+
+// Refuses what an init gives a field of another type, or one that has its value for good.
+fn check_given(lowering: &mut Lowering<'_>, place: usize, field: FieldDecl) {
+    if field.given == 0 {
+        return;
+    }
+    let expr = lowering.tree.expr(field.given);
+    let kind = match expr.form {
+        ExprForm::Name => param_kind(lowering, field.actor, expr.token),
+        _ => literal(lowering, field.given).1,
+    };
+    if kind != field_kind(lowering, place) {
+        lowering.refuse(Rule::WrongType, field.name);
+    }
+    if !field.is_var && matches!(field.start, FieldStart::Value(_)) {
+        lowering.refuse(Rule::Assigned, field.name);
+    }
+}
+
+// The type of a parameter of an actor's init; refuses another name.
+fn param_kind(lowering: &mut Lowering<'_>, actor: usize, name: usize) -> Kind {
+    let tree = lowering.tree;
+    if let Some(made) = tree.actors.get(actor) {
+        for place in made.first_param..made.params_end {
+            if let Some(param) = tree.params.get(place) {
+                if lowering.are_same(param.name, name) {
+                    return kind_of(param.value_type);
+                }
+            }
+        }
+    }
+    lowering.refuse(Rule::UnknownName, name);
+    Kind::Int
+}
+
+// Refuses values of another type than the declared one.
+fn check_starts(lowering: &mut Lowering<'_>) {
+    let tree = lowering.tree;
+    for constant in tree.constants.iter() {
+        check_start(lowering, constant.value_type, constant.value, constant.name);
+    }
+    for local in tree.locals.iter() {
+        check_start(lowering, local.value_type, local.value, local.name);
+    }
+    for (place, field) in tree.fields.iter().enumerate() {
+        if let FieldStart::Value(value) = field.start {
+            check_start(lowering, field.value_type, value, field.name);
+        }
+        check_given(lowering, place, *field);
+    }
+}
+
 // Refuses an instance of what is neither an actor nor an executor.
 fn check_executor(lowering: &mut Lowering<'_>, of: usize, arguments: usize) {
     let is_declared = lowering
@@ -295,6 +356,7 @@ pub fn lower(alloc: Global, text: &[u8], tokens: &[Token], tree: &Tree) -> Lower
     let mut lowering = Lowering::new(alloc, text, tokens, tree);
     check_globals(&mut lowering);
     check_members(&mut lowering);
+    check_starts(&mut lowering);
     lower_methods(&mut lowering);
     lower_invariants(&mut lowering);
     check_whole(&mut lowering);
