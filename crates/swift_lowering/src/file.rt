@@ -5,7 +5,7 @@ use crate::closure::lone_value;
 use crate::code::{Code, Instruction, NONE, UnitKind};
 use crate::effect::DEPTH;
 use crate::lowering::{Kind, Lowering, kind_of, setting_of};
-use crate::naming::{actor_of, instance_at, is_kept};
+use crate::naming::{actor_of, instance_at, instance_named, is_kept};
 use crate::returns::exits;
 use crate::scope::{declare, leave, standing_at};
 use crate::statement::{expression, statements};
@@ -332,6 +332,20 @@ fn check_executor(lowering: &mut Lowering<'_>, of: usize, arguments: usize) {
     }
 }
 
+// Refuses an actor's executor, 0 for none, that is no instance of a class of executors.
+fn check_seat(lowering: &mut Lowering<'_>, executor: usize) {
+    if executor == 0 {
+        return;
+    }
+    let is_seat = match instance_named(lowering, executor) {
+        Some(instance) => actor_of(lowering, instance) == NONE,
+        None => false,
+    };
+    if !is_seat {
+        lowering.refuse(Rule::UnknownName, executor);
+    }
+}
+
 // Refuses actors without an instance, and a file without one `main`.
 fn check_whole(lowering: &mut Lowering<'_>) {
     let tree = lowering.tree;
@@ -343,6 +357,9 @@ fn check_whole(lowering: &mut Lowering<'_>) {
     }
     for instance in 0..tree.instances.len() {
         check_instance(lowering, instance);
+    }
+    for actor in tree.actors.iter() {
+        check_seat(lowering, actor.executor);
     }
     match tree.mains.as_slice() {
         [_] => {}
