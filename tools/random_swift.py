@@ -152,11 +152,12 @@ class Body:
         elif what == 2:
             self.say(f"{self.draw.choice(['isOn', 'self.isOn'])}.toggle()")
         elif what == 3:
-            self.say(f"isOn = {self.truth()}")
+            self.say(f"isOn = !({self.truth()})")
         elif what < 6:
-            self.say(f"{self.target()} {self.draw.choice(['+=', '-=', '='])} {self.number()}")
+            self.say(f"{self.target()} {self.draw.choice(['+=', '-='])} {self.number()}")
         else:
-            self.say(f"n = {self.draw.choice(['m', 'n'])} + {self.number(1)}")
+            # Not to itself, which Swift refuses.
+            self.say(f"{self.draw.choice(['n', 'm', 'self.n'])} = {self.draw.choice(['m', 'n', 'k'])} + {self.number(1)}")
 
     def pause(self) -> None:
         """A statement with a wait."""
@@ -246,11 +247,11 @@ class Body:
 
     def statement(self) -> None:
         what = self.draw.random()
-        if what < 0.45 and self.may_wait():
+        if what < 0.6 and self.may_wait():
             self.pause()
-        elif what < 0.6 and self.depth < 4:
-            self.branch(self.truth())
         elif what < 0.7 and self.depth < 4:
+            self.branch(self.truth())
+        elif what < 0.78 and self.depth < 4:
             self.loop()
         else:
             self.simple()
@@ -280,7 +281,7 @@ class Maker:
             self.lines += [f"    {access}func {name}({head}: Int){words}{result} {{", f"        if {body.truth()} {{ n += 1 }}"]
             self.lines += [f"        return {body.truth()}", "    }"]
         else:
-            for _ in range(self.draw.randrange(1, 4)):
+            for _ in range(self.draw.randrange(2, 5)):
                 body.statement()
             if kind == "throws" and self.draw.random() < 0.7:
                 body.say(f"if {body.truth()} {{ throw Failure.{self.draw.choice(['odd', 'late'])} }}")
@@ -308,7 +309,7 @@ class Maker:
 
     def task(self, methods: list[Method]) -> tuple[str, Method]:
         method = self.draw.choice(methods)
-        receiver = self.draw.choice(["a", "a", "c"])
+        receiver = self.draw.choice("aaaaac")
         return f"{receiver}.{method.name}({method.label}{self.draw.randrange(3)})", method
 
     def main(self, methods: list[Method]) -> None:
@@ -371,7 +372,7 @@ class Maker:
         self.start()
         others = self.actor("B", [], 1)
         self.lines.append(f"let b = B({self.draw.randrange(3)}, step: 1)")
-        methods = self.actor("A", others, 2)
+        methods = self.actor("A", others, self.draw.choice([1, 2, 2]))
         self.lines += [f"let a = A(1, step: {self.draw.randrange(1, 3)})", "let c = A(0, step: 2)"]
         self.main(methods)
         return "\n".join(self.lines) + "\n"
