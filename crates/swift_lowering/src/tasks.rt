@@ -114,8 +114,9 @@ pub(crate) fn add_task(
     if made.is_throwing && !group.is_throwing {
         lowering.refuse(Rule::Try, stmt.token);
     }
-    let urgency = priority(lowering, form.priority);
-    lowering.put(Instruction::Add(group.variable, is_only, made.callee, urgency));
+    // In Swift it has no effect: a child has its owner's.
+    priority(lowering, form.priority);
+    lowering.put(Instruction::Add(group.variable, is_only, made.callee, NONE));
     if is_only {
         if group.is_used {
             lowering.refuse(Rule::NotYet, stmt.token);
