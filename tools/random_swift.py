@@ -51,7 +51,7 @@ class Body:
     def atom(self) -> str:
         return self.draw.choice(["n", "m", "self.n", "step", "limit", str(self.draw.randrange(4)), "T.id"] + self.constants + self.variables)
 
-    def number(self, depth: int = 2) -> str:
+    def number(self, depth: int = 1) -> str:
         if depth == 0 or self.draw.random() < 0.3:
             return self.atom()
         what = self.draw.randrange(7)
@@ -79,7 +79,7 @@ class Body:
                 return place == len(text) - 1
         return False
 
-    def truth(self, depth: int = 2) -> str:
+    def truth(self, depth: int = 1) -> str:
         what = self.draw.randrange(7)
         if depth == 0 or what == 0:
             return self.draw.choice(["isOn", "!isOn", "self.isOn"])
@@ -249,9 +249,9 @@ class Body:
         what = self.draw.random()
         if what < 0.6 and self.may_wait():
             self.pause()
-        elif what < 0.7 and self.depth < 4:
+        elif what < 0.72 and self.depth < 3:
             self.branch(self.truth())
-        elif what < 0.78 and self.depth < 4:
+        elif what < 0.8 and self.depth < 3:
             self.loop()
         else:
             self.simple()
@@ -264,6 +264,7 @@ class Maker:
         self.draw = random.Random(seed)
         self.names = 0
         self.other = "b"
+        self.instances = "a"
         self.lines: list[str] = []
 
     def method(self, name: str, kind: str, gives: str, others: list[Method], own: list[Method], waits: int) -> Method:
@@ -281,7 +282,7 @@ class Maker:
             self.lines += [f"    {access}func {name}({head}: Int){words}{result} {{", f"        if {body.truth()} {{ n += 1 }}"]
             self.lines += [f"        return {body.truth()}", "    }"]
         else:
-            for _ in range(self.draw.randrange(2, 5)):
+            for _ in range(self.draw.randrange(1, 4)):
                 body.statement()
             if kind == "throws" and self.draw.random() < 0.7:
                 body.say(f"if {body.truth()} {{ throw Failure.{self.draw.choice(['odd', 'late'])} }}")
@@ -296,20 +297,21 @@ class Maker:
         self.lines += [f"actor {name} {{", f"    private(set) var n = {start}", "    private(set) var m: Int", "    let step: Int"]
         self.lines.append(f"    {self.draw.choice(['private(set) ', ''])}var isOn = {self.draw.choice(['true', 'false'])}")
         self.lines.append("    init(_ m: Int, step: Int) { self.m = m; self.step = step }")
-        first = self.method("low", "sync", self.draw.choice(["Int", "Bool"]), [], [], 0)
-        second = self.method("mid", "sync", "Int", [], [first], 0)
-        own = [first, second]
-        made = [self.method("run", "async", "Int", others, own, waits)]
-        made.append(self.method("go", self.draw.choice(["async", "throws"]), "Int", others, own + (made if not others else []), waits))
-        self.lines.append("}")
-        return made
+        own = [self.method("low", "sync", self.draw.choice(["Int", "Int", "Bool"]), [], [], 0)]
+        if self.draw.random() < 0.3:
+            own.append(self.method("mid", "async", "Int", others, own, 1))
+            waits -= 1
+        kind = self.draw.choice(["async", "async", "throws"])
+        made = self.method("run", kind, "Int", others, own, waits)
+        self.lines += ["    func all() -> Int { n * 10000 + m * 10 + (isOn ? 1 : 0) }", "}"]
+        return [made]
 
     def start(self) -> None:
         self.lines += ["enum Failure: Error { case odd, late }", "enum T { @TaskLocal static var id = 2 }", f"let limit = {self.draw.randrange(4)}"]
 
     def task(self, methods: list[Method]) -> tuple[str, Method]:
         method = self.draw.choice(methods)
-        receiver = self.draw.choice("aaaaac")
+        receiver = self.draw.choice(self.instances)
         return f"{receiver}.{method.name}({method.label}{self.draw.randrange(3)})", method
 
     def main(self, methods: list[Method]) -> None:
@@ -347,7 +349,7 @@ class Maker:
                 say(f"        {self.draw.choice('xy')}.cancel()")
             for name, task, mark in (("p", "x", marks[0]), ("q", "y", marks[1])):
                 say(f"        let {name} = {f'(try? await {task}.value) ?? 77' if mark else f'await {task}.value'}")
-        fields = ", ".join(f"await {of}.{field}" for of in "abc" for field in ("n", "m", "isOn"))
+        fields = ", ".join(f"await {of}.all()" for of in dict.fromkeys(self.instances + "b"))
         self.lines += [f"        print(p, q, {fields})", "    }", "}"]
 
     def group(self, one: str, two: str, marks: list[str]) -> None:
@@ -373,7 +375,10 @@ class Maker:
         others = self.actor("B", [], 1)
         self.lines.append(f"let b = B({self.draw.randrange(3)}, step: 1)")
         methods = self.actor("A", others, self.draw.choice([1, 2, 2]))
-        self.lines += [f"let a = A(1, step: {self.draw.randrange(1, 3)})", "let c = A(0, step: 2)"]
+        self.lines.append(f"let a = A(1, step: {self.draw.randrange(1, 3)})")
+        if self.draw.random() < 0.15:
+            self.instances = "aac"
+            self.lines.append("let c = A(0, step: 2)")
         self.main(methods)
         return "\n".join(self.lines) + "\n"
 
