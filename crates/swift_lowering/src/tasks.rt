@@ -145,8 +145,20 @@ pub(crate) fn begin_child(lowering: &mut Lowering<'_>, stmt: Stmt, made: MadeClo
     variable
 }
 
+// Whether the child of a variable is awaited somewhere.
+fn is_awaited(lowering: &Lowering<'_>, variable: usize) -> bool {
+    lowering
+        .scope
+        .iter()
+        .any(|b| b.variable == variable && b.is_used)
+}
+
 /// Ends the group of an `async let`: what is left of it is cancelled and waited for.
 pub(crate) fn end_child(lowering: &mut Lowering<'_>, variable: usize) {
+    // A child that nobody awaits is waited for here, and may begin before it is cancelled.
+    if !is_awaited(lowering, variable) {
+        lowering.put(Instruction::Yield);
+    }
     lowering.put(Instruction::Cancel(variable));
     lowering.put(Instruction::End);
     lowering.setting.groups = lowering.setting.groups.saturating_sub(1);
