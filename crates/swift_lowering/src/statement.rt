@@ -727,9 +727,10 @@ pub(crate) fn statements(lowering: &mut Lowering<'_>, first: usize, depth: u32) 
                     lowering.refuse(Rule::WrongType, stmt.token);
                 }
             }
-            let variable = begin_child(lowering, stmt, made);
+            let is_left_early = leaves_early(lowering, place);
+            let (variable, count) = begin_child(lowering, stmt, made, is_left_early);
             statements(lowering, place, depth - 1);
-            end_child(lowering, variable);
+            end_child(lowering, variable, count);
             return;
         }
         statement(lowering, stmt, depth - 1);
@@ -741,6 +742,21 @@ pub(crate) fn statements(lowering: &mut Lowering<'_>, first: usize, depth: u32) 
             return;
         }
     }
+}
+
+// Whether one of the statements from a place on that is not the last one may return out of the unit.
+fn leaves_early(lowering: &Lowering<'_>, first: usize) -> bool {
+    let mut place = first;
+    for _ in 0..lowering.tree.stmts.len() {
+        let Some(stmt) = lowering.tree.stmt(place) else {
+            return false;
+        };
+        place = stmt.next;
+        if place != 0 && returns_early(lowering, stmt) {
+            return true;
+        }
+    }
+    false
 }
 
 // Whether a statement may return out of the unit.

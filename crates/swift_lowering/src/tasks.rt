@@ -127,9 +127,21 @@ pub(crate) fn add_task(
     }
 }
 
-/// Begins the group of an `async let`. Its variable.
-pub(crate) fn begin_child(lowering: &mut Lowering<'_>, stmt: Stmt, made: MadeClosure) -> usize {
+/// Begins the group of an `async let`. Its variable, and one that counts the child where its scope may be left before that is awaited; else
+/// the same.
+pub(crate) fn begin_child(
+    lowering: &mut Lowering<'_>,
+    stmt: Stmt,
+    made: MadeClosure,
+    is_left_early: bool,
+) -> (usize, usize) {
     let variable = lowering.variable(stmt.token, false);
+    let mut count = variable;
+    if is_left_early {
+        count = lowering.temporary();
+        let one = lowering.number(1);
+        lowering.put(Instruction::Let(count, one));
+    }
     lowering.put(Instruction::Group(variable));
     lowering.put(Instruction::Add(variable, false, made.callee, NONE));
     declare_as(
@@ -139,10 +151,10 @@ pub(crate) fn begin_child(lowering: &mut Lowering<'_>, stmt: Stmt, made: MadeClo
         variable,
         made.kind,
         made.is_throwing,
-        variable,
+        count,
     );
     lowering.setting.groups = lowering.setting.groups.saturating_add(1);
-    variable
+    (variable, count)
 }
 
 // Whether the child of a variable is awaited somewhere.
@@ -154,9 +166,14 @@ fn is_awaited(lowering: &Lowering<'_>, variable: usize) -> bool {
 }
 
 /// Ends the group of an `async let`: what is left of it is cancelled and waited for.
-pub(crate) fn end_child(lowering: &mut Lowering<'_>, variable: usize) {
-    // A child that nobody awaits is waited for here, and may begin before it is cancelled.
-    if !is_awaited(lowering, variable) {
+pub(crate) fn end_child(lowering: &mut Lowering<'_>, variable: usize, count: usize) {
+    // A child that nobody has awaited is waited for here, and may begin before it is cancelled.
+    if count != variable {
+        let test = has_child(lowering, count);
+        lowering.put(Instruction::If(test));
+        lowering.put(Instruction::Yield);
+        lowering.put(Instruction::End);
+    } else if !is_awaited(lowering, variable) {
         lowering.put(Instruction::Yield);
     }
     lowering.put(Instruction::Cancel(variable));

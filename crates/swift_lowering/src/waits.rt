@@ -108,7 +108,11 @@ pub(crate) fn next_child(
         return refused(lowering, Rule::NotYet, token);
     }
     mark_used(lowering, place);
-    wait(lowering, Wait::Next(found.variable), found.kind)
+    let value = wait(lowering, Wait::Next(found.variable), found.kind);
+    if found.count != found.variable {
+        count_down(lowering, found.count);
+    }
+    value
 }
 
 /// Takes one from a group's count of children.
