@@ -6,7 +6,7 @@ use crate::closure::{
     lone_value,
 };
 use crate::code::{Callee, Instruction, NONE, PrintedField, UnitKind, Value};
-use crate::effect::{DEPTH, is_acting};
+use crate::effect::DEPTH;
 use crate::lowering::{Fallback, Kind, Lowering, Returns, Typed, kind_of};
 use crate::naming::{field_at, field_named, local_named};
 use crate::returns::{exits, may_return};
@@ -466,8 +466,10 @@ fn loop_while(lowering: &mut Lowering<'_>, test: usize, body: usize, token: usiz
         lowering.refuse(Rule::TooLarge, token);
         return;
     }
+    let before = lowering.here();
     let first = test_of(lowering, test, token);
-    if !is_acting(lowering, test) {
+    // It is but a value; a comma makes more of it.
+    if lowering.here() == before {
         lowering.put(Instruction::While(first));
         repeated(lowering, body, depth - 1);
         lowering.put(Instruction::End);
