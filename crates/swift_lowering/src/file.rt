@@ -44,6 +44,9 @@ fn check_member(lowering: &mut Lowering<'_>, name: usize) {
         refuse_same(lowering, name, local.of);
     }
     refuse_kept(lowering, name);
+    if lowering.spells(name, "_") {
+        lowering.refuse(Rule::UnknownName, name);
+    }
 }
 
 // Refuses methods and fields of one actor with one name.

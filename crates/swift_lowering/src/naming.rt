@@ -70,6 +70,8 @@ pub(crate) fn is_kept(lowering: &Lowering<'_>, name: usize) -> bool {
         || lowering.spells(name, "assert")
         || lowering.spells(name, "withTaskGroup")
         || lowering.spells(name, "withThrowingTaskGroup")
+        || lowering.spells(name, "precedencegroup")
+        || lowering.spells(name, "Any")
 }
 
 /// The method at a place.
