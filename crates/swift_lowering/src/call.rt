@@ -283,6 +283,10 @@ pub(crate) fn call(
     given: Operands,
     token: usize,
 ) -> Typed {
+    let is_bare = !method.takes_operands && !matches!(method.called, Called::Sleep);
+    if is_bare && first != 0 {
+        lowering.refuse(Rule::Arguments, token);
+    }
     match method.called {
         Called::Own(place) => return call_method(lowering, place, None, first, given, token),
         Called::Other(instance, place) => {

@@ -16,7 +16,7 @@ use crate::tasks::{
     enter_closure, give_result, make_task, result_of, task_body, want_cover, want_type,
 };
 use crate::value::{field_kind, local_kind, typed, value, want, want_wait};
-use swift_syntax::{Assigning, ExprForm, Into, Rule, Stmt, StmtForm};
+use swift_syntax::{Argument, Assigning, ExprForm, Into, Rule, Stmt, StmtForm};
 use swift_types::Operator;
 
 /// The value of an expression of a statement.
@@ -34,7 +34,11 @@ fn print(lowering: &mut Lowering<'_>, first: usize) {
             break;
         };
         place = argument.next;
-        if matches!(lowering.tree.expr(argument.value).form, ExprForm::Text) {
+        let is_text = matches!(lowering.tree.expr(argument.value).form, ExprForm::Text);
+        if argument.label != 0 {
+            want_label(lowering, argument.label, is_text);
+        }
+        if is_text {
             continue;
         }
         last = printed(lowering, argument.value, last);
@@ -44,6 +48,14 @@ fn print(lowering: &mut Lowering<'_>, first: usize) {
     }
     if is_main(lowering) {
         print_values(lowering, first, values);
+    }
+}
+
+// Refuses a label that `print` does not have, or without a string.
+fn want_label(lowering: &mut Lowering<'_>, label: usize, is_text: bool) {
+    let is_known = lowering.spells(label, "separator") || lowering.spells(label, "terminator");
+    if !is_known || !is_text {
+        lowering.refuse(Rule::Arguments, label);
     }
 }
 
@@ -85,12 +97,28 @@ fn print_value(lowering: &mut Lowering<'_>, value: usize, token: usize) {
     lowering.put(Instruction::Print(place, value));
 }
 
+// Refuses labels, and what stands behind the value that has to hold, but for one string.
+fn want_message(lowering: &mut Lowering<'_>, value: Argument, token: usize) {
+    let is_message = match lowering.tree.argument(value.next) {
+        Some(message) => {
+            message.label == 0
+                && message.next == 0
+                && matches!(lowering.tree.expr(message.value).form, ExprForm::Text)
+        }
+        None => true,
+    };
+    if value.label != 0 || !is_message {
+        lowering.refuse(Rule::Arguments, token);
+    }
+}
+
 // `precondition` and `assert`.
 fn require(lowering: &mut Lowering<'_>, first: usize, token: usize) {
     let Some(argument) = lowering.tree.argument(first) else {
         lowering.refuse(Rule::Arguments, token);
         return;
     };
+    want_message(lowering, argument, token);
     // It is an autoclosure, which can neither wait nor throw.
     let outer = lowering.setting;
     lowering.setting.is_async = false;
