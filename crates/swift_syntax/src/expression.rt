@@ -124,10 +124,20 @@ fn refuse_chain(reader: &mut Reader<'_>, level: u32) {
     }
 }
 
+// Whether an operator stands right before the next token: Swift takes both for one.
+fn follows_operator(reader: &Reader<'_>) -> bool {
+    let before = reader.here().from.saturating_sub(1);
+    match reader.text.get(before) {
+        Some(byte) => b"+-*/%=<>!&|^~?.".contains(byte),
+        None => false,
+    }
+}
+
 // Takes a prefix, which stands at its operand. Its place.
 fn take_prefix(reader: &mut Reader<'_>) -> usize {
+    let is_joined = !reader.here().after_space && follows_operator(reader);
     let place = reader.take();
-    if reader.here().after_space {
+    if is_joined || reader.here().after_space {
         reader.refuse(Rule::Spaces, place);
     }
     place
