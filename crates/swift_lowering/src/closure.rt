@@ -137,6 +137,7 @@ fn called_instance(lowering: &Lowering<'_>, place: usize) -> Option<usize> {
 
 /// A closure that only calls a method of an instance is that method.
 pub(crate) fn direct(lowering: &mut Lowering<'_>, body: ClosureBody) -> Option<MadeClosure> {
+    refuse_unknown(lowering, body.captures);
     if body.is_among_others {
         return None;
     }
@@ -274,7 +275,6 @@ fn refuse_unknown(lowering: &mut Lowering<'_>, captures: usize) {
 /// Captures what the names in a closure stand for. The place of the first operand.
 pub(crate) fn capture_all(lowering: &mut Lowering<'_>, unit: usize, body: ClosureBody) -> usize {
     let from = lowering.scope.len();
-    refuse_unknown(lowering, body.captures);
     let mut first = NONE;
     let mut last = NONE;
     for token in body.from..body.to {
