@@ -128,7 +128,10 @@ fn refuse_chain(reader: &mut Reader<'_>, level: u32) {
 fn follows_operator(reader: &Reader<'_>) -> bool {
     let before = reader.here().from.saturating_sub(1);
     match reader.text.get(before) {
-        Some(byte) => b"+-*/%=<>!&|^~?.".contains(byte),
+        Some(byte) => {
+            matches!(*byte, b'+' | b'-' | b'*' | b'/' | b'%' | b'=' | b'<' | b'>')
+                || matches!(*byte, b'!' | b'&' | b'|' | b'^' | b'~' | b'?' | b'.')
+        }
         None => false,
     }
 }
