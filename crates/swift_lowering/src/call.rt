@@ -257,10 +257,11 @@ fn begins_behind(lowering: &Lowering<'_>, variable: usize) -> bool {
         Some(unit) => matches!(unit.kind, UnitKind::Main),
         None => false,
     };
-    is_main && lowering.code.instructions.iter().any(|i| match i {
-        Instruction::Make(made, false, _, _) => *made == variable,
-        _ => false,
-    })
+    is_main
+        && lowering.code.instructions.iter().any(|i| match i {
+            Instruction::Make(made, false, _, _) => *made == variable,
+            _ => false,
+        })
 }
 
 // `Task.sleep`: any delay is among the orders that are searched.

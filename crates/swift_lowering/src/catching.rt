@@ -183,7 +183,11 @@ pub(crate) fn begin_caught(lowering: &mut Lowering<'_>, body: usize, token: usiz
     let before = lowering.here();
     let found = lower_wait(lowering, place);
     // A wait of the statement itself, and not of one before it.
-    let last = if lowering.here() > before { last_wait(lowering) } else { None };
+    let last = if lowering.here() > before {
+        last_wait(lowering)
+    } else {
+        None
+    };
     let Some((target, what)) = last else {
         lowering.refuse(Rule::NotYet, token);
         return None;

@@ -263,8 +263,8 @@ fn refuse_unknown(lowering: &mut Lowering<'_>, captures: usize) {
             return;
         };
         let label = argument.label;
-        let is_global =
-            instance_named(lowering, label).is_some() || constant_named(lowering, label).is_some();
+        let is_global = instance_named(lowering, label).is_some()
+            || constant_named(lowering, label).is_some();
         if !is_global && standing_at(lowering, label).is_none() {
             lowering.refuse(Rule::UnknownName, label);
         }
