@@ -251,6 +251,8 @@ fn atom(reader: &mut Reader<'_>, depth: u32) -> usize {
             inner
         }
         TokenKind::Name => named(reader, depth - 1),
+        TokenKind::Key(Word::Await) => missing(reader, Rule::Await),
+        TokenKind::Key(Word::Try) => missing(reader, Rule::Try),
         _ => {
             reader.unexpected();
             0
