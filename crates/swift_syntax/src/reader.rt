@@ -186,6 +186,10 @@ impl<'a> Reader<'a> {
 
     /// Takes a name. Its place.
     pub(crate) fn name(&mut self) -> usize {
+        let before = self.token(self.at.saturating_sub(1)).kind;
+        if self.here().after_space && matches!(before, TokenKind::Sign(Sign::Dot)) {
+            self.refuse(Rule::Spaces, self.at);
+        }
         match self.here().kind {
             TokenKind::Name => self.take(),
             _ => {
