@@ -326,12 +326,13 @@ fn member(reader: &mut Reader<'_>, actor: usize) {
         TokenKind::Key(Word::Init) => init(reader, actor),
         TokenKind::Key(Word::Nonisolated) => executor(reader, actor),
         _ => {
-            let at = reader.at;
+            let before = reader.at;
             let access = access(reader);
-            let last = reader.token(reader.at.saturating_sub(1)).kind;
-            let has_set = reader.at > at && matches!(last, TokenKind::Sign(Sign::Close));
+            let at = reader.at;
+            let last = reader.token(at.saturating_sub(1)).kind;
+            let has_set = at > before && matches!(last, TokenKind::Sign(Sign::Close));
             if has_set && !reader.is_key(Word::Var) {
-                reader.refuse(Rule::Outside, reader.at);
+                reader.refuse(Rule::Outside, at);
             }
             match reader.here().kind {
                 TokenKind::Key(Word::Var | Word::Let) => field(reader, actor, access),

@@ -241,6 +241,7 @@ fn atom(reader: &mut Reader<'_>, depth: u32) -> usize {
             inner
         }
         TokenKind::Name => named(reader, depth - 1),
+        // They cover all to their right, and stand at the left end.
         TokenKind::Key(Word::Await) => missing(reader, Rule::Await),
         TokenKind::Key(Word::Try) => missing(reader, Rule::Try),
         _ => {
