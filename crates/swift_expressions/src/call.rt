@@ -260,6 +260,14 @@ fn begins_behind(lowering: &Lowering<'_>, variable: usize) -> bool {
         })
 }
 
+// Cancels a task or a group. What was made before may begin before it is cancelled; in an actor's method others would come in here.
+fn cancel(lowering: &mut Lowering<'_>, variable: usize) {
+    if lowering.setting.is_closure && !begins_behind(lowering, variable) {
+        lowering.put(Instruction::Yield);
+    }
+    lowering.put(Instruction::Cancel(variable));
+}
+
 // `Task.sleep`: any delay is among the orders that are searched.
 fn sleep(lowering: &mut Lowering<'_>, token: usize) {
     want_await(lowering, token);
@@ -303,13 +311,7 @@ pub(crate) fn call(
                 lowering.put(Instruction::Check);
             }
         }
-        Called::Cancel(variable) => {
-            // What was made before may begin before it is cancelled. In an actor's method others would come in here.
-            if lowering.setting.is_closure && !begins_behind(lowering, variable) {
-                lowering.put(Instruction::Yield);
-            }
-            lowering.put(Instruction::Cancel(variable));
-        }
+        Called::Cancel(variable) => cancel(lowering, variable),
     }
     with_kind(lowering, Value::Number(0), Kind::Void)
 }

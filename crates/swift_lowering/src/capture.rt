@@ -105,7 +105,6 @@ pub(crate) fn refuse_unknown(lowering: &mut Lowering<'_>, captures: usize) {
 /// Captures what the names in a closure stand for. The place of the first operand, or `NONE`.
 pub(crate) fn capture_all(lowering: &mut Lowering<'_>, unit: usize, body: ClosureBody) -> usize {
     let from = lowering.scope.len();
-    refuse_unknown(lowering, body.captures);
     let mut first = NONE;
     let mut last = NONE;
     for token in body.from..body.to {

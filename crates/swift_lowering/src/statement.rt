@@ -191,8 +191,8 @@ fn closed(lowering: &mut Lowering<'_>, stmt: Stmt, depth: u32) {
         StmtForm::Bind(into, of, given, body) => {
             let variable = begin_result(lowering, into);
             begin_bind(lowering, of, stmt.token, given);
-            lowering.setting.is_throwing &= stmt.is_tried;
-            lowering.setting.is_async &= stmt.is_awaited;
+            lowering.setting.is_throwing = outer.is_throwing && stmt.is_tried;
+            lowering.setting.is_async = outer.is_async && stmt.is_awaited;
             let kind = closure_block(lowering, body, variable, depth - 1);
             (into, variable, kind)
         }
