@@ -62,10 +62,11 @@ limits: $(PROGRAM)
 pages: $(DAILY)
 	@tools/pages.py $(DAILY)
 
-# Compiles and runs what nuchapay swift prints for each script of examples/, where Swift is: on the PATH, or in a folder SWIFT_ROOT that is
-# the root of another system. make swift ARGS="--table"
+# Compiles and runs what nuchapay swift prints for each script of examples/, and the files of Swift that nuchapay reads, where Swift is: on
+# the PATH, or in a folder SWIFT_ROOT that is the root of another system. make swift ARGS="--table" IN="--random 100"
 swift: $(DAILY)
 	@tools/swift.py $(DAILY) $(ARGS)
+	@tools/swift_in.py $(DAILY) $(IN)
 
 # Whether runs of eight workers end where all their threads share one core.
 one_core: $(PROGRAM)

@@ -20,6 +20,8 @@ import examples
 import marks
 import mutants
 import one_core
+import random_swift
+import swift_in
 
 
 def write(folder, files):
@@ -260,6 +262,50 @@ class OneCore(Folder):
         self.assertIn("printed", self.fault(f"head -n 3 {self.folder}/wanted"))
         self.assertIn("status 4", self.fault("exit 4"))
         self.assertIn("did not end", self.fault("exec sleep 5"))
+
+
+SCRIPT = """
+actor a {
+    var p0_ = 1;
+    var n = 0;
+    invariant n >= 0;
+}
+
+actor Main {
+    var p0_ = 0;
+    var p1_ = 0;
+    func main() { p0_ = 1; }
+}
+root main = Main.main();
+"""
+
+
+class SwiftIn(unittest.TestCase):
+    def test_what_a_run_prints(self):
+        self.assertEqual(swift_in.printed('taken: true false left: -3\n"a1" 7\n'), (1, 0, -3, 7))
+        self.assertEqual(swift_in.printed(""), ())
+
+    def test_the_script(self):
+        self.assertEqual(swift_in.main_of(SCRIPT), ("Main", 2))
+        self.assertEqual(swift_in.main_of("actor A { }"), ("", 0))
+        self.assertNotIn("invariant", swift_in.without_invariants(SCRIPT))
+
+    def test_what_is_listed(self):
+        first = "2 outcomes\n\noutcome 1\nfields\na.p0_ 9\nMain.p0_ 1\nMain.p1_ -2\n"
+        self.assertEqual(swift_in.listed(first, "Main", 2), {(1, -2)})
+        for trap in ("a.ok_ 0\n", "t0 root main fault overflow\n"):
+            self.assertEqual(swift_in.listed(first + "outcome 2\n" + trap, "Main", 2), {(1, -2), (swift_in.TRAP,)})
+
+    def test_delays(self):
+        text = "actor A {\n    let n = 1\n    func f() {\n        let x = n\n        n = 2\n    }\n}\n"
+        self.assertEqual(swift_in.delayed(text), text.replace("let x", "delay_(); let x") + swift_in.DELAY)
+
+    def test_random_files(self):
+        self.assertEqual(random_swift.program(3), random_swift.program(3))
+        for seed in range(50):
+            text = random_swift.program(seed)
+            self.assertEqual(text.count("{"), text.count("}"))
+            self.assertIn("static func main() async {", text)
 
 
 if __name__ == "__main__":

@@ -1,6 +1,6 @@
 //! Calls of methods.
 
-use crate::code::{Instruction, Kind, NONE, Target, Value, Wait};
+use crate::code::{Instruction, Kind, NONE, Target, UnitKind, Value, Wait};
 use crate::lowering::{Fallback, Lowering};
 use crate::naming::{actor_of, instance_named, method_at, method_named};
 use crate::operands::Operands;
@@ -247,6 +247,27 @@ fn call_method(
     }
 }
 
+// Whether a task begins only where its maker waits: `main` and what it spawns share the main actor.
+fn begins_behind(lowering: &Lowering<'_>, variable: usize) -> bool {
+    let is_main = match lowering.code.units.get(lowering.setting.unit) {
+        Some(unit) => matches!(unit.kind, UnitKind::Main),
+        None => false,
+    };
+    is_main
+        && lowering.code.instructions.iter().any(|i| match i {
+            Instruction::Make(made, false, _, _) => *made == variable,
+            _ => false,
+        })
+}
+
+// Cancels a task or a group. What was made before may begin before it is cancelled; in an actor's method others would come in here.
+fn cancel(lowering: &mut Lowering<'_>, variable: usize) {
+    if lowering.setting.is_closure && !begins_behind(lowering, variable) {
+        lowering.put(Instruction::Yield);
+    }
+    lowering.put(Instruction::Cancel(variable));
+}
+
 // `Task.sleep`: any delay is among the orders that are searched.
 fn sleep(lowering: &mut Lowering<'_>, token: usize) {
     want_await(lowering, token);
@@ -267,6 +288,10 @@ pub(crate) fn call(
     given: Operands,
     token: usize,
 ) -> Typed {
+    let is_bare = !method.takes_operands && !matches!(method.called, Called::Sleep);
+    if is_bare && first != 0 {
+        lowering.refuse(Rule::Arguments, token);
+    }
     match method.called {
         Called::Own(place) => return call_method(lowering, place, None, first, given, token),
         Called::Other(instance, place) => {
@@ -286,7 +311,7 @@ pub(crate) fn call(
                 lowering.put(Instruction::Check);
             }
         }
-        Called::Cancel(variable) => lowering.put(Instruction::Cancel(variable)),
+        Called::Cancel(variable) => cancel(lowering, variable),
     }
     with_kind(lowering, Value::Number(0), Kind::Void)
 }

@@ -53,7 +53,7 @@ fn acts_at(tree: &Tree, place: usize, depth: u32) -> bool {
 pub const DEPTH: u32 = 400;
 
 /// Whether an expression itself becomes more than a value.
-pub fn is_acting(lowering: &Lowering<'_>, place: usize) -> bool {
+pub(crate) fn is_acting(lowering: &Lowering<'_>, place: usize) -> bool {
     acts_at(lowering.tree, place, DEPTH)
 }
 

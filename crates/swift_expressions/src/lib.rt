@@ -29,12 +29,12 @@ pub use call::{has_label, want_arguments};
 pub use code::{
     Callee, Code, Instruction, Kind, NONE, Operand, Target, Unit, UnitKind, Value, Variable, Wait,
 };
-pub use effect::{DEPTH, is_acting};
+pub use effect::DEPTH;
 pub use lowering::{Fallback, Lowering, Returns, Setting, setting_of};
 pub use name::{field_kind, local_kind, priority_named};
 pub use naming::{
-    actor_of, constant_named, field_at, field_named, instance_at, instance_named, local_named,
-    method_at, method_named,
+    actor_of, constant_named, field_at, field_named, instance_at, instance_named, is_kept,
+    local_named, method_at, method_named,
 };
 pub use operands::Operands;
 pub use scope::{

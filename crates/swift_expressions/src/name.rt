@@ -43,6 +43,9 @@ fn global_name(lowering: &mut Lowering<'_>, token: usize) -> Typed {
 
 /// A name.
 pub(crate) fn name(lowering: &mut Lowering<'_>, token: usize) -> Typed {
+    if lowering.spells(token, "_") {
+        return refused(lowering, Rule::UnknownName, token);
+    }
     let Some(place) = find(lowering, token) else {
         return global_name(lowering, token);
     };

@@ -62,6 +62,18 @@ pub fn actor_of(lowering: &Lowering<'_>, instance: usize) -> usize {
     }
 }
 
+/// Whether a name is one of what Swift itself has and this subset uses.
+pub fn is_kept(lowering: &Lowering<'_>, name: usize) -> bool {
+    lowering.spells(name, "Task")
+        || lowering.spells(name, "print")
+        || lowering.spells(name, "precondition")
+        || lowering.spells(name, "assert")
+        || lowering.spells(name, "withTaskGroup")
+        || lowering.spells(name, "withThrowingTaskGroup")
+        || lowering.spells(name, "precedencegroup")
+        || lowering.spells(name, "Any")
+}
+
 /// The method at a place.
 pub fn method_at(lowering: &Lowering<'_>, place: usize) -> Option<MethodDecl> {
     lowering.tree.methods.get(place).copied()

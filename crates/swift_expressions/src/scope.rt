@@ -2,6 +2,7 @@
 
 use crate::code::Kind;
 use crate::lowering::Lowering;
+use crate::naming::is_kept;
 use swift_syntax::Rule;
 
 /// What a name in scope stands for.
@@ -126,6 +127,9 @@ pub fn declare_as(
     count: usize,
 ) {
     let loops = lowering.setting.loops;
+    if is_kept(lowering, token) {
+        lowering.refuse(Rule::NameTwice, token);
+    }
     lowering.bind(Binding {
         token,
         standing,

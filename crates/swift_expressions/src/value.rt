@@ -114,7 +114,11 @@ fn shortcut(
         _ => so_far,
     };
     lowering.put(Instruction::If(test));
+    // It is an autoclosure, which an `await` on its left does not cover; one of its own stands only behind a comma.
+    let before = lowering.setting.is_awaited;
+    lowering.setting.is_awaited = false;
     let second = value(lowering, right, depth - 1);
+    lowering.setting.is_awaited = before;
     want(lowering, second, Kind::Bool, token);
     lowering.put(Instruction::Set(variable, second.value));
     lowering.put(Instruction::End);
@@ -178,6 +182,8 @@ fn tried(lowering: &mut Lowering<'_>, inner: usize, token: usize, depth: u32) ->
     if !lowering.setting.is_throwing {
         lowering.refuse(Rule::Try, token);
     }
+    // Swift takes a closure with a `try` for one that throws, whatever is tried.
+    lowering.setting.has_thrown = true;
     let before = lowering.setting.is_tried;
     lowering.setting.is_tried = true;
     let found = value(lowering, inner, depth - 1);

@@ -69,6 +69,15 @@ pub(crate) fn getter(lowering: &mut Lowering<'_>, instance: usize, token: usize)
     }
 }
 
+// Whether something in the file reads a priority.
+fn reads_priority(lowering: &Lowering<'_>) -> bool {
+    lowering
+        .tree
+        .exprs
+        .iter()
+        .any(|e| lowering.spells(e.token, "currentPriority"))
+}
+
 /// The value of the task at a place in scope.
 pub(crate) fn task_value(lowering: &mut Lowering<'_>, place: usize, token: usize) -> Typed {
     let Some(found) = binding_at(lowering, place) else {
@@ -82,6 +91,10 @@ pub(crate) fn task_value(lowering: &mut Lowering<'_>, place: usize, token: usize
         want_try(lowering, token);
     }
     mark_used(lowering, place);
+    // What was made before may read its priority before it is raised by this wait.
+    if lowering.setting.is_closure && reads_priority(lowering) {
+        lowering.put(Instruction::Yield);
+    }
     wait(lowering, Wait::Task(found.variable), found.kind)
 }
 
@@ -100,7 +113,11 @@ pub(crate) fn next_child(
         return refused(lowering, Rule::NotYet, token);
     }
     mark_used(lowering, place);
-    wait(lowering, Wait::Next(found.variable), found.kind)
+    let value = wait(lowering, Wait::Next(found.variable), found.kind);
+    if found.count != found.variable {
+        count_down(lowering, found.count);
+    }
+    value
 }
 
 /// Takes one from a group's count of children.

@@ -60,6 +60,13 @@ fn refuse_twice(lowering: &mut Lowering<'_>, name: usize) {
     }
 }
 
+// Refuses to give a name its own value, as Swift does.
+fn refuse_self(lowering: &mut Lowering<'_>, value: usize, target: usize, name: usize) {
+    if value == target {
+        lowering.refuse(Rule::Assigned, name);
+    }
+}
+
 // Gives a name a value.
 fn set(lowering: &mut Lowering<'_>, name: usize, is_own: bool, found: Typed) {
     if !is_own {
@@ -68,6 +75,9 @@ fn set(lowering: &mut Lowering<'_>, name: usize, is_own: bool, found: Typed) {
                 lowering.refuse(Rule::Assigned, name);
             }
             want(lowering, found, standing.kind, name);
+            if let Value::Variable(same) = lowering.value_at(found.value) {
+                refuse_self(lowering, same, standing.variable, name);
+            }
             lowering.put(Instruction::Set(standing.variable, found.value));
             return;
         }
@@ -82,6 +92,9 @@ fn set(lowering: &mut Lowering<'_>, name: usize, is_own: bool, found: Typed) {
     }
     let kind = field_kind(lowering, field);
     want(lowering, found, kind, name);
+    if let Value::Field(same) = lowering.value_at(found.value) {
+        refuse_self(lowering, same, field, name);
+    }
     lowering.put(Instruction::SetField(field, found.value));
 }
 

@@ -1,7 +1,9 @@
 //! What closures capture.
 
 use crate::closure::ClosureBody;
-use swift_expressions::{Lowering, NONE, Standing, Typed, Value, declare, standing_at};
+use swift_expressions::{
+    Lowering, NONE, Standing, Typed, Value, constant_named, declare, instance_named, standing_at,
+};
 use swift_syntax::{Rule, Sign, TokenKind};
 
 // Whether a name stands at a token that may be captured.
@@ -81,6 +83,23 @@ fn capture(
     lowering.setting.unit = outer;
     declare(lowering, token, variable, found.kind, false);
     operand
+}
+
+/// Refuses names in a closure's list that stand for nothing.
+pub(crate) fn refuse_unknown(lowering: &mut Lowering<'_>, captures: usize) {
+    let mut place = captures;
+    for _ in 0..lowering.tree.arguments.len() {
+        let Some(argument) = lowering.tree.argument(place) else {
+            return;
+        };
+        let label = argument.label;
+        let is_global = instance_named(lowering, label).is_some()
+            || constant_named(lowering, label).is_some();
+        if !is_global && standing_at(lowering, label).is_none() {
+            lowering.refuse(Rule::UnknownName, label);
+        }
+        place = argument.next;
+    }
 }
 
 /// Captures what the names in a closure stand for. The place of the first operand, or `NONE`.

@@ -169,8 +169,15 @@ pub(crate) fn begin_caught(lowering: &mut Lowering<'_>, body: usize, token: usiz
         lowering.refuse(Rule::NotYet, token);
         return None;
     };
+    let before = lowering.here();
     let found = lower_wait(lowering, place);
-    let Some((target, what)) = last_wait(lowering) else {
+    // A wait of the statement itself, and not of one before it.
+    let last = if lowering.here() > before {
+        last_wait(lowering)
+    } else {
+        None
+    };
+    let Some((target, what)) = last else {
         lowering.refuse(Rule::NotYet, token);
         return None;
     };

@@ -1,7 +1,10 @@
 //! What has to hold of a file as a whole.
 
-use swift_expressions::{Lowering, actor_of, has_label, instance_at, kind_of, literal};
-use swift_syntax::{FieldStart, Rule, ValueType};
+use swift_expressions::{
+    Kind, Lowering, NONE, actor_of, field_kind, has_label, instance_at, instance_named, is_kept,
+    kind_of, literal,
+};
+use swift_syntax::{ExprForm, FieldDecl, FieldStart, Rule, ValueType};
 
 // Refuses a name that a table has twice, by its places.
 fn refuse_same(lowering: &mut Lowering<'_>, left: usize, right: usize) {
@@ -10,10 +13,36 @@ fn refuse_same(lowering: &mut Lowering<'_>, left: usize, right: usize) {
     }
 }
 
-/// Refuses methods and fields of one actor with one name.
+// Refuses a name of what Swift itself has.
+fn refuse_kept(lowering: &mut Lowering<'_>, name: usize) {
+    if is_kept(lowering, name) {
+        lowering.refuse(Rule::NameTwice, name);
+    }
+}
+
+// Refuses the name of a member that would stand for what is global, or for what Swift itself has.
+fn check_member(lowering: &mut Lowering<'_>, name: usize) {
+    let tree = lowering.tree;
+    for instance in tree.instances.iter() {
+        refuse_same(lowering, name, instance.name);
+    }
+    for constant in tree.constants.iter() {
+        refuse_same(lowering, name, constant.name);
+    }
+    for local in tree.locals.iter() {
+        refuse_same(lowering, name, local.of);
+    }
+    refuse_kept(lowering, name);
+    if lowering.spells(name, "_") {
+        lowering.refuse(Rule::UnknownName, name);
+    }
+}
+
+/// Refuses methods and fields of one actor with one name, and names that would hide others.
 pub(crate) fn check_members(lowering: &mut Lowering<'_>) {
     let tree = lowering.tree;
     for method in tree.methods.iter() {
+        check_member(lowering, method.name);
         for other in tree.methods.iter() {
             if method.actor == other.actor {
                 refuse_same(lowering, method.name, other.name);
@@ -26,6 +55,7 @@ pub(crate) fn check_members(lowering: &mut Lowering<'_>) {
         }
     }
     for field in tree.fields.iter() {
+        check_member(lowering, field.name);
         for other in tree.fields.iter() {
             if field.actor == other.actor {
                 refuse_same(lowering, field.name, other.name);
@@ -52,9 +82,13 @@ fn check_global(lowering: &mut Lowering<'_>, name: usize) {
     for main in tree.mains.iter() {
         refuse_same(lowering, name, main.name);
     }
-    if lowering.spells(name, "Task") || lowering.spells(name, "print") {
-        lowering.refuse(Rule::NameTwice, name);
+    for local in tree.locals.iter() {
+        refuse_same(lowering, name, local.of);
     }
+    for case in tree.cases.iter() {
+        refuse_same(lowering, name, case.of);
+    }
+    refuse_kept(lowering, name);
 }
 
 /// Refuses global names that are there twice, or are kept.
@@ -74,6 +108,14 @@ pub(crate) fn check_globals(lowering: &mut Lowering<'_>) {
     }
     for main in tree.mains.iter() {
         check_global(lowering, main.name);
+    }
+    for case in tree.cases.iter() {
+        check_global(lowering, case.of);
+        for other in tree.cases.iter() {
+            if case.of == other.of {
+                refuse_same(lowering, case.name, other.name);
+            }
+        }
     }
     for local in tree.locals.iter() {
         check_global(lowering, local.of);
@@ -98,13 +140,48 @@ fn check_literal(
     }
 }
 
+// The type of a parameter of an actor's init; refuses another name.
+fn param_kind(lowering: &mut Lowering<'_>, actor: usize, name: usize) -> Kind {
+    let tree = lowering.tree;
+    if let Some(made) = tree.actors.get(actor) {
+        for place in made.first_param..made.params_end {
+            if let Some(param) = tree.params.get(place) {
+                if lowering.are_same(param.name, name) {
+                    return kind_of(param.value_type);
+                }
+            }
+        }
+    }
+    lowering.refuse(Rule::UnknownName, name);
+    Kind::Int
+}
+
+// Refuses what an init gives a field of another type, or one that has its value for good.
+fn check_given(lowering: &mut Lowering<'_>, place: usize, field: FieldDecl) {
+    if field.given == 0 {
+        return;
+    }
+    let expr = lowering.tree.expr(field.given);
+    let kind = match expr.form {
+        ExprForm::Name => param_kind(lowering, field.actor, expr.token),
+        _ => literal(lowering, field.given).1,
+    };
+    if kind != field_kind(lowering, place) {
+        lowering.refuse(Rule::WrongType, field.name);
+    }
+    if !field.is_var && matches!(field.start, FieldStart::Value(_)) {
+        lowering.refuse(Rule::Assigned, field.name);
+    }
+}
+
 /// Refuses start values of fields, constants and task locals that are of another type than is given.
 pub(crate) fn check_starts(lowering: &mut Lowering<'_>) {
     let tree = lowering.tree;
-    for field in tree.fields.iter() {
+    for (place, field) in tree.fields.iter().enumerate() {
         if let FieldStart::Value(value) = field.start {
             check_literal(lowering, field.value_type, value, field.name);
         }
+        check_given(lowering, place, *field);
     }
     for constant in tree.constants.iter() {
         check_literal(lowering, constant.value_type, constant.value, constant.name);
@@ -162,6 +239,20 @@ fn check_executor(lowering: &mut Lowering<'_>, of: usize, arguments: usize) {
     }
 }
 
+// Refuses an actor's executor, 0 for none, that is no instance of a class of executors.
+fn check_seat(lowering: &mut Lowering<'_>, executor: usize) {
+    if executor == 0 {
+        return;
+    }
+    let is_seat = match instance_named(lowering, executor) {
+        Some(instance) => actor_of(lowering, instance) == NONE,
+        None => false,
+    };
+    if !is_seat {
+        lowering.refuse(Rule::UnknownName, executor);
+    }
+}
+
 /// Refuses actors without an instance, and a file without one `main`.
 pub(crate) fn check_whole(lowering: &mut Lowering<'_>) {
     let tree = lowering.tree;
@@ -173,6 +264,9 @@ pub(crate) fn check_whole(lowering: &mut Lowering<'_>) {
     }
     for instance in 0..tree.instances.len() {
         check_instance(lowering, instance);
+    }
+    for actor in tree.actors.iter() {
+        check_seat(lowering, actor.executor);
     }
     match tree.mains.as_slice() {
         [_] => {}

@@ -1,6 +1,6 @@
 //! Closures, and the methods that they become.
 
-use crate::capture::capture_all;
+use crate::capture::{capture_all, refuse_unknown};
 use crate::returns::exits;
 use swift_expressions::{
     Callee, Instruction, Kind, Lowering, NONE, Setting, Standing, UnitKind, actor_of,
@@ -166,6 +166,7 @@ fn called(lowering: &Lowering<'_>, place: usize) -> Option<InstanceCall> {
 
 /// A closure that only calls a method of an instance is that method.
 pub(crate) fn direct(lowering: &mut Lowering<'_>, body: ClosureBody) -> Option<MadeClosure> {
+    refuse_unknown(lowering, body.captures);
     if body.is_among_others {
         return None;
     }
@@ -175,11 +176,11 @@ pub(crate) fn direct(lowering: &mut Lowering<'_>, body: ClosureBody) -> Option<M
     if !body.is_implicit && (!is_awaited || (call.declared.is_throwing && !is_tried)) {
         return None;
     }
-    Some(hand_over(lowering, call))
+    Some(hand_over(lowering, call, is_tried))
 }
 
 // The method of an instance as what a task runs.
-fn hand_over(lowering: &mut Lowering<'_>, call: InstanceCall) -> MadeClosure {
+fn hand_over(lowering: &mut Lowering<'_>, call: InstanceCall, is_tried: bool) -> MadeClosure {
     let InstanceCall {
         instance,
         method,
@@ -203,7 +204,7 @@ fn hand_over(lowering: &mut Lowering<'_>, call: InstanceCall) -> MadeClosure {
     MadeClosure {
         callee: Callee::Method(instance, method, given.first),
         kind: kind_of(declared.result),
-        is_throwing: declared.is_throwing,
+        is_throwing: declared.is_throwing || is_tried,
     }
 }
 

@@ -4,7 +4,7 @@ use crate::assignment::{assign, give, give_back, throw, toggle};
 use crate::closure::is_said;
 use crate::print::{print, require};
 use swift_expressions::{Fallback, Lowering, expression, want_wait};
-use swift_syntax::{ExprForm, Into, Stmt, StmtForm};
+use swift_syntax::{ExprForm, Into, Rule, Stmt, StmtForm};
 
 // `try? e`, whose value is let go.
 fn ignore_fault(lowering: &mut Lowering<'_>, inner: usize) {
@@ -12,6 +12,10 @@ fn ignore_fault(lowering: &mut Lowering<'_>, inner: usize) {
     let zero = lowering.number(0);
     lowering.setting.fallback = Fallback::Fault(zero);
     expression(lowering, inner);
+    // It was taken by the wait.
+    if !matches!(lowering.setting.fallback, Fallback::None) {
+        lowering.refuse(Rule::NotYet, lowering.tree.expr(inner).token);
+    }
     lowering.setting.fallback = Fallback::None;
 }
 

@@ -10,7 +10,7 @@ use crate::statement::body_statements;
 use std::alloc::Global;
 use swift_expressions::{
     Code, Instruction, Kind, Lowering, NONE, UnitKind, declare, expression, kind_of, leave,
-    setting_of, want,
+    setting_of, standing_at, want,
 };
 use swift_syntax::{Breach, MethodDecl, Refusal, Rule, Token, Tree};
 
@@ -27,6 +27,9 @@ pub struct Lowered {
 fn declare_params(lowering: &mut Lowering<'_>, method: MethodDecl) {
     for place in method.first_param..method.params_end {
         if let Some(param) = lowering.tree.params.get(place).copied() {
+            if standing_at(lowering, param.name).is_some() {
+                lowering.refuse(Rule::NameTwice, param.name);
+            }
             let variable = lowering.variable(param.name, true);
             let kind = kind_of(param.value_type);
             declare(lowering, param.name, variable, kind, false);

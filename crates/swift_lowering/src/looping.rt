@@ -1,8 +1,6 @@
 //! What stands at the head of a loop.
 
-use swift_expressions::{
-    Instruction, Kind, Lowering, Typed, Value, expression, keep, want, with_kind,
-};
+use swift_expressions::{Instruction, Kind, Lowering, Typed, Value, expression, want, with_kind};
 use swift_types::Operator;
 
 /// A test of a statement.
@@ -13,7 +11,7 @@ pub(crate) fn test_of(lowering: &mut Lowering<'_>, test: usize, token: usize) ->
 }
 
 // Traps where a range ends before it begins, as Swift does.
-fn trap_below(lowering: &mut Lowering<'_>, from: Typed, to: Typed) {
+fn trap_below(lowering: &mut Lowering<'_>, from: Typed, here: Typed, to: Typed) {
     if let Value::Number(first) = lowering.value_at(from.value) {
         if let Value::Number(last) = lowering.value_at(to.value) {
             if first <= last {
@@ -21,7 +19,7 @@ fn trap_below(lowering: &mut Lowering<'_>, from: Typed, to: Typed) {
             }
         }
     }
-    let test = lowering.value(Value::Binary(Operator::Greater, from.value, to.value));
+    let test = lowering.value(Value::Binary(Operator::Greater, here.value, to.value));
     lowering.put(Instruction::If(test));
     let most = lowering.number(i64::MAX);
     let one = lowering.number(1);
@@ -29,6 +27,16 @@ fn trap_below(lowering: &mut Lowering<'_>, from: Typed, to: Typed) {
     let variable = lowering.temporary();
     lowering.put(Instruction::Let(variable, over));
     lowering.put(Instruction::End);
+}
+
+// A value that is computed here, once: the body of a loop may assign the variable that it is.
+fn fixed(lowering: &mut Lowering<'_>, found: Typed) -> Typed {
+    if let Value::Number(_) = lowering.value_at(found.value) {
+        return found;
+    }
+    let variable = lowering.temporary();
+    lowering.put(Instruction::Let(variable, found.value));
+    with_kind(lowering, Value::Variable(variable), found.kind)
 }
 
 /// The counter of a loop, and the end that is computed once. The place of the counter.
@@ -45,9 +53,9 @@ pub(crate) fn begin_count(
     lowering.put(Instruction::Let(counter, first.value));
     let last = expression(lowering, to);
     want(lowering, last, Kind::Int, token);
-    let end = keep(lowering, last);
+    let end = fixed(lowering, last);
     let here = with_kind(lowering, Value::Variable(counter), Kind::Int);
-    trap_below(lowering, first, end);
+    trap_below(lowering, first, here, end);
     let operator = if is_closed {
         Operator::AtMost
     } else {

@@ -1,7 +1,7 @@
 //! What `print`, `precondition` and `assert` say.
 
 use swift_expressions::{Instruction, Kind, Lowering, NONE, UnitKind, expression, keep, want};
-use swift_syntax::{ExprForm, Rule};
+use swift_syntax::{Argument, ExprForm, Rule};
 
 /// The values that `main` prints become fields, when all of them are computed; elsewhere they are only computed.
 pub(crate) fn print(lowering: &mut Lowering<'_>, first: usize) {
@@ -13,7 +13,11 @@ pub(crate) fn print(lowering: &mut Lowering<'_>, first: usize) {
             break;
         };
         place = argument.next;
-        if matches!(lowering.tree.expr(argument.value).form, ExprForm::Text) {
+        let is_text = matches!(lowering.tree.expr(argument.value).form, ExprForm::Text);
+        if argument.label != 0 {
+            want_label(lowering, argument.label, is_text);
+        }
+        if is_text {
             continue;
         }
         last = printed(lowering, argument.value, last);
@@ -23,6 +27,14 @@ pub(crate) fn print(lowering: &mut Lowering<'_>, first: usize) {
     }
     if is_main(lowering) {
         print_values(lowering, values);
+    }
+}
+
+// Refuses a label that `print` does not have, or without a string.
+fn want_label(lowering: &mut Lowering<'_>, label: usize, is_text: bool) {
+    let is_known = lowering.spells(label, "separator") || lowering.spells(label, "terminator");
+    if !is_known || !is_text {
+        lowering.refuse(Rule::Arguments, label);
     }
 }
 
@@ -58,13 +70,36 @@ fn print_values(lowering: &mut Lowering<'_>, first: usize) {
     }
 }
 
+// Refuses labels, and what stands behind the value that has to hold, but for one string.
+fn want_message(lowering: &mut Lowering<'_>, value: Argument, token: usize) {
+    let is_message = match lowering.tree.argument(value.next) {
+        Some(message) => {
+            message.label == 0
+                && message.next == 0
+                && matches!(lowering.tree.expr(message.value).form, ExprForm::Text)
+        }
+        None => true,
+    };
+    if value.label != 0 || !is_message {
+        lowering.refuse(Rule::Arguments, token);
+    }
+}
+
 /// `precondition` and `assert`.
 pub(crate) fn require(lowering: &mut Lowering<'_>, first: usize, token: usize) {
     let Some(argument) = lowering.tree.argument(first) else {
         lowering.refuse(Rule::Arguments, token);
         return;
     };
+    want_message(lowering, argument, token);
+    // It is an autoclosure, which can neither wait nor throw.
+    let outer = lowering.setting;
+    lowering.setting.is_async = false;
+    lowering.setting.is_throwing = false;
+    lowering.setting.is_awaited = false;
+    lowering.setting.is_tried = false;
     let found = expression(lowering, argument.value);
+    lowering.setting = outer;
     want(lowering, found, Kind::Bool, token);
     lowering.put(Instruction::Require(found.value));
 }

@@ -14,7 +14,7 @@ use crate::tasks::{
 };
 use swift_expressions::{
     DEPTH, Instruction, Kind, Lowering, NONE, Returns, Value, count_up, declare, expression,
-    is_acting, kind_of, leave,
+    kind_of, leave,
 };
 use swift_syntax::{Rule, Stmt, StmtForm, ValueType};
 
@@ -99,8 +99,10 @@ fn loop_while(lowering: &mut Lowering<'_>, test: usize, body: usize, token: usiz
         lowering.refuse(Rule::TooLarge, token);
         return;
     }
+    let before = lowering.here();
     let first = test_of(lowering, test, token);
-    if !is_acting(lowering, test) {
+    // It is but a value; a comma makes more of it.
+    if lowering.here() == before {
         lowering.put(Instruction::While(first));
         repeated(lowering, body, depth - 1);
         lowering.put(Instruction::End);
@@ -176,22 +178,28 @@ fn closed(lowering: &mut Lowering<'_>, stmt: Stmt, depth: u32) {
         return;
     }
     let start = lowering.scope.len();
+    let outer = lowering.setting;
     let (into, variable, kind) = match stmt.form {
         StmtForm::Group(into, found, is_throwing, body) => {
             want_cover(lowering, stmt, is_throwing);
             let variable = begin_result(lowering, into);
             begin_group(lowering, stmt, kind_of(found), is_throwing);
+            lowering.setting.is_throwing = is_throwing;
             let kind = closure_block(lowering, body, variable, depth - 1);
             (into, variable, kind)
         }
         StmtForm::Bind(into, of, given, body) => {
             let variable = begin_result(lowering, into);
             begin_bind(lowering, of, stmt.token, given);
+            lowering.setting.is_throwing = outer.is_throwing && stmt.is_tried;
+            lowering.setting.is_async = outer.is_async && stmt.is_awaited;
             let kind = closure_block(lowering, body, variable, depth - 1);
             (into, variable, kind)
         }
         _ => return,
     };
+    lowering.setting.is_throwing = outer.is_throwing;
+    lowering.setting.is_async = outer.is_async;
     lowering.put(Instruction::End);
     leave(lowering, start);
     if let Some(found) = result_of(lowering, variable, kind, stmt.token) {
@@ -291,7 +299,7 @@ fn statement(lowering: &mut Lowering<'_>, stmt: Stmt, depth: u32) {
     }
 }
 
-// The child of an `async let`, in whose group the rest of its block stands. Its variable.
+// The child of an `async let`, in whose group the rest of its block stands. Its variable, and that of its count.
 #[cycle(statement)]
 fn child(
     lowering: &mut Lowering<'_>,
@@ -299,10 +307,10 @@ fn child(
     wanted: Option<ValueType>,
     given: usize,
     depth: u32,
-) -> usize {
+) -> (usize, usize) {
     if depth == 0 {
         lowering.refuse(Rule::TooLarge, stmt.token);
-        return NONE;
+        return (NONE, NONE);
     }
     if !lowering.setting.is_async {
         lowering.refuse(Rule::Await, stmt.token);
@@ -313,7 +321,8 @@ fn child(
             lowering.refuse(Rule::WrongType, stmt.token);
         }
     }
-    begin_child(lowering, stmt, made)
+    let is_left_early = leaves_early(lowering, stmt.next);
+    begin_child(lowering, stmt, made, is_left_early)
 }
 
 // The statements of a block from a place on. What follows an `async let` stands in its group, and what follows something that may return
@@ -331,9 +340,9 @@ fn statements(lowering: &mut Lowering<'_>, first: usize, depth: u32) {
         };
         place = stmt.next;
         if let StmtForm::AsyncLet(wanted, given) = stmt.form {
-            let variable = child(lowering, stmt, wanted, given, depth - 1);
+            let (variable, count) = child(lowering, stmt, wanted, given, depth - 1);
             statements(lowering, place, depth - 1);
-            end_child(lowering, variable);
+            end_child(lowering, variable, count);
             return;
         }
         statement(lowering, stmt, depth - 1);
@@ -345,6 +354,21 @@ fn statements(lowering: &mut Lowering<'_>, first: usize, depth: u32) {
             return;
         }
     }
+}
+
+// Whether one of the statements from a place on that is not the last one may return out of the unit.
+fn leaves_early(lowering: &Lowering<'_>, first: usize) -> bool {
+    let mut place = first;
+    for _ in 0..lowering.tree.stmts.len() {
+        let Some(stmt) = lowering.tree.stmt(place) else {
+            return false;
+        };
+        place = stmt.next;
+        if place != 0 && returns_early(lowering, stmt) {
+            return true;
+        }
+    }
+    false
 }
 
 // Whether a statement may return out of the unit.

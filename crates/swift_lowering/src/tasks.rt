@@ -109,8 +109,9 @@ pub(crate) fn add_task(
     if made.is_throwing && !group.is_throwing {
         lowering.refuse(Rule::Try, stmt.token);
     }
-    let urgency = priority(lowering, form.priority);
-    lowering.put(Instruction::Add(group.variable, is_only, made.callee, urgency));
+    // In Swift it has no effect: a child has its owner's.
+    priority(lowering, form.priority);
+    lowering.put(Instruction::Add(group.variable, is_only, made.callee, None));
     if is_only {
         if group.is_used {
             lowering.refuse(Rule::NotYet, stmt.token);
@@ -121,9 +122,21 @@ pub(crate) fn add_task(
     }
 }
 
-/// Begins the group of an `async let`. Its variable.
-pub(crate) fn begin_child(lowering: &mut Lowering<'_>, stmt: Stmt, made: MadeClosure) -> usize {
+/// Begins the group of an `async let`. Its variable, and one that counts the child where its scope may be left before that is awaited; else
+/// the same.
+pub(crate) fn begin_child(
+    lowering: &mut Lowering<'_>,
+    stmt: Stmt,
+    made: MadeClosure,
+    is_left_early: bool,
+) -> (usize, usize) {
     let variable = lowering.variable(stmt.token, false);
+    let mut count = variable;
+    if is_left_early {
+        count = lowering.temporary();
+        let one = lowering.number(1);
+        lowering.put(Instruction::Let(count, one));
+    }
     lowering.put(Instruction::Group(variable));
     lowering.put(Instruction::Add(variable, false, made.callee, None));
     declare_as(
@@ -133,14 +146,31 @@ pub(crate) fn begin_child(lowering: &mut Lowering<'_>, stmt: Stmt, made: MadeClo
         variable,
         made.kind,
         made.is_throwing,
-        variable,
+        count,
     );
     lowering.setting.groups = lowering.setting.groups.saturating_add(1);
-    variable
+    (variable, count)
+}
+
+// Whether the child of a variable is awaited somewhere.
+fn is_awaited(lowering: &Lowering<'_>, variable: usize) -> bool {
+    lowering
+        .scope
+        .iter()
+        .any(|b| b.variable == variable && b.is_used)
 }
 
 /// Ends the group of an `async let`: what is left of it is cancelled and waited for.
-pub(crate) fn end_child(lowering: &mut Lowering<'_>, variable: usize) {
+pub(crate) fn end_child(lowering: &mut Lowering<'_>, variable: usize, count: usize) {
+    // A child that nobody has awaited is waited for here, and may begin before it is cancelled.
+    if count != variable {
+        let test = has_child(lowering, count);
+        lowering.put(Instruction::If(test));
+        lowering.put(Instruction::Yield);
+        lowering.put(Instruction::End);
+    } else if !is_awaited(lowering, variable) {
+        lowering.put(Instruction::Yield);
+    }
     lowering.put(Instruction::Cancel(variable));
     lowering.put(Instruction::End);
     lowering.setting.groups = lowering.setting.groups.saturating_sub(1);
@@ -245,8 +275,10 @@ pub(crate) fn begin_results(
     if found.is_partial || !lowering.setting.is_async {
         lowering.refuse(Rule::NotYet, group);
     }
-    if found.is_throwing {
+    if is_tried {
         lowering.setting.has_thrown = true;
+    }
+    if found.is_throwing {
         if !is_tried || !lowering.setting.is_throwing {
             lowering.refuse(Rule::Try, group);
         }
@@ -271,6 +303,9 @@ pub(crate) fn begin_results(
 
 /// Refuses a group or a binding without `await`, or with `try` missing.
 pub(crate) fn want_cover(lowering: &mut Lowering<'_>, stmt: Stmt, is_throwing: bool) {
+    if stmt.is_tried {
+        lowering.setting.has_thrown = true;
+    }
     if !stmt.is_awaited || !lowering.setting.is_async {
         lowering.refuse(Rule::Await, stmt.token);
     }

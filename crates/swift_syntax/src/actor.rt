@@ -137,19 +137,37 @@ fn give(reader: &mut Reader<'_>, actor: usize, name: usize, value: usize) {
     match field_named(reader, actor, name) {
         Some(place) => {
             if let Some(field) = reader.tree.fields.get_mut(place) {
+                let is_twice = field.given != 0 && !field.is_var;
                 field.given = value;
+                if is_twice {
+                    reader.refuse(Rule::Assigned, name);
+                }
             }
         }
         None => reader.refuse(Rule::UnknownName, name),
     }
 }
 
+// Whether a name is one of the parameters from a place on.
+fn is_param(reader: &Reader<'_>, first_param: usize, name: usize) -> bool {
+    let wanted = reader.token(name);
+    let bytes = reader.text.get(wanted.from..wanted.to);
+    reader.tree.params.iter().skip(first_param).any(|p| {
+        let token = reader.token(p.name);
+        reader.text.get(token.from..token.to) == bytes
+    })
+}
+
 // One assignment of an init.
-fn init_step(reader: &mut Reader<'_>, actor: usize) {
-    if reader.takes_key(Word::Own) {
+fn init_step(reader: &mut Reader<'_>, actor: usize, first_param: usize) {
+    let is_own = reader.takes_key(Word::Own);
+    if is_own {
         reader.sign(Sign::Dot);
     }
     let name = reader.name();
+    if !is_own && is_param(reader, first_param, name) {
+        reader.refuse(Rule::Assigned, name);
+    }
     reader.sign(Sign::Assign);
     let place = reader.at;
     let value = expression(reader);
@@ -163,6 +181,9 @@ fn init_step(reader: &mut Reader<'_>, actor: usize) {
 
 // An init, from its keyword on.
 fn init(reader: &mut Reader<'_>, actor: usize) {
+    if reader.tree.actors.get(actor).is_some_and(|a| a.has_init) {
+        reader.refuse(Rule::NameTwice, reader.at);
+    }
     reader.take();
     let first_param = reader.tree.params.len();
     reader.sign(Sign::Open);
@@ -176,7 +197,7 @@ fn init(reader: &mut Reader<'_>, actor: usize) {
         if reader.takes(Sign::Semicolon) {
             continue;
         }
-        init_step(reader, actor);
+        init_step(reader, actor, first_param);
     }
     if let Some(made) = reader.tree.actors.get_mut(actor) {
         made.has_init = true;
@@ -305,7 +326,14 @@ fn member(reader: &mut Reader<'_>, actor: usize) {
         TokenKind::Key(Word::Init) => init(reader, actor),
         TokenKind::Key(Word::Nonisolated) => executor(reader, actor),
         _ => {
+            let before = reader.at;
             let access = access(reader);
+            let at = reader.at;
+            let last = reader.token(at.saturating_sub(1)).kind;
+            let has_set = at > before && matches!(last, TokenKind::Sign(Sign::Close));
+            if has_set && !reader.is_key(Word::Var) {
+                reader.refuse(Rule::Outside, at);
+            }
             match reader.here().kind {
                 TokenKind::Key(Word::Var | Word::Let) => field(reader, actor, access),
                 TokenKind::Key(Word::Func) => method(reader, actor, access),

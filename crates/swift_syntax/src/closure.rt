@@ -133,6 +133,8 @@ fn group_head(reader: &mut Reader<'_>) -> HeadForm {
     reader.sign(Sign::Colon);
     let found = type_itself(reader);
     if reader.takes(Sign::Comma) {
+        // Its type would have to be compared; Swift infers it.
+        reader.refuse(Rule::NotYet, reader.at);
         reader.word("returning");
         reader.sign(Sign::Colon);
         type_itself(reader);

@@ -124,10 +124,23 @@ fn refuse_chain(reader: &mut Reader<'_>, level: u32) {
     }
 }
 
+// Whether an operator stands right before the next token: Swift takes both for one.
+fn follows_operator(reader: &Reader<'_>) -> bool {
+    let before = reader.here().from.saturating_sub(1);
+    match reader.text.get(before) {
+        Some(byte) => {
+            matches!(*byte, b'+' | b'-' | b'*' | b'/' | b'%' | b'=' | b'<' | b'>')
+                || matches!(*byte, b'!' | b'&' | b'|' | b'^' | b'~' | b'?' | b'.')
+        }
+        None => false,
+    }
+}
+
 // Takes a prefix, which stands at its operand. Its place.
 fn take_prefix(reader: &mut Reader<'_>) -> usize {
+    let is_joined = !reader.here().after_space && follows_operator(reader);
     let place = reader.take();
-    if reader.here().after_space {
+    if is_joined || reader.here().after_space {
         reader.refuse(Rule::Spaces, place);
     }
     place
@@ -228,6 +241,9 @@ fn atom(reader: &mut Reader<'_>, depth: u32) -> usize {
             inner
         }
         TokenKind::Name => named(reader, depth - 1),
+        // They cover all to their right, and stand at the left end.
+        TokenKind::Key(Word::Await) => missing(reader, Rule::Await),
+        TokenKind::Key(Word::Try) => missing(reader, Rule::Try),
         _ => {
             reader.unexpected();
             0

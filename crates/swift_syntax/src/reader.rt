@@ -186,6 +186,11 @@ impl<'a> Reader<'a> {
 
     /// Takes a name. Its place.
     pub(crate) fn name(&mut self) -> usize {
+        let at = self.at;
+        let before = self.token(at.saturating_sub(1)).kind;
+        if self.here().after_space && matches!(before, TokenKind::Sign(Sign::Dot)) {
+            self.refuse(Rule::Spaces, at);
+        }
         match self.here().kind {
             TokenKind::Name => self.take(),
             _ => {

@@ -1,7 +1,7 @@
 //! Why a file is refused.
 
 ghost use Rattle.std.specs.Prelude.{◌≡◌, All};
-ghost use Rattle.swift_syntax.specs.Places.{IsBlamedIn, IsTokenOf};
+ghost use Rattle.swift_syntax.specs.Places.{IsBlamedIn, IsTokenOf, refusal_of};
 
 use crate::token::Token;
 
@@ -198,6 +198,7 @@ impl Breach {
     /// The refusal of a text with these tokens, which says which of its bytes are to blame.
     pub fn refusal(self, text: &[u8], tokens: &[Token]) -> Refusal
         requires { All (IsTokenOf text.now) tokens.now }
+        ensures refusal { result ≡ refusal_of text.now tokens.now self }
         ensures rule { result.rule ≡ self.rule }
         ensures blamed { IsBlamedIn text.now result }
     {

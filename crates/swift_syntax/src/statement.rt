@@ -161,6 +161,10 @@ fn finish(
     closure: Closure,
     token: usize,
 ) -> usize {
+    let is_named = matches!(head.form, HeadForm::Group(..));
+    if is_named != (closure.parameter != 0) {
+        reader.refuse(Rule::Arguments, head.token);
+    }
     let (form, token) = closure_stmt(head, into, closure, token);
     let place = reader.stmt(form, token);
     if let Some(made) = reader.tree.stmts.get_mut(place) {

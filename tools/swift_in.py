@@ -1,0 +1,214 @@
+#!/usr/bin/env python3
+"""Compiles files of the subset of Swift that nuchapay reads, runs them, and looks whether explore lists what they print.
+
+    tools/swift_in.py NUCHAPAY [FILE..] [--runs N] [--limit STATES] [--random N] [--seed N]
+
+Without files it takes examples/swift, and those of examples/nuchapay; with --random N it takes N of tools/random_swift.py, from --seed on.
+The compiler is the `swiftc` on the PATH, or that of another system whose root folder SWIFT_ROOT names; where there is none, it says so and
+ends with status 0.
+
+Of a file that nuchapay refuses, it says whether the compiler does, too. Another one has to be compiled. It is run N times (60), each fifth
+time on one core, and with short delays of random length at the beginning of statements, so that other orders come. The numbers, true and
+false that a run prints are compared with the fields p0_, p1_ .. of the outcomes that explore lists for what `nuchapay print` prints, without
+its invariants: Swift undoes nothing. A run that traps is inside where a precondition fails or a sum overflows in an outcome. Files that
+print a value more than once, or not always, are not compared; nor are those of more than STATES states (100,000).
+
+Status 1 where the compiler refuses what nuchapay reads, or a run has an outcome that is not listed.
+"""
+from __future__ import annotations
+
+import argparse
+import collections
+import concurrent.futures
+import glob
+import os
+import re
+import shutil
+import subprocess
+import sys
+import tempfile
+from typing import Optional
+
+sys.path.insert(0, os.path.dirname(os.path.abspath(__file__)))
+from random_swift import program as random_program
+
+TOP = os.path.dirname(os.path.dirname(os.path.abspath(__file__)))
+ROOT = os.environ.get("SWIFT_ROOT", "")
+# Where the programs are built, inside SWIFT_ROOT or here.
+INSIDE = "/tmp/nuchapay_swift_in"
+ENTER = ["chroot", ROOT, "env", "LD_LIBRARY_PATH=/usr/libexec/swift/lib/swift/linux"] if ROOT else []
+SECONDS = 20
+EXPLORE_SECONDS = 120
+TRAP = "trap"
+DELAY = """
+import Glibc
+@inline(never) func delay_() { if Bool.random() { usleep(UInt32.random(in: 0...150)) } }
+"""
+# A statement at the beginning of a line of a body that is none of a single expression, as these are examples' and random_swift's.
+STATEMENT = re.compile(r"^(\s{8,})((?:let|var|if|guard|while|for|return|throw)\b.*|\w+\.(?:cancel|cancelAll|addTask)\b.*)$")
+VALUE = re.compile(r"-?\b\d+\b|\btrue\b|\bfalse\b")
+
+Outcome = tuple[object, ...]
+
+
+def delayed(text: str) -> str:
+    """A file with a delay before each statement that begins a line."""
+    return "\n".join(STATEMENT.sub(r"\1delay_(); \2", line) for line in text.split("\n")) + DELAY
+
+
+def printed(text: str) -> Outcome:
+    """The numbers that a run prints; 1 and 0 for true and false."""
+    return tuple({"true": 1, "false": 0}.get(found) if found in ("true", "false") else int(found) for found in VALUE.findall(text))
+
+
+def without_invariants(script: str) -> str:
+    """A script in which nothing has to hold."""
+    return "\n".join(line for line in script.split("\n") if not line.lstrip().startswith("invariant "))
+
+
+def main_of(script: str) -> tuple[str, int]:
+    """The name of the actor that `main` became, and how many values it prints."""
+    found = re.search(r"^root main = (\w+)\.main\(\);$", script, re.MULTILINE)
+    if not found:
+        return "", 0
+    body = script[script.rindex(f"\nactor {found.group(1)} "):]
+    return found.group(1), len(re.findall(r"^ *var p\d+_ = 0;$", body, re.MULTILINE))
+
+
+def listed(said: str, name: str, many: int) -> set[Outcome]:
+    """The values that are printed in each outcome of what explore says; also `trap`, where one ends the process in Swift."""
+    found: set[Outcome] = set()
+    for block in re.split(r"^outcome \d+$", said, flags=re.MULTILINE)[1:]:
+        values = dict(re.findall(rf"^{name}\.p(\d+)_ (-?\d+)$", block, re.MULTILINE))
+        is_trapped = re.search(r"\.ok_ 0$|fault overflow$", block, re.MULTILINE)
+        found.add((TRAP,) if is_trapped else tuple(int(values.get(str(place), 0)) for place in range(many)))
+    return found
+
+
+def compile_text(name: str, text: str, emits: list[str]) -> tuple[bool, str]:
+    """Whether a text is compiled, and what the compiler says."""
+    os.makedirs(ROOT + INSIDE, exist_ok=True)
+    with open(f"{ROOT}{INSIDE}/{name}.swift", "w", encoding="utf8") as file:
+        file.write(text)
+    words = [*ENTER, "swiftc", "-swift-version", "6", "-parse-as-library", *emits, f"{INSIDE}/{name}.swift"]
+    done = subprocess.run(words, capture_output=True, text=True, check=False)
+    return done.returncode == 0, done.stdout + done.stderr
+
+
+def build(name: str, text: str) -> tuple[bool, list[str]]:
+    """Compiles a file, and again with delays. Whether the compiler takes it, and what it says."""
+    is_taken, said = compile_text(name, text, ["-emit-sil", "-o", "/dev/null"])
+    told = [line for line in said.split("\n") if re.search(r"\.swift:\d+:\d+: (?:error|warning):", line)]
+    if is_taken:
+        emits = ["-o", f"{INSIDE}/{name}"]
+        is_taken = compile_text(name, delayed(text), emits)[0] or compile_text(name, text, emits)[0]
+    return is_taken, told
+
+
+def run_once(name: str, place: int) -> Outcome:
+    """What one run prints."""
+    words = [*(["taskset", "-c", "0"] if place % 5 == 0 else []), *ENTER, f"{INSIDE}/{name}"]
+    try:
+        done = subprocess.run(words, capture_output=True, text=True, timeout=SECONDS, check=False)
+    except subprocess.TimeoutExpired:
+        return ("no end",)
+    return (TRAP,) if done.returncode else printed(done.stdout)
+
+
+class Row:
+    """What was seen of one file."""
+
+    def __init__(self, path: str):
+        self.path = path
+        self.name = os.path.basename(path).removesuffix(".swift")
+        self.note = ""
+        self.is_well = True
+
+    def fail(self, note: str) -> None:
+        self.is_well = False
+        self.note = note
+
+
+def explored(program: str, script: str, limit: int) -> Optional[str]:
+    """What explore says of a script without its invariants; nothing where it does not come to its end."""
+    with tempfile.NamedTemporaryFile("w", suffix=".actors", encoding="utf8") as file:
+        file.write(without_invariants(script))
+        file.flush()
+        words = [program, "explore", "--limit", str(limit), file.name]
+        try:
+            done = subprocess.run(words, capture_output=True, text=True, timeout=EXPLORE_SECONDS, check=False)
+        except subprocess.TimeoutExpired:
+            return None
+    return done.stdout if "came to its end" in done.stdout else None
+
+
+def compare(row: Row, program: str, script: str, runs: int, limit: int) -> None:
+    """Runs what was built, and compares."""
+    seen = collections.Counter(run_once(row.name, place) for place in range(runs))
+    said = explored(program, script, limit)
+    name, many = main_of(script)
+    if said is None or any(each != (TRAP,) and len(each) != many for each in seen):
+        row.note = f"not compared, {len(seen)} seen"
+        return
+    found = listed(said, name, many)
+    outside = [f"{times} runs print {each}" for each, times in seen.items() if each not in found]
+    if outside:
+        row.fail("; ".join(outside) + f"; listed are {sorted(map(str, found))}")
+    else:
+        row.note = f"{len(seen)} seen of {len(found)} that are listed"
+
+
+def look(program: str, path: str, runs: int, limit: int) -> Row:
+    """Compiles, runs and explores one file."""
+    row = Row(path)
+    with open(path, encoding="utf8") as file:
+        text = file.read()
+    done = subprocess.run([program, "print", path], capture_output=True, text=True, check=False)
+    is_taken, told = build(row.name, text)
+    if done.returncode:
+        row.note = f"refused, {done.stderr.splitlines()[0] if done.stderr else ''}; swiftc {'takes' if is_taken else 'refuses'} it"
+    elif is_taken:
+        compare(row, program, done.stdout, runs, limit)
+    else:
+        row.fail(f"read, and swiftc refuses it: {' '.join(told[:2])}")
+    return row
+
+
+def files(folder: str, many: int, seed: int) -> list[str]:
+    """Writes random files into a folder. Their paths."""
+    paths = []
+    for number in range(seed, seed + many):
+        path = os.path.join(folder, f"random_{number}.swift")
+        with open(path, "w", encoding="ascii") as file:
+            file.write(random_program(number))
+        paths.append(path)
+    return paths
+
+
+def main() -> None:
+    arguments = argparse.ArgumentParser(description=__doc__, formatter_class=argparse.RawDescriptionHelpFormatter)
+    arguments.add_argument("program", metavar="NUCHAPAY")
+    arguments.add_argument("files", metavar="FILE", nargs="*")
+    arguments.add_argument("--runs", type=int, default=60)
+    arguments.add_argument("--limit", metavar="STATES", type=int, default=100_000)
+    arguments.add_argument("--random", metavar="N", type=int, default=0)
+    arguments.add_argument("--seed", metavar="N", type=int, default=1)
+    given = arguments.parse_args()
+    if not ROOT and not shutil.which("swiftc"):
+        print("no swiftc on the PATH, and SWIFT_ROOT names no folder: nothing is compiled")
+        return
+    program = os.path.abspath(given.program)
+    usual = [path for at in ("swift", "nuchapay") for path in sorted(glob.glob(os.path.join(TOP, "examples", at, "*.swift")))]
+    is_well = True
+    with tempfile.TemporaryDirectory() as folder, concurrent.futures.ThreadPoolExecutor(2) as pool:
+        paths = given.files or ([] if given.random else usual)
+        paths = paths + files(folder, given.random, given.seed)
+        for row in pool.map(lambda path: look(program, path, given.runs, given.limit), paths):
+            is_well = is_well and row.is_well
+            print(f"{row.name}: {row.note}", flush=True)
+    shutil.rmtree(ROOT + INSIDE, ignore_errors=True)
+    sys.exit(not is_well)
+
+
+if __name__ == "__main__":
+    main()
