@@ -1,0 +1,220 @@
+-- Digests that are one but for which turns under way have begun, and in which environments.
+use Rattle.std.proofs.Common.{◌≡◌, ◌≢◌, ◌⊎◌, ℕ, zero, suc, ◌+◌, List, [], ◌∷◌, ◌++◌, refl, sym, ◌∙◌, ap, ap₂, subst, subst₂, Bool, true, false, inl, inr, cond, append-nil, append_assoc, arith}
+use Rattle.std.specs.Prelude.{Option, Some, None, ◌==◌, ◌||◌, ◌&&◌, ◌-◌, ◌^◌, nat_lt, if◌then◌else◌}
+use Rattle.std.proofs.lemmas.Bool.{cases_Bool, cases_eq, eqb-true, eq-eqb, ne_eqb}
+use Rattle.swift_types.specs.declared.id.TaskId.{TaskId}
+use Rattle.swift_types.specs.declared.env.Env.{Env}
+use Rattle.swift_types.specs.declared.outcome.Resume.{Resume}
+use Rattle.swift_escalation.specs.declared.waits.PriorityEvent.{PriorityEvent as Link}
+use Rattle.swift_types.specs.declared.outcome.Ending.{Ending}
+use Rattle.swift_events.specs.declared.event.Event.{Event}
+use Rattle.swift_events.specs.declared.event.Event.TheVariants.{Begin}
+use Rattle.swift_events.specs.declared.life.Life.{Life}
+use Rattle.swift_events.specs.declared.life.LastJob.{LastJob}
+use Rattle.swift_events.specs.declared.life.Origin.{Origin}
+use Rattle.swift_events.specs.declared.life.JobStage.{JobStage}
+use Rattle.swift_events.specs.declared.life.JobStage.TheVariants.{Given, Begun, Applied, Waits, Asks, Closes}
+use Rattle.swift_events.specs.Events.{task_of, later, tasks_of}
+use Rattle.swift_events.specs.Lives.{life_of, lived, stage_in}
+use Rattle.swift_events.specs.Relations.{own_tasks, waiters_of, opened_by, is_closed, group_of, parent_of, is_cancelled, is_cancelled_group, links_of}
+use Rattle.swift_events.proofs.Cancels.{of_parent_same}
+use Rattle.swift_events.proofs.LogLemmas.{life_of-push_same, life_of-push_other}
+use Rattle.swift_history.specs.Checks.{is_under_way, is_current, is_begun, was_given}
+use Rattle.swift_history.specs.TurnEnds.{task}
+use Rattle.swift_digest.specs.Digests.{Card, GroupCard, Digest, digest_of, all_noted, noted, card_noted, group_noted, said, one_if, own_link, ChildrenAreNew, HasLink, parent_in, group_in, cancelled_in, is_cancelled_in, is_cancelled_group_in}
+use Rattle.swift_digest.proofs.Cards.{digest_of-append, digest_of-push}
+use Rattle.swift_digest.proofs.Answers.{tasks_of_is, life_of_is, parent_of_is, own_tasks_is, opened_by_is, waiters_of_is, is_closed_is, group_of_is, is_cancelled_is, is_cancelled_group_is}
+use Rattle.swift_digest.proofs.Links.{AreWithin, link_in_digest, link_in_log}
+
+-- whether a turn under way has begun is forgotten
+
+abbrev pub blurred_stage : Option JobStage → Option JobStage
+blurred_stage (Some (Begun env)) = Some Given
+blurred_stage s = s
+
+abbrev pub blurred_life : Life → Life
+blurred_life l = record l { stage = blurred_stage l.stage }
+
+abbrev pub blurred : Digest → Digest
+blurred d = record d { cards = λ t. record (d.cards t) { life = blurred_life (d.cards t).life } }
+
+-- logs whose digests are then one
+abbrev pub AreNear : List Event → List Event → Type 0
+AreNear a b = blurred (digest_of a) ≡ blurred (digest_of b)
+
+blurred_twice : (s : Option JobStage) → blurred_stage s ≡ blurred_stage (blurred_stage s)
+blurred_twice None = refl
+blurred_twice (Some (Begun env)) = refl
+blurred_twice (Some Given) = refl
+blurred_twice (Some Applied) = refl
+blurred_twice (Some (Waits t)) = refl
+blurred_twice (Some (Asks g)) = refl
+blurred_twice (Some (Closes g)) = refl
+
+later_blurred : (x s : Option JobStage) → blurred_stage (later x s) ≡ blurred_stage (later x (blurred_stage s))
+later_blurred None s = blurred_twice s
+later_blurred (Some x) s = refl
+
+life_blurred : (b : Bool) (l : Life) (e : Event) → blurred_life (if b then lived l e else l) ≡ blurred_life (if b then lived (blurred_life l) e else blurred_life l)
+life_blurred true l e = ap (λ (s : Option JobStage). record (lived l e) { stage = s }) (later_blurred (stage_in e) l.stage)
+life_blurred false l e = ap (λ (s : Option JobStage). record l { stage = s }) (blurred_twice l.stage)
+
+noted_blurred : (d : Digest) (e : Event) → blurred (noted d e) ≡ blurred (noted (blurred d) e)
+noted_blurred d e = λ k. record {
+  made = d.made + one_if (Rattle.swift_events.specs.Events.is_made e);
+  cards = λ t. record (card_noted t (d.cards t) e) { life = life_blurred (task_of e == t) (d.cards t).life e k };
+  groups = λ o g. group_noted o g (d.groups o g) e;
+}
+
+near_note : (c d : Digest) (e : Event) → blurred c ≡ blurred d → blurred (noted c e) ≡ blurred (noted d e)
+near_note c d e same = noted_blurred c e ∙ ap (λ (x : Digest). blurred (noted x e)) same ∙ sym (noted_blurred d e)
+
+near_all : (es : List Event) (c d : Digest) → blurred c ≡ blurred d → blurred (all_noted c es) ≡ blurred (all_noted d es)
+near_all [] c d same = same
+near_all (e ∷ es) c d same = near_all es (noted c e) (noted d e) (near_note c d e same)
+
+-- they stay so where the same events are written
+pub near_on : (a b es fs : List Event) → AreNear a b → es ≡ fs → AreNear (a ++ es) (b ++ fs)
+near_on a b es fs same is =
+    ap blurred (digest_of-append a es) ∙ near_all es (digest_of a) (digest_of b) same ∙ ap (λ (xs : List Event). blurred (all_noted (digest_of b) xs)) is ∙ ap blurred (sym (digest_of-append b fs))
+
+-- what such logs have in common
+
+cancelled_blurred : (n : ℕ) (d : Digest) (t : ℕ) → cancelled_in d n t ≡ cancelled_in (blurred d) n t
+cancelled_blurred zero d t = refl
+cancelled_blurred (suc n) d t =
+    ap (λ (b : Bool). (d.cards t).named || b)
+    (of_parent_same (parent_in d t) (λ o g. (d.groups o g).named || cancelled_in d n o) (λ o g. (d.groups o g).named || cancelled_in (blurred d) n o)
+    (λ x _. ap (λ (b : Bool). (d.groups x.0 x.1).named || b) (cancelled_blurred n d x.0)))
+
+links_near : (a b : List Event) → AreNear a b → AreWithin (links_of a) (links_of b)
+links_near a b same x h = link_in_log b x (subst (λ (d : Digest). HasLink d x) same (link_in_digest a x h))
+
+module _ (a b : List Event) (same : AreNear a b) where
+  pub near_tasks : (roots : ℕ) → tasks_of roots a ≡ tasks_of roots b
+  near_tasks roots = tasks_of_is roots a ∙ ap (λ (d : Digest). roots + d.made) same ∙ sym (tasks_of_is roots b)
+
+  pub near_origin : (t : ℕ) → (life_of t a).origin ≡ (life_of t b).origin
+  near_origin t = ap (λ (l : Life). l.origin) (life_of_is t a) ∙ ap (λ (d : Digest). (d.cards t).life.origin) same ∙ ap (λ (l : Life). l.origin) (sym (life_of_is t b))
+
+  pub near_given : (t : ℕ) → (life_of t a).given ≡ (life_of t b).given
+  near_given t = ap (λ (l : Life). l.given) (life_of_is t a) ∙ ap (λ (d : Digest). (d.cards t).life.given) same ∙ ap (λ (l : Life). l.given) (sym (life_of_is t b))
+
+  pub near_ending : (t : ℕ) → (life_of t a).ending ≡ (life_of t b).ending
+  near_ending t = ap (λ (l : Life). l.ending) (life_of_is t a) ∙ ap (λ (d : Digest). (d.cards t).life.ending) same ∙ ap (λ (l : Life). l.ending) (sym (life_of_is t b))
+
+  pub near_stage : (t : ℕ) → blurred_stage (life_of t a).stage ≡ blurred_stage (life_of t b).stage
+  near_stage t = ap (λ (l : Life). blurred_stage l.stage) (life_of_is t a) ∙ ap (λ (d : Digest). (d.cards t).life.stage) same ∙ ap (λ (l : Life). blurred_stage l.stage) (sym (life_of_is t b))
+
+  pub near_parent : (t : ℕ) → parent_of t a ≡ parent_of t b
+  near_parent t = parent_of_is t a ∙ ap (λ (d : Digest). parent_in d t) same ∙ sym (parent_of_is t b)
+
+  pub near_own : (t : ℕ) → own_tasks t a ≡ own_tasks t b
+  near_own t = own_tasks_is t a ∙ ap (λ (d : Digest). (d.cards t).own) same ∙ sym (own_tasks_is t b)
+
+  pub near_opened : (t : ℕ) → opened_by t a ≡ opened_by t b
+  near_opened t = opened_by_is t a ∙ ap (λ (d : Digest). (d.cards t).opened) same ∙ sym (opened_by_is t b)
+
+  pub near_waiters : (t : ℕ) → waiters_of t a ≡ waiters_of t b
+  near_waiters t = waiters_of_is t a ∙ ap (λ (d : Digest). (d.cards t).waiters) same ∙ sym (waiters_of_is t b)
+
+  pub near_closed : (o g : ℕ) → is_closed o g a ≡ is_closed o g b
+  near_closed o g = is_closed_is o g a ∙ ap (λ (d : Digest). (d.groups o g).closed) same ∙ sym (is_closed_is o g b)
+
+  pub near_group : (o g : ℕ) → ChildrenAreNew a → ChildrenAreNew b → group_of o g a ≡ group_of o g b
+  near_group o g new_a new_b = group_of_is o g a new_a ∙ ap (λ (d : Digest). group_in d o g) same ∙ sym (group_of_is o g b new_b)
+
+  pub near_cancelled : (t : ℕ) → is_cancelled t a ≡ is_cancelled t b
+  near_cancelled t =
+      is_cancelled_is t a ∙ cancelled_blurred (suc t) (digest_of a) t ∙ ap (λ (d : Digest). is_cancelled_in d t) same
+      ∙ sym (cancelled_blurred (suc t) (digest_of b) t) ∙ sym (is_cancelled_is t b)
+
+  pub near_cancelled_group : (o g : ℕ) → is_cancelled_group o g a ≡ is_cancelled_group o g b
+  near_cancelled_group o g =
+      is_cancelled_group_is o g a ∙ ap (λ (x : Bool). ((digest_of a).groups o g).named || x) (cancelled_blurred (suc o) (digest_of a) o)
+      ∙ ap (λ (d : Digest). is_cancelled_group_in d o g) same
+      ∙ ap (λ (x : Bool). ((digest_of b).groups o g).named || x) (sym (cancelled_blurred (suc o) (digest_of b) o)) ∙ sym (is_cancelled_group_is o g b)
+
+  pub near_links : AreWithin (links_of a) (links_of b)
+  near_links = links_near a b same
+
+-- a begin is not seen
+
+abbrev none_said : Option Link
+none_said = None
+
+or_none : (b : Bool) → (b || false) ≡ b
+or_none true = refl
+or_none false = refl
+
+none_more : (n : ℕ) → n + 0 ≡ n
+none_more n = omega arith
+
+no_link : (b : Bool) → Rattle.std.specs.List.cons_option (if b then none_said else none_said) [] ≡ []
+no_link true = refl
+no_link false = refl
+
+under_blurred : (s : Option JobStage) → is_under_way s ≡ true → blurred_stage s ≡ Some Given
+under_blurred None under = absurd (cc under)
+under_blurred (Some (Begun env)) under = refl
+under_blurred (Some Given) under = refl
+under_blurred (Some Applied) under = absurd (cc under)
+under_blurred (Some (Waits t)) under = absurd (cc under)
+under_blurred (Some (Asks g)) under = absurd (cc under)
+under_blurred (Some (Closes g)) under = absurd (cc under)
+
+life_begun : (l : Life) (t n : ℕ) (env : Env) → is_under_way l.stage ≡ true → blurred_life (lived l (Begin (task t) n env)) ≡ blurred_life l
+life_begun l t n env under = ap (λ (s : Option JobStage). record l { stage = s }) (sym (under_blurred l.stage under))
+
+life_if : (b : Bool) (l : Life) (t n : ℕ) (env : Env) → (b ≡ true → is_under_way l.stage ≡ true) → blurred_life (if b then lived l (Begin (task t) n env) else l) ≡ blurred_life l
+life_if true l t n env under = life_begun l t n env (under refl)
+life_if false l t n env under = refl
+
+card_begun : (c : Card) (u t n : ℕ) (env : Env) → ((t == u) ≡ true → is_under_way c.life.stage ≡ true)
+    → record (card_noted u c (Begin (task t) n env)) { life = blurred_life (card_noted u c (Begin (task t) n env)).life } ≡ record c { life = blurred_life c.life }
+card_begun c u t n env under = λ k. record {
+  life = life_if (t == u) c.life t n env under k;
+  links = (ap (λ (l : List Link). c.links ++ l) (no_link (t == u)) ∙ append-nil c.links) k;
+  own = append-nil c.own k;
+  waiters = append-nil c.waiters k;
+  named = or_none c.named k;
+  opened = none_more c.opened k;
+}
+
+group_begun : (c : GroupCard) (o g t n : ℕ) (env : Env) → group_noted o g c (Begin (task t) n env) ≡ c
+group_begun c o g t n env = λ k. record {
+  children = append-nil c.children k;
+  ended = append-nil c.ended k;
+  asked = none_more c.asked k;
+  closed = or_none c.closed k;
+  named = or_none c.named k;
+}
+
+digest_begun : (d : Digest) (t n : ℕ) (env : Env) → is_under_way (d.cards t).life.stage ≡ true → blurred (noted d (Begin (task t) n env)) ≡ blurred d
+digest_begun d t n env under = λ k. record {
+  made = none_more d.made k;
+  cards = λ u. card_begun (d.cards u) u t n env (λ same. subst (λ (v : ℕ). is_under_way (d.cards v).life.stage ≡ true) (eqb-true t u same) under) k;
+  groups = λ o g. group_begun (d.groups o g) o g t n env k;
+}
+
+pub near_begin : (log : List Event) (t n : ℕ) (env : Env) → is_under_way (life_of t log).stage ≡ true → AreNear (log ++ Begin (task t) n env ∷ []) log
+near_begin log t n env under =
+    ap blurred (digest_of-push log (Begin (task t) n env)) ∙ digest_begun (digest_of log) t n env (ap (λ (l : Life). is_under_way l.stage) (sym (life_of_is t log)) ∙ under)
+
+-- whether a turn is under way, and current, is seen
+
+under_way_blurred : (s : Option JobStage) → is_under_way s ≡ is_under_way (blurred_stage s)
+under_way_blurred None = refl
+under_way_blurred (Some (Begun env)) = refl
+under_way_blurred (Some Given) = refl
+under_way_blurred (Some Applied) = refl
+under_way_blurred (Some (Waits t)) = refl
+under_way_blurred (Some (Asks g)) = refl
+under_way_blurred (Some (Closes g)) = refl
+
+pub near_under : (a b : List Event) → AreNear a b → (t : ℕ) → is_under_way (life_of t a).stage ≡ is_under_way (life_of t b).stage
+near_under a b same t = under_way_blurred (life_of t a).stage ∙ ap is_under_way (near_stage a b same t) ∙ sym (under_way_blurred (life_of t b).stage)
+
+pub near_current : (a b : List Event) → AreNear a b → (t n : ℕ) (resume : Resume) → is_current (life_of t a) n resume ≡ is_current (life_of t b) n resume
+near_current a b same t n resume =
+    ap₂ (λ (g : Option LastJob) (x : Bool). was_given g n resume && (nat_lt n (2 ^ 32 - 1) && x)) (near_given a b same t) (near_under a b same t)

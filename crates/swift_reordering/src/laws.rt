@@ -1,0 +1,1 @@
+//! What holds of histories whose turns begin late. A call costs nothing; its contract is the law.
