@@ -1,3 +1,4 @@
 pub mod Near
 pub mod NearEnds
 pub mod Playing
+pub mod Turning
