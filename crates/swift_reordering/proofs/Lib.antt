@@ -2,3 +2,5 @@ pub mod Near
 pub mod NearEnds
 pub mod Playing
 pub mod Turning
+pub mod Walks
+pub mod Seats
