@@ -4,3 +4,4 @@ pub mod Playing
 pub mod Turning
 pub mod Walks
 pub mod Seats
+pub mod Framed
