@@ -5,3 +5,4 @@ pub mod Turning
 pub mod Walks
 pub mod Seats
 pub mod Framed
+pub mod Rooms
