@@ -6,3 +6,4 @@ pub mod Walks
 pub mod Seats
 pub mod Framed
 pub mod Rooms
+pub mod Priorities
