@@ -7,3 +7,4 @@ pub mod Seats
 pub mod Framed
 pub mod Rooms
 pub mod Priorities
+pub mod Fusing
