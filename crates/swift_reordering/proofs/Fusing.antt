@@ -27,6 +27,7 @@ use Rattle.swift_history.specs.Checks.{is_begun, is_under_way, is_current}
 use Rattle.swift_history.specs.TurnEnds.{JobFacts, task, root_job, root_events}
 use Rattle.swift_history.specs.Histories.{Block, added, begun, ran, folded, Standing, at_first, after_block, after_blocks, with_jobs, records_of, record_in, fields_of, turn_applied, TurnStands, RecordStands, Stands, AllStand}
 use Rattle.swift_history.specs.Orderly.{IsOrderly, job_executor}
+use Rattle.swift_escalation.specs.Waits.{IsPriority}
 use Rattle.swift_laws.specs.Laws.{ActorsHaveExecutors}
 use Rattle.swift_laws.proofs.HistoriesBegun.{all_begun}
 use Rattle.swift_laws.proofs.HistoriesGrow.{begins, keeps_block}
@@ -191,3 +192,232 @@ module _ (script : ScriptView) (cps : List CheckpointView) where
           stages = subst₂ (λ (a b : Standing). (u : ℕ) → SameOrPutOff a b u) (sym (at_push before (added r))) (sym (at_push others (added r)))
               (stages_on s z x y joint (λ u has. root_stays script s r u has) (λ u _. was.stages u));
         }
+
+    -- a begin that is put off
+
+    given_of : (a b : Option JobStage) → is_under_way a ≡ true → is_begun a ≡ false → blurred_stage a ≡ blurred_stage b → (a ≡ b) ⊎ (is_begun a ≡ true) → b ≡ Some Given
+    given_of None b under none same one = absurd (false≢true under)
+    given_of (Some (Begun env)) b under none same one = absurd (false≢true (sym none))
+    given_of (Some Applied) b under none same one = absurd (false≢true under)
+    given_of (Some (Waits t)) b under none same one = absurd (false≢true under)
+    given_of (Some (Asks g)) b under none same one = absurd (false≢true under)
+    given_of (Some (Closes g)) b under none same one = absurd (false≢true under)
+    given_of (Some Given) b under none same (inl one) = sym one
+    given_of (Some Given) b under none same (inr one) = absurd (false≢true one)
+
+    same_or_begun : (u : ℕ) → (stage_at s.log u ≡ stage_at z.log u) ⊎ (is_begun (stage_at s.log u) ≡ true)
+    same_or_begun u = elim (was.stages u) [ inl same ↦ inl same | inr p ↦ inr (ap is_begun p.has_begun) ]
+
+    put_off_on : (t n : ℕ) (env : Env) → Stands script cps before (begun t n env) → IsOrderly script before (begun t n env) → job_looks_away script (s.jobs t) ≡ true → env.room ≡ MADE → ArePutOff (before ++ begun t n env ∷ []) others
+    put_off_on t n env stands orderly away room =
+        let x : Standing = after_block script s (begun t n env) in
+        let under = (current_is (life_of t s.log) n stands.0.resume stands.2).1 in
+        record {
+          course = was.course;
+          late = was.late;
+          done = done_push before (begun t n env) ∙ append-nil (done_by before) ∙ was.done;
+          close = subst (λ (a : Standing). AreClose a z) (sym (at_push before (begun t n env))) (record { near = near_begin s.log t n env under ∙ near; held = was.close.held; jobs = was.close.jobs });
+          fields = λ e. fields_quiet before (begun t n env) e refl ∙ was.fields e;
+          stages = subst (λ (a : Standing). (u : ℕ) → SameOrPutOff a z u) (sym (at_push before (begun t n env)))
+              (λ u. elim (cases_eq t u) [
+                | inl same ↦ inr (record {
+                    env = env;
+                    has_begun = ap (stage_at x.log) (sym same) ∙ begin_same t n env s.log;
+                    given = ap (stage_at z.log) (sym same) ∙ given_of (stage_at s.log t) (stage_at z.log t) under (orderly.1 t refl) (near_stage s.log z.log near t) (same_or_begun t);
+                    away = ap (λ (k : ℕ). job_looks_away script (s.jobs k)) (sym same) ∙ away;
+                    room = room;
+                  })
+                | inr ne ↦ elim (was.stages u) [
+                  | inl one ↦ inl (begin_other t n env s.log u ne ∙ one)
+                  | inr p ↦ inr (record { env = p.env; has_begun = begin_other t n env s.log u ne ∙ p.has_begun; given = p.given; away = p.away; room = p.room })
+                ]
+              ]);
+        }
+
+    -- a begin that is not
+
+    seats_too : (t : ℕ) → ((u : ℕ) → job_executor script (s.jobs u) ≡ job_executor script (s.jobs t) → is_begun (stage_at s.log u) ≡ false) → (u : ℕ) → job_executor script (z.jobs u) ≡ job_executor script (z.jobs t) → is_begun (stage_at z.log u) ≡ false
+    seats_too t free u same = not_begun_there u (free u (ap (job_executor script) (same_jobs u) ∙ same ∙ ap (job_executor script) (sym (same_jobs t))))
+
+    begin_on : (t n : ℕ) (env : Env) → Stands script cps before (begun t n env) → IsOrderly script before (begun t n env) → job_looks_away script (s.jobs t) ≡ false
+        → room_of (root_count script) t s.log ≡ room_of (root_count script) t z.log → ArePutOff (before ++ begun t n env ∷ []) (others ++ begun t n env ∷ [])
+    begin_on t n env stands orderly looks room =
+        let x : Standing = after_block script s (begun t n env) in
+        let y : Standing = after_block script z (begun t n env) in
+        let is_env : IsEnv (root_count script) (task t) z.log env = record {
+          priority = same_priority (links_of s.log) (links_of z.log) (near_links s.log z.log near) (near_links z.log s.log (sym near)) (task t) env.priority stands.3.priority;
+          cancelled = stands.3.cancelled ∙ near_cancelled s.log z.log near t;
+          room = stands.3.room ∙ room;
+        } in
+        let stands_z : Stands script cps others (begun t n env) = (stands.0, sym (same_jobs t) ∙ stands.1, sym (near_current s.log z.log near t n stands.0.resume) ∙ stands.2, is_env) in
+        let orderly_z : IsOrderly script others (begun t n env) = (roots_too orderly.0, seats_too t orderly.1) in
+        let same : (u : ℕ) → t ≢ u → SameOrPutOff s z u → SameOrPutOff x y u = λ u ne o. elim o [
+          | inl one ↦ inl (begin_other t n env s.log u ne ∙ one ∙ sym (begin_other t n env z.log u ne))
+          | inr p ↦ inr (record { env = p.env; has_begun = begin_other t n env s.log u ne ∙ p.has_begun; given = begin_other t n env z.log u ne ∙ p.given; away = p.away; room = p.room })
+        ] in
+        record {
+          course = course_push script cps others (begun t n env) was.course stands_z orderly_z;
+          late = late_append others [] (begun t n env ∷ []) was.late (λ away. absurd (false≢true (sym looks ∙ ap (job_looks_away script) (same_jobs t) ∙ away)), tt);
+          done = done_push before (begun t n env) ∙ ap (λ (bs : List Block). bs ++ []) was.done ∙ sym (done_push others (begun t n env));
+          close = subst₂ AreClose (sym (at_push before (begun t n env))) (sym (at_push others (begun t n env)))
+              (record { near = near_on s.log z.log (Begin (task t) n env ∷ []) (Begin (task t) n env ∷ []) near refl; held = was.close.held; jobs = was.close.jobs });
+          fields = λ e. fields_quiet before (begun t n env) e refl ∙ was.fields e ∙ sym (fields_quiet others (begun t n env) e refl);
+          stages = subst₂ (λ (a b : Standing). (u : ℕ) → SameOrPutOff a b u) (sym (at_push before (begun t n env))) (sym (at_push others (begun t n env)))
+              (λ u. elim (cases_eq t u) [
+                | inl one ↦ inl (ap (stage_at x.log) (sym one) ∙ begin_same t n env s.log ∙ sym (begin_same t n env z.log) ∙ ap (stage_at y.log) one)
+                | inr ne ↦ same u ne (was.stages u)
+              ]);
+        }
+
+  -- a turn runs, which has begun in both
+
+  added_if : (b : Bool) (r : RecordView) (other : Env) → MayPlayIn script r.frame r.env other → (f : List (List ℤ)) → replay script f (cons_option (if b then Some r else None) []) ≡ replay script f (cons_option (if b then Some (record r { env = other }) else None) [])
+  added_if true r other may f = ap (λ (k : Played). k.state.fields) (same_play script f r other may)
+  added_if false r other may f = refl
+
+  run_on : (before others : List Block) (e : ℕ) (r : RecordView) (other : Env) → IsCourse script cps before → IsCourse script cps others → Stands script cps before (ran e r) → MayPlayIn script r.frame r.env other
+      → stage_at (at others).log r.task ≡ Some (Begun other) → AreClose (at before) (at others) → ((k : ℕ) → fields_of script cps k before ≡ fields_of script cps k others) → done_by before ≡ done_by others
+      → BeginLate script [] (others ++ ran e (record r { env = other }) ∷ []) → ((u : ℕ) → u ≢ r.task → SameOrPutOff (at before) (at others) u)
+      → ArePutOff (before ++ ran e r ∷ []) (others ++ ran e (record r { env = other }) ∷ [])
+  run_on before others e r other course course_z stands may has_begun close fields done late stages =
+      let s : Standing = at before in
+      let z : Standing = at others in
+      let q : RecordView = record r { env = other } in
+      let x : Standing = after_block script s (ran e r) in
+      let y : Standing = after_block script z (ran e q) in
+      let stands_z : Stands script cps others (ran e q) =
+      record_stands_too script s z close (fields_of script cps e others) e r other may has_begun (subst (λ (f : List (List ℤ)). RecordStands script s f e r) (fields e) stands) in
+      let now : IsCourse script cps (before ++ ran e r ∷ []) = course_push script cps before (ran e r) course stands tt in
+      let now_z : IsCourse script cps (others ++ ran e q ∷ []) = course_push script cps others (ran e q) course_z stands_z tt in
+      let new_s : ChildrenAreNew x.log = subst (λ (a : Standing). ChildrenAreNew a.log) (at_push before (ran e r)) (histories_new script cps (before ++ ran e r ∷ []) now.stand) in
+      let new_z : ChildrenAreNew y.log = subst (λ (a : Standing). ChildrenAreNew a.log) (at_push others (ran e q)) (histories_new script cps (others ++ ran e q ∷ []) now_z.stand) in
+      let free = takes_none script (fields_of script cps e before) r other may stands.lawful in
+      let c : AppliedClose script s z close x y =
+      applied_close script s z close e r.task r.number r.effects r.exit r.after stands.job r.env other r.frame has_begun free stands.stands new_s new_z in
+      let stays : (u : ℕ) → HasBegun x.log u → (u ≢ r.task) × OnlyStay s x u = λ u has. turn_stays script s e r.task r.number r.effects r.exit r.after stands.job r.env r.frame stands.stands u has in
+      record {
+        course = now_z;
+        late = late;
+        done = done_push before (ran e r) ∙ ap (λ (bs : List Block). bs ++ ran e (record r { env = Rattle.swift_reordering.specs.Fused.no_env }) ∷ []) done ∙ sym (done_push others (ran e q));
+        close = subst₂ AreClose (sym (at_push before (ran e r))) (sym (at_push others (ran e q))) (record { near = c.joint.near; held = c.held; jobs = c.jobs });
+        fields = λ k. fields_push script cps k before (ran e r) ∙ added_if (e == k) r other may (fields_of script cps k before)
+            ∙ ap (λ (f : List (List ℤ)). replay script f (cons_option (record_in k (ran e q)) [])) (fields k) ∙ sym (fields_push script cps k others (ran e q));
+        stages = subst₂ (λ (a b : Standing). (u : ℕ) → SameOrPutOff a b u) (sym (at_push before (ran e r))) (sym (at_push others (ran e q)))
+            (stages_on s z x y c.joint (λ u has. (stays u has).1)
+            (λ u same. elim (cases_eq u r.task) [
+              | inl one ↦ absurd ((stays u (ap is_begun (same ∙ ap (stage_at s.log) one ∙ stands.stands.has_begun))).0 one)
+              | inr ne ↦ stages u ne
+            ]));
+      }
+
+  -- the environment in which a turn that was put off begins
+
+  late_env : (before others : List Block) → IsCourse script cps before → ArePutOff before others → (t : ℕ) (env : Env) → stage_at (at before).log t ≡ Some (Begun env) → (other : Env) × IsEnv (root_count script) (task t) (at others).log other
+  late_env before others course was t env has_begun =
+      let s : Standing = at before in
+      let z : Standing = at others in
+      let h = all_begun script cps before course.stand t env has_begun in
+      let q = priority_later h.before (Begin (task t) h.number env ∷ h.since) (task t) env.priority h.is_env.priority in
+      let priority = subst (λ (l : List Event). IsPriority (links_of l) (task t) q.0) (sym h.parts) q.1 in (
+        record { priority = q.0; cancelled = is_cancelled t z.log; room = room_of (root_count script) t z.log },
+        record {
+          priority = same_priority (links_of s.log) (links_of z.log) (near_links s.log z.log was.close.near) (near_links z.log s.log (sym was.close.near)) (task t) q.0 priority;
+          cancelled = refl;
+          room = refl;
+        },
+      )
+
+  module _ (on : ActorsHaveExecutors script) where
+    -- few tasks: in both histories turns have room for 16 more
+    abbrev pub AreFew : List Block → Type 0
+    AreFew bs = tasks_of (root_count script) (at bs).log + MADE * (executor_count script + 1) ≤ TASKS
+
+    few_too : (before others : List Block) → AreFew before → ArePutOff before others → AreFew others
+    few_too before others few was = (let same = near_tasks (at before).log (at others).log was.close.near (root_count script) in omega (arith, few, same))
+
+    room_there : (before others : List Block) → AreFew before → ArePutOff before others → (t : ℕ) → room_of (root_count script) t (at others).log ≡ MADE
+    room_there before others few was t = room_free script cps others was.course on (few_too before others few was) t
+
+    -- which blocks follow in the other history, where this one follows
+    pub record GoesOn (before others : List Block) (b : Block) : Type 0 where
+      pub more : List Block
+      pub put_off : ArePutOff (before ++ b ∷ []) (others ++ more)
+
+    frame_away : (fs callers : List FrameView) (p : FrameView) → fs ≡ p ∷ callers → frames_look_away script fs ≡ true → frame_looks_away script p ≡ true
+    frame_away fs callers p is away = ap (frames_look_away script) (sym is) ∙ away
+
+    -- a turn runs that was put off
+    late_on : (before others : List Block) (e : ℕ) (r : RecordView) → IsCourse script cps before → AreFew before → (was : ArePutOff before others) → Stands script cps before (ran e r) → IsPutOff (at before) (at others) r.task
+        → GoesOn before others (ran e r)
+    late_on before others e r course few was stands p =
+        let s : Standing = at before in
+        let z : Standing = at others in
+        let t : ℕ = r.task in
+        let n : ℕ = r.number in
+        let env = late_env before others course was t r.env stands.stands.has_begun in
+        let other : Env = env.0 in
+        let b : Block = begun t n other in
+        let q : RecordView = record r { env = other } in
+        let job : JobFacts = stands.job in
+        let given_z : z.jobs t ≡ Some job = sym (same_jobs before others was t) ∙ stands.stands.given in
+        let away : job_looks_away script (s.jobs t) ≡ true = p.away in
+        let frame : frame_looks_away script r.frame ≡ true =
+        frame_away job.frames.frames stands.stands.runs.0 r.frame stands.stands.runs.1 (ap (job_looks_away script) (sym stands.stands.given) ∙ away) in
+        let same_env : p.env ≡ r.env = cc (sym p.has_begun ∙ stands.stands.has_begun) in
+        let room : r.env.room ≡ other.room = ap (λ (x : Env). x.room) (sym same_env) ∙ p.room ∙ sym (room_there before others few was t) ∙ sym env.1.room in
+        let stands_b : Stands script cps others b = (job, given_z, sym (near_current s.log z.log was.close.near t n job.resume) ∙ stands.stands.current, env.1) in
+        let orderly_b : IsOrderly script others b = (
+          roots_too before others was (all_roots before course t (ap is_begun stands.stands.has_begun)),
+          λ u same. elim (cases_Bool (is_begun (stage_at z.log u))) [
+            | inl has ↦
+                let one : u ≡ t = all_apart script cps before course u t (begun_here before others was u has) (ap is_begun stands.stands.has_begun)
+                    (ap (job_executor script) (same_jobs before others was u) ∙ same ∙ ap (job_executor script) (sym (same_jobs before others was t))) in
+                absurd (false≢true (sym (ap is_begun (ap (stage_at z.log) one ∙ p.given)) ∙ has))
+            | inr not ↦ not
+          ],
+        ) in
+        let course_b : IsCourse script cps (others ++ b ∷ []) = course_push script cps others b was.course stands_b orderly_b in
+        let y : Standing = after_block script z b in
+        let under = (current_is (life_of t z.log) n job.resume stands_b.2).1 in
+        let close_b : AreClose s (at (others ++ b ∷ [])) =
+        subst (AreClose s) (sym (at_push others b)) (record { near = was.close.near ∙ sym (near_begin z.log t n other under); held = was.close.held; jobs = was.close.jobs }) in
+        let stages : (u : ℕ) → u ≢ t → SameOrPutOff s y u = λ u ne. elim (was.stages u) [
+          | inl one ↦ inl (one ∙ sym (begin_other t n other z.log u (λ x. ne (sym x))))
+          | inr o ↦ inr (record { env = o.env; has_begun = o.has_begun; given = begin_other t n other z.log u (λ x. ne (sym x)) ∙ o.given; away = o.away; room = o.room })
+        ] in
+        let late : BeginLate script [] (others ++ b ∷ ran e q ∷ []) = late_append others [] (b ∷ ran e q ∷ []) was.late (λ _. refl, tt) in
+        let done : done_by before ≡ done_by (others ++ b ∷ []) = was.done ∙ sym (done_push others b ∙ append-nil (done_by others)) in
+        record {
+          more = b ∷ ran e q ∷ [];
+          put_off = subst (ArePutOff (before ++ ran e r ∷ [])) (append_assoc others (b ∷ []) (ran e q ∷ []))
+              (run_on before (others ++ b ∷ []) e r other course course_b stands (record { room = room; same = inr frame })
+              (ap (λ (a : Standing). stage_at a.log t) (at_push others b) ∙ begin_same t n other z.log)
+              close_b (λ k. was.fields k ∙ sym (fields_quiet others b k refl)) done
+              (subst (BeginLate script []) (sym (append_assoc others (b ∷ []) (ran e q ∷ []))) late)
+              (λ u ne. subst (λ (a : Standing). SameOrPutOff s a u) (sym (at_push others b)) (stages u ne)));
+        }
+
+    -- any block
+    pub goes_on : (before others : List Block) (b : Block) → IsCourse script cps before → AreFew before → ArePutOff before others → IsNotFolded b → Stands script cps before b → IsOrderly script before b → GoesOn before others b
+    goes_on before others (added r) course few was unfolded stands orderly = record { more = added r ∷ []; put_off = root_on before others was r stands orderly }
+    goes_on before others (folded e f) course few was unfolded stands orderly = absurd unfolded
+    goes_on before others (begun t n env) course few was unfolded stands orderly =
+        let room = room_free script cps before course on few t in
+        elim (cases_Bool (job_looks_away script ((at before).jobs t))) [
+          | inl away ↦ record {
+              more = [];
+              put_off = subst (ArePutOff (before ++ begun t n env ∷ [])) (sym (append-nil others)) (put_off_on before others was t n env stands orderly away (stands.3.room ∙ room));
+            }
+          | inr looks ↦ record {
+              more = begun t n env ∷ [];
+              put_off = begin_on before others was t n env stands orderly looks (room ∙ sym (room_there before others few was t));
+            }
+        ]
+    goes_on before others (ran e r) course few was unfolded stands orderly = elim (was.stages r.task) [
+      | inl same ↦ record {
+          more = ran e r ∷ [];
+          put_off = run_on before others e r r.env course was.course stands (in_own script r.frame r.env) (sym same ∙ stands.stands.has_begun) was.close was.fields was.done
+              (late_append others [] (ran e r ∷ []) was.late tt) (λ u ne. was.stages u);
+        }
+      | inr p ↦ late_on before others e r course few was stands p
+    ]
