@@ -8,3 +8,4 @@ pub mod Framed
 pub mod Rooms
 pub mod Priorities
 pub mod Fusing
+pub mod Reports
