@@ -22,7 +22,7 @@ use Rattle.swift_laws.specs.Laws.{ActorsHaveExecutors}
 use Rattle.swift_laws.proofs.HistoriesApplied.{some_root}
 use Rattle.swift_laws.proofs.HistoriesFrames.{JobHas, HeldHave, JobsHave, turn_has, taken_jobs_have, with_jobs_have}
 use Rattle.swift_laws.proofs.HistoriesTurns.{after_push, all_append, applied_is, none_in}
-use Rattle.swift_reordering.proofs.NearEnds.{stage_at}
+use Rattle.swift_reordering.specs.Blurred.{stage_at}
 use Rattle.swift_reordering.proofs.Walks.{IsCourse, along}
 
 abbrev pub Framed : ℕ → TaskView → Type 0

@@ -38,11 +38,12 @@ use Rattle.swift_digest.specs.Explored.{IsNotFolded}
 use Rattle.swift_digest.proofs.NewChildren.{histories_new}
 use Rattle.swift_digest.proofs.Links.{same_priority}
 use Rattle.swift_digest.proofs.SameStands.{fields_push}
+use Rattle.swift_reordering.specs.Blurred.{AreNear, AreClose, blurred_stage, stage_at}
 use Rattle.swift_reordering.specs.Away.{frame_looks_away, frames_look_away, job_looks_away}
 use Rattle.swift_reordering.specs.Fused.{RunsNext, BeginLate, done_in, done_by}
-use Rattle.swift_reordering.proofs.Near.{AreNear, blurred_stage, near_on, near_begin, near_origin, near_tasks, near_stage, near_cancelled, near_links, near_current}
-use Rattle.swift_reordering.proofs.NearEnds.{AreJoint, HaveGoneOn, joint_first, joint_on, stage_at}
-use Rattle.swift_reordering.proofs.Turning.{AreClose, MayPlayIn, AppliedClose, in_own, applied_close, record_stands_too, same_play, takes_none}
+use Rattle.swift_reordering.proofs.Near.{near_on, near_begin, near_origin, near_tasks, near_stage, near_cancelled, near_links, near_current}
+use Rattle.swift_reordering.proofs.NearEnds.{AreJoint, HaveGoneOn, joint_first, joint_on}
+use Rattle.swift_reordering.proofs.Turning.{MayPlayIn, AppliedClose, in_own, applied_close, record_stands_too, same_play, takes_none}
 use Rattle.swift_reordering.proofs.Walks.{IsCourse, along, course_push}
 use Rattle.swift_reordering.proofs.Seats.{HasBegun, OnlyStay, turn_stays, root_stays, begin_other, begin_same, all_apart}
 use Rattle.swift_reordering.proofs.Rooms.{room_free}

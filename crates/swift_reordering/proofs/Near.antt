@@ -24,23 +24,8 @@ use Rattle.swift_history.specs.TurnEnds.{task}
 use Rattle.swift_digest.specs.Digests.{Card, GroupCard, Digest, digest_of, all_noted, noted, card_noted, group_noted, said, one_if, own_link, ChildrenAreNew, HasLink, parent_in, group_in, cancelled_in, is_cancelled_in, is_cancelled_group_in}
 use Rattle.swift_digest.proofs.Cards.{digest_of-append, digest_of-push}
 use Rattle.swift_digest.proofs.Answers.{tasks_of_is, life_of_is, parent_of_is, own_tasks_is, opened_by_is, waiters_of_is, is_closed_is, group_of_is, is_cancelled_is, is_cancelled_group_is}
+use Rattle.swift_reordering.specs.Blurred.{blurred_stage, blurred_life, blurred, AreNear}
 use Rattle.swift_digest.proofs.Links.{AreWithin, link_in_digest, link_in_log}
-
--- whether a turn under way has begun is forgotten
-
-abbrev pub blurred_stage : Option JobStage → Option JobStage
-blurred_stage (Some (Begun env)) = Some Given
-blurred_stage s = s
-
-abbrev pub blurred_life : Life → Life
-blurred_life l = record l { stage = blurred_stage l.stage }
-
-abbrev pub blurred : Digest → Digest
-blurred d = record d { cards = λ t. record (d.cards t) { life = blurred_life (d.cards t).life } }
-
--- logs whose digests are then one
-abbrev pub AreNear : List Event → List Event → Type 0
-AreNear a b = blurred (digest_of a) ≡ blurred (digest_of b)
 
 blurred_twice : (s : Option JobStage) → blurred_stage s ≡ blurred_stage (blurred_stage s)
 blurred_twice None = refl

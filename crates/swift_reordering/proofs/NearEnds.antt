@@ -30,7 +30,8 @@ use Rattle.swift_events.specs.Relations.{waiters_of, parent_of}
 use Rattle.swift_history.specs.TurnEnds.{JobFacts, WaitingTaskView, AfterTurn, TurnEnd, task, first_job, named_task, is_left_out, cancel_events, effect_events, effect_jobs, log_after, jobs_made, next_events, wait_events, exit_events, wait_resume, next_resume, close_resume, exit_resume, gives, wake_each, wake_closing, wake_owner, wake_parent, wake_all, followed, turn_end, resume_of}
 use Rattle.swift_digest.specs.Digests.{ChildrenAreNew}
 use Rattle.swift_digest.proofs.SameLogs.{new_prefix}
-use Rattle.swift_reordering.proofs.Near.{AreNear, blurred_stage, near_on, near_tasks, near_ending, near_stage, near_parent, near_own, near_opened, near_waiters, near_group, near_cancelled_group}
+use Rattle.swift_reordering.specs.Blurred.{AreNear, blurred_stage, stage_at}
+use Rattle.swift_reordering.proofs.Near.{near_on, near_tasks, near_ending, near_stage, near_parent, near_own, near_opened, near_waiters, near_group, near_cancelled_group}
 
 -- what an owner goes on with does not tell a turn that has begun from one that was given
 owner_stage : (o g : ℕ) (e : Ending) (s : Option JobStage) (log : List Event) (f : AfterTurn) → wake_owner o g e s log f ≡ wake_owner o g e (blurred_stage s) log f
@@ -143,9 +144,6 @@ same_made script t own (e ∷ es) a b same =
 
 
 -- how far each task's job is after the same events: as in the other log, or as before in both
-
-abbrev pub stage_at : List Event → ℕ → Option JobStage
-stage_at log u = (life_of u log).stage
 
 abbrev pub HaveGoneOn : List Event → List Event → List Event → List Event → Type 0
 HaveGoneOn first other a b = (u : ℕ) → (stage_at a u ≡ stage_at b u) ⊎ ((stage_at a u ≡ stage_at first u) × (stage_at b u ≡ stage_at other u))

@@ -18,9 +18,9 @@ use Rattle.swift_laws.proofs.HistoriesGrow.{log_grows}
 use Rattle.swift_laws.proofs.OpenLogs.{tasks_grow}
 use Rattle.swift_digest.specs.Explored.{FoldsNone}
 use Rattle.swift_digest.proofs.Outcomes.{NoneFolded, made, none_in, not_folded}
+use Rattle.swift_reordering.specs.Blurred.{AreNear, AreClose}
 use Rattle.swift_reordering.specs.Fused.{RoomNeverBinds, IsFused, EachIsFused, done_in, done_by}
-use Rattle.swift_reordering.proofs.Near.{AreNear, near_origin, near_ending, near_tasks, near_opened, near_closed}
-use Rattle.swift_reordering.proofs.Turning.{AreClose}
+use Rattle.swift_reordering.proofs.Near.{near_origin, near_ending, near_tasks, near_opened, near_closed}
 use Rattle.swift_reordering.proofs.Walks.{IsCourse, course_none, course_push}
 use Rattle.swift_reordering.proofs.Fusing.{ArePutOff, AreFew, goes_on}
 

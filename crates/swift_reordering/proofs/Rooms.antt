@@ -24,7 +24,7 @@ use Rattle.swift_history.specs.Orderly.{IsOrderly, job_executor}
 use Rattle.swift_laws.specs.Laws.{ActorsHaveExecutors}
 use Rattle.swift_laws.proofs.HistoriesBegun.{all_begun}
 use Rattle.swift_laws.proofs.HistoriesTurns.{after_push}
-use Rattle.swift_reordering.proofs.NearEnds.{stage_at}
+use Rattle.swift_reordering.specs.Blurred.{stage_at}
 use Rattle.swift_reordering.proofs.Walks.{IsCourse, along, course_none}
 use Rattle.swift_reordering.proofs.Seats.{HasBegun, OnlyStay, AreApart, turn_stays, root_stays, begin_other, all_apart}
 use Rattle.swift_reordering.proofs.Framed.{all_framed, has_root, seat_of}

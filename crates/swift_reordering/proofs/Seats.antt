@@ -23,7 +23,8 @@ use Rattle.swift_history.specs.Histories.{Block, added, begun, ran, folded, Stan
 use Rattle.swift_history.specs.Orderly.{IsOrderly, job_executor}
 use Rattle.swift_laws.proofs.HistoriesTurns.{after_push, applied_is}
 use Rattle.swift_laws.proofs.HistoriesGrow.{begins, keeps_applied, keeps_turn}
-use Rattle.swift_reordering.proofs.NearEnds.{stage_at, stage_push}
+use Rattle.swift_reordering.specs.Blurred.{stage_at}
+use Rattle.swift_reordering.proofs.NearEnds.{stage_push}
 use Rattle.swift_reordering.proofs.Walks.{IsCourse, along}
 
 -- whether the turn of a task has begun

@@ -23,8 +23,9 @@ use Rattle.swift_history.specs.Histories.{Standing, with_jobs, taken, begun_prio
 use Rattle.swift_laws.proofs.HistoriesTurns.{applied_is}
 use Rattle.swift_digest.specs.Digests.{ChildrenAreNew}
 use Rattle.swift_reordering.specs.Away.{frame_looks_away}
-use Rattle.swift_reordering.proofs.Near.{AreNear, near_origin, near_own, near_opened, near_closed, near_current}
-use Rattle.swift_reordering.proofs.NearEnds.{AreJoint, EndNear, TakesNone, near_end, stage_at}
+use Rattle.swift_reordering.specs.Blurred.{AreNear, AreClose, stage_at}
+use Rattle.swift_reordering.proofs.Near.{near_origin, near_own, near_opened, near_closed, near_current}
+use Rattle.swift_reordering.proofs.NearEnds.{AreJoint, EndNear, TakesNone, near_end}
 use Rattle.swift_reordering.proofs.Playing.{same_turn}
 
 -- whether a turn fits
@@ -60,12 +61,6 @@ module _ (a b : List Event) (same : AreNear a b) (script : ScriptView) (t : ℕ)
 
   near_counters : (room : ℕ) → counters t a room ≡ counters t b room
   near_counters room = ap₂ (λ (own opened : ℕ). record { own = own; opened = opened; room = room }) (ap length (near_own a b same t)) (near_opened a b same t)
-
--- standings that are one but for that
-pub record AreClose (s z : Standing) : Type 0 where
-  pub near : AreNear s.log z.log
-  pub held : s.held ≡ z.held
-  pub jobs : s.jobs ≡ z.jobs
 
 -- What is asked of the environment in which a turn has begun at the other standing: it has the same room, and it is the same where the turn
 -- looks at it.

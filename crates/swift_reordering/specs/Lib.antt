@@ -1,2 +1,3 @@
+pub mod Blurred
 pub mod Away
 pub mod Fused
