@@ -1,6 +1,6 @@
 -- A history goes on in one in which begins of turns that look away have been left out for later.
 use Rattle.std.proofs.Common.{◌≡◌, ◌≢◌, ◌⊎◌, ℕ, ℤ, ◌+◌, ◌*◌, ◌<◌, ◌≤◌, List, [], ◌∷◌, ◌++◌, length, refl, sym, ◌∙◌, ap, ap₂, subst, subst₂, Bool, true, false, inl, inr, append_assoc, append-nil, arith}
-use Rattle.std.specs.Prelude.{Option, Some, None, ◌==◌, is_some, if◌then◌else◌}
+use Rattle.std.specs.Prelude.{Option, Some, None, Contains, ◌==◌, is_some, if◌then◌else◌}
 use Rattle.std.specs.List.{filter_map, cons_option}
 use Rattle.std.proofs.lemmas.Bool.{cases_Bool, cases_eq, false≢true}
 use Rattle.std.proofs.lemmas.Option.{none-some, same_Some}
@@ -41,6 +41,7 @@ use Rattle.swift_digest.proofs.SameStands.{fields_push}
 use Rattle.swift_reordering.specs.Blurred.{AreNear, AreClose, blurred_stage, stage_at}
 use Rattle.swift_reordering.specs.Away.{frame_looks_away, frames_look_away, job_looks_away}
 use Rattle.swift_reordering.specs.Fused.{RunsNext, BeginLate, done_in, done_by}
+use Rattle.swift_reordering.specs.FusedSteps.{IsFusedStep, HasExit}
 use Rattle.swift_reordering.proofs.Near.{near_on, near_begin, near_origin, near_tasks, near_stage, near_cancelled, near_links, near_current}
 use Rattle.swift_reordering.proofs.NearEnds.{AreJoint, HaveGoneOn, joint_first, joint_on}
 use Rattle.swift_reordering.proofs.Turning.{MayPlayIn, AppliedClose, in_own, applied_close, record_stands_too, same_play, takes_none}
@@ -94,7 +95,6 @@ module _ (script : ScriptView) (cps : List CheckpointView) where
   -- A history in order, and one in which begins of turns that look away are put off until they run.
   pub record ArePutOff (before others : List Block) : Type 0 where
     pub course : IsCourse script cps others
-    pub late : BeginLate script [] others
     pub done : done_by before ≡ done_by others
     pub close : AreClose (at before) (at others)
     pub fields : (e : ℕ) → fields_of script cps e before ≡ fields_of script cps e others
@@ -120,7 +120,7 @@ module _ (script : ScriptView) (cps : List CheckpointView) where
 
   -- the lists grow
 
-  late_append : (xs before ys : List Block) → BeginLate script before xs → BeginLate script (before ++ xs) ys → BeginLate script before (xs ++ ys)
+  pub late_append : (xs before ys : List Block) → BeginLate script before xs → BeginLate script (before ++ xs) ys → BeginLate script before (xs ++ ys)
   late_append [] before ys late more = subst (λ (bs : List Block). BeginLate script bs ys) (append-nil before) more
   late_append (added r ∷ xs) before ys late more = late_append xs (before ++ added r ∷ []) ys late (subst (λ (bs : List Block). BeginLate script bs ys) (sym (append_assoc before (added r ∷ []) xs)) more)
   late_append (ran e r ∷ xs) before ys late more = late_append xs (before ++ ran e r ∷ []) ys late (subst (λ (bs : List Block). BeginLate script bs ys) (sym (append_assoc before (ran e r ∷ []) xs)) more)
@@ -135,6 +135,13 @@ module _ (script : ScriptView) (cps : List CheckpointView) where
     runs_more (added r ∷ xs) is = absurd is
     runs_more (begun u k env ∷ xs) is = absurd is
     runs_more (folded e f ∷ xs) is = absurd is
+
+  pub step_late : (before step : List Block) → IsFusedStep script before step → BeginLate script before step
+  step_late before (added r ∷ []) is = tt
+  step_late before (begun t n env ∷ []) is = (λ away. absurd (false≢true (sym is ∙ away)), tt)
+  step_late before (ran e r ∷ []) is = tt
+  step_late before (begun t n env ∷ ran e r ∷ []) is = (λ _. is.1, tt)
+  step_late before step is = absurd is
 
   done_push : (bs : List Block) (b : Block) → done_by (bs ++ b ∷ []) ≡ done_by bs ++ cons_option (done_in b) []
   done_push bs b = filter_map-append done_in bs (b ∷ [])
@@ -185,7 +192,6 @@ module _ (script : ScriptView) (cps : List CheckpointView) where
         let joint : AreJoint s.log z.log x.log y.log = joint_on s.log z.log s.log z.log (root_events script r) (root_events script r) (joint_first s.log z.log near) refl in
         record {
           course = course_push script cps others (added r) was.course stands_z orderly_z;
-          late = late_append others [] (added r ∷ []) was.late tt;
           done = done_push before (added r) ∙ ap (λ (bs : List Block). bs ++ added r ∷ []) was.done ∙ sym (done_push others (added r));
           close = subst₂ AreClose (sym (at_push before (added r))) (sym (at_push others (added r)))
               (record { near = joint.near; held = was.close.held; jobs = ap (with_jobs (root_job script r ∷ [])) was.close.jobs });
@@ -215,7 +221,6 @@ module _ (script : ScriptView) (cps : List CheckpointView) where
         let under = (current_is (life_of t s.log) n stands.0.resume stands.2).1 in
         record {
           course = was.course;
-          late = was.late;
           done = done_push before (begun t n env) ∙ append-nil (done_by before) ∙ was.done;
           close = subst (λ (a : Standing). AreClose a z) (sym (at_push before (begun t n env))) (record { near = near_begin s.log t n env under ∙ near; held = was.close.held; jobs = was.close.jobs });
           fields = λ e. fields_quiet before (begun t n env) e refl ∙ was.fields e;
@@ -240,9 +245,9 @@ module _ (script : ScriptView) (cps : List CheckpointView) where
     seats_too : (t : ℕ) → ((u : ℕ) → job_executor script (s.jobs u) ≡ job_executor script (s.jobs t) → is_begun (stage_at s.log u) ≡ false) → (u : ℕ) → job_executor script (z.jobs u) ≡ job_executor script (z.jobs t) → is_begun (stage_at z.log u) ≡ false
     seats_too t free u same = not_begun_there u (free u (ap (job_executor script) (same_jobs u) ∙ same ∙ ap (job_executor script) (sym (same_jobs t))))
 
-    begin_on : (t n : ℕ) (env : Env) → Stands script cps before (begun t n env) → IsOrderly script before (begun t n env) → job_looks_away script (s.jobs t) ≡ false
+    begin_on : (t n : ℕ) (env : Env) → Stands script cps before (begun t n env) → IsOrderly script before (begun t n env)
         → room_of (root_count script) t s.log ≡ room_of (root_count script) t z.log → ArePutOff (before ++ begun t n env ∷ []) (others ++ begun t n env ∷ [])
-    begin_on t n env stands orderly looks room =
+    begin_on t n env stands orderly room =
         let x : Standing = after_block script s (begun t n env) in
         let y : Standing = after_block script z (begun t n env) in
         let is_env : IsEnv (root_count script) (task t) z.log env = record {
@@ -258,7 +263,6 @@ module _ (script : ScriptView) (cps : List CheckpointView) where
         ] in
         record {
           course = course_push script cps others (begun t n env) was.course stands_z orderly_z;
-          late = late_append others [] (begun t n env ∷ []) was.late (λ away. absurd (false≢true (sym looks ∙ ap (job_looks_away script) (same_jobs t) ∙ away)), tt);
           done = done_push before (begun t n env) ∙ ap (λ (bs : List Block). bs ++ []) was.done ∙ sym (done_push others (begun t n env));
           close = subst₂ AreClose (sym (at_push before (begun t n env))) (sym (at_push others (begun t n env)))
               (record { near = near_on s.log z.log (Begin (task t) n env ∷ []) (Begin (task t) n env ∷ []) near refl; held = was.close.held; jobs = was.close.jobs });
@@ -278,9 +282,9 @@ module _ (script : ScriptView) (cps : List CheckpointView) where
 
   run_on : (before others : List Block) (e : ℕ) (r : RecordView) (other : Env) → IsCourse script cps before → IsCourse script cps others → Stands script cps before (ran e r) → MayPlayIn script r.frame r.env other
       → stage_at (at others).log r.task ≡ Some (Begun other) → AreClose (at before) (at others) → ((k : ℕ) → fields_of script cps k before ≡ fields_of script cps k others) → done_by before ≡ done_by others
-      → BeginLate script [] (others ++ ran e (record r { env = other }) ∷ []) → ((u : ℕ) → u ≢ r.task → SameOrPutOff (at before) (at others) u)
+      → ((u : ℕ) → u ≢ r.task → SameOrPutOff (at before) (at others) u)
       → ArePutOff (before ++ ran e r ∷ []) (others ++ ran e (record r { env = other }) ∷ [])
-  run_on before others e r other course course_z stands may has_begun close fields done late stages =
+  run_on before others e r other course course_z stands may has_begun close fields done stages =
       let s : Standing = at before in
       let z : Standing = at others in
       let q : RecordView = record r { env = other } in
@@ -298,7 +302,6 @@ module _ (script : ScriptView) (cps : List CheckpointView) where
       let stays : (u : ℕ) → HasBegun x.log u → (u ≢ r.task) × OnlyStay s x u = λ u has. turn_stays script s e r.task r.number r.effects r.exit r.after stands.job r.env r.frame stands.stands u has in
       record {
         course = now_z;
-        late = late;
         done = done_push before (ran e r) ∙ ap (λ (bs : List Block). bs ++ ran e (record r { env = Rattle.swift_reordering.specs.Fused.no_env }) ∷ []) done ∙ sym (done_push others (ran e q));
         close = subst₂ AreClose (sym (at_push before (ran e r))) (sym (at_push others (ran e q))) (record { near = c.joint.near; held = c.held; jobs = c.jobs });
         fields = λ k. fields_push script cps k before (ran e r) ∙ added_if (e == k) r other may (fields_of script cps k before)
@@ -343,6 +346,14 @@ module _ (script : ScriptView) (cps : List CheckpointView) where
     pub record GoesOn (before others : List Block) (b : Block) : Type 0 where
       pub more : List Block
       pub put_off : ArePutOff (before ++ b ∷ []) (others ++ more)
+      pub step : (more ≡ []) ⊎ IsFusedStep script others more
+      pub has : (e : ℕ) (r : RecordView) → b ≡ ran e r → HasExit more e r.exit
+
+    run_ends : (e k : ℕ) (r p q : RecordView) (bs : List Block) → q.exit ≡ r.exit → ran e r ≡ ran k p → Contains bs (ran e q) → HasExit bs k p.exit
+    run_ends e k r p q bs same is has =
+        let on_same : e ≡ k = cc is in
+        let one : r ≡ p = cc is in
+        record { turn = q; there = subst (λ (x : ℕ). Contains bs (ran x q)) on_same has; exit_is = same ∙ ap (λ (x : RecordView). x.exit) one }
 
     frame_away : (fs callers : List FrameView) (p : FrameView) → fs ≡ p ∷ callers → frames_look_away script fs ≡ true → frame_looks_away script p ≡ true
     frame_away fs callers p is away = ap (frames_look_away script) (sym is) ∙ away
@@ -386,39 +397,50 @@ module _ (script : ScriptView) (cps : List CheckpointView) where
           | inl one ↦ inl (one ∙ sym (begin_other t n other z.log u (λ x. ne (sym x))))
           | inr o ↦ inr (record { env = o.env; has_begun = o.has_begun; given = begin_other t n other z.log u (λ x. ne (sym x)) ∙ o.given; away = o.away; room = o.room })
         ] in
-        let late : BeginLate script [] (others ++ b ∷ ran e q ∷ []) = late_append others [] (b ∷ ran e q ∷ []) was.late (λ _. refl, tt) in
         let done : done_by before ≡ done_by (others ++ b ∷ []) = was.done ∙ sym (done_push others b ∙ append-nil (done_by others)) in
         record {
           more = b ∷ ran e q ∷ [];
+          step = inr (ap (job_looks_away script) (sym (same_jobs before others was t)) ∙ away, refl);
+          has = λ k p is. run_ends e k r p q (b ∷ ran e q ∷ []) refl is (1, omega arith, refl);
           put_off = subst (ArePutOff (before ++ ran e r ∷ [])) (append_assoc others (b ∷ []) (ran e q ∷ []))
               (run_on before (others ++ b ∷ []) e r other course course_b stands (record { room = room; same = inr frame })
               (ap (λ (a : Standing). stage_at a.log t) (at_push others b) ∙ begin_same t n other z.log)
               close_b (λ k. was.fields k ∙ sym (fields_quiet others b k refl)) done
-              (subst (BeginLate script []) (sym (append_assoc others (b ∷ []) (ran e q ∷ []))) late)
               (λ u ne. subst (λ (a : Standing). SameOrPutOff s a u) (sym (at_push others b)) (stages u ne)));
         }
 
     -- any block
     pub goes_on : (before others : List Block) (b : Block) → IsCourse script cps before → AreFew before → ArePutOff before others → IsNotFolded b → Stands script cps before b → IsOrderly script before b → GoesOn before others b
-    goes_on before others (added r) course few was unfolded stands orderly = record { more = added r ∷ []; put_off = root_on before others was r stands orderly }
+    goes_on before others (added r) course few was unfolded stands orderly = record {
+      more = added r ∷ [];
+      put_off = root_on before others was r stands orderly;
+      step = inr tt;
+      has = λ k p is. absurd (cc is);
+    }
     goes_on before others (folded e f) course few was unfolded stands orderly = absurd unfolded
     goes_on before others (begun t n env) course few was unfolded stands orderly =
         let room = room_free script cps before course on few t in
         elim (cases_Bool (job_looks_away script ((at before).jobs t))) [
           | inl away ↦ record {
               more = [];
+              step = inl refl;
+              has = λ k p is. absurd (cc is);
               put_off = subst (ArePutOff (before ++ begun t n env ∷ [])) (sym (append-nil others)) (put_off_on before others was t n env stands orderly away (stands.3.room ∙ room));
             }
           | inr looks ↦ record {
               more = begun t n env ∷ [];
-              put_off = begin_on before others was t n env stands orderly looks (room ∙ sym (room_there before others few was t));
+              step = inr (ap (job_looks_away script) (sym (same_jobs before others was t)) ∙ looks);
+              has = λ k p is. absurd (cc is);
+              put_off = begin_on before others was t n env stands orderly (room ∙ sym (room_there before others few was t));
             }
         ]
     goes_on before others (ran e r) course few was unfolded stands orderly = elim (was.stages r.task) [
       | inl same ↦ record {
           more = ran e r ∷ [];
+          step = inr tt;
+          has = λ k p is. run_ends e k r p r (ran e r ∷ []) refl is (0, omega arith, refl);
           put_off = run_on before others e r r.env course was.course stands (in_own script r.frame r.env) (sym same ∙ stands.stands.has_begun) was.close was.fields was.done
-              (late_append others [] (ran e r ∷ []) was.late tt) (λ u ne. was.stages u);
+              (λ u ne. was.stages u);
         }
       | inr p ↦ late_on before others e r course few was stands p
     ]

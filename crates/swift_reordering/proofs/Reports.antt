@@ -1,5 +1,5 @@
 -- Each report in order has one whose turns that look away begin right before they run.
-use Rattle.std.proofs.Common.{◌≡◌, ℕ, zero, suc, ℤ, ◌+◌, ◌*◌, ◌<◌, ◌≤◌, List, [], ◌∷◌, ◌++◌, length, map, refl, sym, ◌∙◌, ap, subst, arith, inl, inr, append_assoc, append-nil}
+use Rattle.std.proofs.Common.{◌≡◌, ◌⊎◌, ℕ, zero, suc, ℤ, ◌+◌, ◌*◌, ◌<◌, ◌≤◌, List, [], ◌∷◌, ◌++◌, length, map, refl, sym, ◌∙◌, ap, subst, arith, inl, inr, append_assoc, append-nil}
 use Rattle.std.specs.Prelude.{Option, Some, None, ◌==◌, if◌then◌else◌, slice_get}
 use Rattle.std.specs.List.{filter_map, cons_option, range_with_len}
 use Rattle.std.proofs.lemmas.Option.{none-some, same_Some}
@@ -19,10 +19,11 @@ use Rattle.swift_laws.proofs.OpenLogs.{tasks_grow}
 use Rattle.swift_digest.specs.Explored.{FoldsNone}
 use Rattle.swift_digest.proofs.Outcomes.{NoneFolded, made, none_in, not_folded}
 use Rattle.swift_reordering.specs.Blurred.{AreNear, AreClose}
-use Rattle.swift_reordering.specs.Fused.{RoomNeverBinds, IsFused, EachIsFused, done_in, done_by}
+use Rattle.swift_reordering.specs.Fused.{BeginLate, RoomNeverBinds, IsFused, EachIsFused, done_in, done_by}
+use Rattle.swift_reordering.specs.FusedSteps.{IsFusedStep}
 use Rattle.swift_reordering.proofs.Near.{near_origin, near_ending, near_tasks, near_opened, near_closed}
 use Rattle.swift_reordering.proofs.Walks.{IsCourse, course_none, course_push}
-use Rattle.swift_reordering.proofs.Fusing.{ArePutOff, AreFew, goes_on}
+use Rattle.swift_reordering.proofs.Fusing.{ArePutOff, AreFew, goes_on, late_append, step_late}
 
 -- what blocks do says which roots were added, and which turns are folded
 
@@ -57,17 +58,21 @@ module _ (script : ScriptView) (cps : List CheckpointView) (on : ActorsHaveExecu
       let same = ap (tasks_of (root_count script)) grown.1 in
       omega (arith, few, more, same)
 
-  go_all : (bs before others : List Block) → IsCourse script cps before → AllStand script cps before bs → AllAllowed (IsOrderly script) before bs → NoneFolded script on cps bs → AreFew script cps on (before ++ bs) → ArePutOff script cps before others
-      → (rest : List Block) × ArePutOff script cps (before ++ bs) rest
-  go_all [] before others course stand may none few was = (others, subst (λ (xs : List Block). ArePutOff script cps xs others) (sym (append-nil before)) was)
-  go_all (b ∷ bs) before others course stand may none few was =
+  late_on : (others more : List Block) → BeginLate script [] others → (more ≡ []) ⊎ IsFusedStep script others more → BeginLate script [] (others ++ more)
+  late_on others more late (inl none) = subst (BeginLate script []) (sym (append-nil others) ∙ ap (λ (xs : List Block). others ++ xs) (sym none)) late
+  late_on others more late (inr step) = late_append script cps others [] more late (step_late script cps others more step)
+
+  go_all : (bs before others : List Block) → IsCourse script cps before → AllStand script cps before bs → AllAllowed (IsOrderly script) before bs → NoneFolded script on cps bs → AreFew script cps on (before ++ bs) → ArePutOff script cps before others → BeginLate script [] others
+      → (rest : List Block) × ArePutOff script cps (before ++ bs) rest × BeginLate script [] rest
+  go_all [] before others course stand may none few was late = (others, subst (λ (xs : List Block). ArePutOff script cps xs others) (sym (append-nil before)) was, late)
+  go_all (b ∷ bs) before others course stand may none few was late =
       let next = goes_on script cps on before others b course (few_before before (b ∷ bs) stand few) was (not_folded script on cps before b bs course.stand stand.0 none) stand.0 may.0 in
       let more = go_all bs (before ++ b ∷ []) (others ++ next.more) (course_push script cps before b course stand.0 may.0) stand.1 may.1 (λ e low. (none_in script on cps (folded_in e b) (folded_of e bs) (none e low)).1)
-      (subst (AreFew script cps on) (sym (append_assoc before (b ∷ []) bs)) few) next.put_off in
-      (more.0, subst (λ (xs : List Block). ArePutOff script cps xs more.0) (append_assoc before (b ∷ []) bs) more.1)
+      (subst (AreFew script cps on) (sym (append_assoc before (b ∷ []) bs)) few) next.put_off (late_on others next.more late next.step) in
+      (more.0, subst (λ (xs : List Block). ArePutOff script cps xs more.0) (append_assoc before (b ∷ []) bs) more.1, more.2)
 
   none_put_off : ArePutOff script cps [] []
-  none_put_off = record { course = course_none script cps; late = tt; done = refl; close = record { near = refl; held = refl; jobs = refl }; fields = λ e. refl; stages = λ u. inl refl }
+  none_put_off = record { course = course_none script cps; done = refl; close = record { near = refl; held = refl; jobs = refl }; fields = λ e. refl; stages = λ u. inl refl }
 
 pub each_fused : EachIsFused
 each_fused script report orderly on folds room =
@@ -76,9 +81,10 @@ each_fused script report orderly on folds room =
     let m = made script report legal folds in
     let few : AreFew script cps on legal.blocks =
     (let tasks = legal.tasks in let same = ap (tasks_of (root_count script)) legal.log in omega (arith, room, tasks, same)) in
-    let all = go_all script cps on legal.blocks [] [] (course_none script cps) legal.stand orderly.orderly m.none few (none_put_off script cps on) in
+    let all = go_all script cps on legal.blocks [] [] (course_none script cps) legal.stand orderly.orderly m.none few (none_put_off script cps on) tt in
     let bs : List Block = all.0 in
     let is = all.1 in
+    let late = all.2 in
     let s : Standing = after_blocks script (at_first script) legal.blocks in
     let z : Standing = after_blocks script (at_first script) bs in
     let near : AreNear report.log z.log = subst (λ (l : List Event). AreNear l z.log) (sym legal.log) is.close.near in
@@ -110,5 +116,5 @@ each_fused script report orderly on folds room =
       endings = refl;
       fields = refl;
       done = is.done;
-      late = is.late;
+      late = late;
     }

@@ -1,3 +1,4 @@
 pub mod Blurred
 pub mod Away
 pub mod Fused
+pub mod FusedSteps
