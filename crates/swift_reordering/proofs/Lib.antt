@@ -9,3 +9,4 @@ pub mod Rooms
 pub mod Priorities
 pub mod Fusing
 pub mod Reports
+pub mod Closed

@@ -19,16 +19,16 @@ cons_at : {A : Type 0} (y : A) (ys : List A) (x : A) (k : ℕ) → k < length (y
 cons_at y ys x zero lt at = inl at
 cons_at y ys x (suc k) lt at = inr (k, omega (arith, lt), at)
 
-cons_cases : {A : Type 0} (y : A) (ys : List A) (x : A) → Contains (y ∷ ys) x → (y ≡ x) ⊎ Contains ys x
+pub cons_cases : {A : Type 0} (y : A) (ys : List A) (x : A) → Contains (y ∷ ys) x → (y ≡ x) ⊎ Contains ys x
 cons_cases y ys x c = cons_at y ys x c.0 c.1 c.2
 
-cons_here : {A : Type 0} (y : A) (ys : List A) (x : A) → y ≡ x → Contains (y ∷ ys) x
+pub cons_here : {A : Type 0} (y : A) (ys : List A) (x : A) → y ≡ x → Contains (y ∷ ys) x
 cons_here y ys x is = (0, omega arith, is)
 
-cons_more : {A : Type 0} (y : A) (ys : List A) (x : A) → Contains ys x → Contains (y ∷ ys) x
+pub cons_more : {A : Type 0} (y : A) (ys : List A) (x : A) → Contains ys x → Contains (y ∷ ys) x
 cons_more y ys x c = Contains-append_right (y ∷ []) ys x c
 
-none_there : {A : Type 0} (x : A) → Contains [] x → ⊥
+pub none_there : {A : Type 0} (x : A) → Contains [] x → ⊥
 none_there x c = let lt = c.1 in omega (arith, lt)
 
 -- what one link leads to

@@ -71,7 +71,7 @@ module _ (script : ScriptView) (cps : List CheckpointView) (on : ActorsHaveExecu
       (subst (AreFew script cps on) (sym (append_assoc before (b ∷ []) bs)) few) next.put_off (late_on others next.more late next.step) in
       (more.0, subst (λ (xs : List Block). ArePutOff script cps xs more.0) (append_assoc before (b ∷ []) bs) more.1, more.2)
 
-  none_put_off : ArePutOff script cps [] []
+  pub none_put_off : ArePutOff script cps [] []
   none_put_off = record { course = course_none script cps; done = refl; close = record { near = refl; held = refl; jobs = refl }; fields = λ e. refl; stages = λ u. inl refl }
 
 pub each_fused : EachIsFused

@@ -1,9 +1,21 @@
 //! What holds of histories whose turns begin late. A call costs nothing; its contract is the law.
 
 ghost use Rattle.swift_reordering.specs.Fused.{EachIsFused};
+ghost use Rattle.swift_reordering.specs.FusedSteps.{ClosedHasEachExit, ClosedHasEachOutcome};
 
 /// A report in order has another with the same endings, fields and turns, in which each turn that looks away begins right before it runs,
 /// where no executor has folded turns and room never binds (our own).
 pub fn each_report_is_fused()
     ensures { EachIsFused }
+{}
+
+/// A list of histories that is closed under steps in which a turn that looks away begins and runs at once has the outcome of each legal
+/// report in order without folded turns, where there is room in each of them (our own).
+pub fn closed_histories_have_each_outcome()
+    ensures { ClosedHasEachOutcome }
+{}
+
+/// Each turn of such a report ends as a turn does of a step after one of them (our own).
+pub fn closed_histories_have_each_exit()
+    ensures { ClosedHasEachExit }
 {}
