@@ -31,7 +31,7 @@ use Rattle.swift_reordering.specs.FusedSteps.{IsFusedStep, MayStep, HasRoom, Are
 use Rattle.swift_reordering.proofs.Near.{near_tasks}
 use Rattle.swift_reordering.proofs.Walks.{IsCourse, course_none, course_push}
 use Rattle.swift_reordering.proofs.Priorities.{cons_cases, cons_here, cons_more, none_there}
-use Rattle.swift_reordering.proofs.Fusing.{ArePutOff, GoesOn, goes_on}
+use Rattle.swift_reordering.proofs.Fusing.{ArePutOff, AnyTask, any_task, GoesOn, goes_on}
 use Rattle.swift_reordering.proofs.Reports.{none_put_off}
 
 -- what follows the front of a history
@@ -102,7 +102,7 @@ module _ (script : ScriptView) (histories : List (List Block)) (closed : AreClos
   -- a history, one in which begins are put off, and one of the list that leads alike to that
   record HasOne (before : List Block) : Type 0 where
     others : List Block
-    put_off : ArePutOff script cps before others
+    put_off : ArePutOff script cps AnyTask before others
     kept : List Block
     is_kept : Contains histories kept
     lead : LeadAlike script cps others kept
@@ -118,7 +118,7 @@ module _ (script : ScriptView) (histories : List (List Block)) (closed : AreClos
     one : HasOne (before ++ b ∷ [])
     tried : (e : ℕ) (r : RecordView) → b ≡ ran e r → IsTried script cps histories e r.exit
 
-  next_by : (before : List Block) (b : Block) (one : HasOne before) → (g : GoesOn script cps on before one.others b) → (g.more ≡ []) ⊎ IsFusedStep script one.others g.more → Next before b
+  next_by : (before : List Block) (b : Block) (one : HasOne before) → (g : GoesOn script cps AnyTask on any_task before one.others b) → (g.more ≡ []) ⊎ IsFusedStep script one.others g.more → Next before b
   next_by before b one g (inl none) = record {
     one = record {
       others = one.others ++ g.more;
@@ -148,7 +148,7 @@ module _ (script : ScriptView) (histories : List (List Block)) (closed : AreClos
 
   has_next : (before : List Block) (b : Block) → IsCourse script cps before → IsNotFolded b → Stands script cps before b → IsOrderly script before b → HasOne before → Next before b
   has_next before b course unfolded stands orderly one =
-      let g = goes_on script cps on before one.others b course (has_room before one) one.put_off unfolded stands orderly in
+      let g = goes_on script cps AnyTask on any_task before one.others b course (has_room before one) one.put_off unfolded stands orderly in
       next_by before b one g g.step
 
   record All (before bs : List Block) : Type 0 where
@@ -171,7 +171,7 @@ module _ (script : ScriptView) (histories : List (List Block)) (closed : AreClos
       record { others = []; put_off = none_put_off script cps on; kept = k.0; is_kept = k.1; lead = k.2 }
 
 -- what is near has the same outcome
-outcome_near : (script : ScriptView) (cps : List CheckpointView) (report : ReportView) (before others : List Block) → ArePutOff script cps before others → IsOutcome script (state_of script cps before) report → IsOutcome script (state_of script cps others) report
+outcome_near : (script : ScriptView) (cps : List CheckpointView) (report : ReportView) (before others : List Block) → ArePutOff script cps AnyTask before others → IsOutcome script (state_of script cps before) report → IsOutcome script (state_of script cps others) report
 outcome_near script cps report before others was is =
     let same = was.close.near in
     record {

@@ -59,7 +59,7 @@ abbrev RootsWhereBegun : ScriptView → Standing → Type 0
 RootsWhereBegun script s = (u : ℕ) → HasBegun s.log u → AllRoots script s
 
 module _ (script : ScriptView) (cps : List CheckpointView) where
-  abbrev at : List Block → Standing
+  abbrev pub at : List Block → Standing
   at bs = after_blocks script (at_first script) bs
 
   roots_stay : (before : List Block) (b : Block) → Stands script cps before b → AllRoots script (at before) → AllRoots script (after_block script (at before) b)
@@ -80,43 +80,6 @@ module _ (script : ScriptView) (cps : List CheckpointView) where
       (λ before b course stands orderly roots. subst (RootsWhereBegun script) (sym (after_push script (at_first script) before b)) (roots_next before b stands orderly roots))
       (λ u has. absurd (false≢true (sym (ap (λ (l : Life). is_begun l.stage) (Rattle.swift_events.proofs.LogLemmas.unborn_without u [] refl)) ∙ has)))
       bs course
-
-  -- A turn that looks away has begun in the one history, and waits to begin in the other.
-  pub record IsPutOff (s z : Standing) (u : ℕ) : Type 0 where
-    pub env : Env
-    pub has_begun : stage_at s.log u ≡ Some (Begun env)
-    pub given : stage_at z.log u ≡ Some Given
-    pub away : job_looks_away script (s.jobs u) ≡ true
-    pub room : env.room ≡ MADE
-
-  abbrev pub SameOrPutOff : Standing → Standing → ℕ → Type 0
-  SameOrPutOff s z u = (stage_at s.log u ≡ stage_at z.log u) ⊎ IsPutOff s z u
-
-  -- A history in order, and one in which begins of turns that look away are put off until they run.
-  pub record ArePutOff (before others : List Block) : Type 0 where
-    pub course : IsCourse script cps others
-    pub done : done_by before ≡ done_by others
-    pub close : AreClose (at before) (at others)
-    pub fields : (e : ℕ) → fields_of script cps e before ≡ fields_of script cps e others
-    pub stages : (u : ℕ) → SameOrPutOff (at before) (at others) u
-
-  -- after the same events, where each task that has begun had begun with the same job
-  stages_on : (s z x y : Standing) → AreJoint s.log z.log x.log y.log → ((u : ℕ) → HasBegun x.log u → OnlyStay s x u) → ((u : ℕ) → stage_at x.log u ≡ stage_at s.log u → SameOrPutOff s z u) → (u : ℕ) → SameOrPutOff x y u
-  stages_on s z x y joint stays was u = elim (joint.gone u) [
-    | inl same ↦ inl same
-    | inr still ↦ elim (was u still.0) [
-      | inl same ↦ inl (still.0 ∙ same ∙ sym still.1)
-      | inr p ↦
-          let has : stage_at x.log u ≡ Some (Begun p.env) = still.0 ∙ p.has_begun in
-          inr (record {
-            env = p.env;
-            has_begun = has;
-            given = still.1 ∙ p.given;
-            away = ap (job_looks_away script) (stays u (ap is_begun has)).job ∙ p.away;
-            room = p.room;
-          })
-    ]
-  ]
 
   -- the lists grow
 
@@ -153,12 +116,57 @@ module _ (script : ScriptView) (cps : List CheckpointView) where
   fields_quiet : (bs : List Block) (b : Block) (e : ℕ) → record_in e b ≡ None → fields_of script cps e (bs ++ b ∷ []) ≡ fields_of script cps e bs
   fields_quiet bs b e none = fields_push script cps e bs b ∙ ap (λ (o : Option RecordView). replay script (fields_of script cps e bs) (cons_option o [])) none
 
+  -- few tasks: turns have room for 16 more
+  abbrev pub AreFew : List Block → Type 0
+  AreFew bs = tasks_of (root_count script) (at bs).log + MADE * (executor_count script + 1) ≤ TASKS
+
+-- of the tasks whose begins may be put off
+module _ (script : ScriptView) (cps : List CheckpointView) (May : ℕ → Type 0) where
+  -- A turn that looks away has begun in the one history, and waits to begin in the other.
+  pub record IsPutOff (s z : Standing) (u : ℕ) : Type 0 where
+    pub may : May u
+    pub env : Env
+    pub has_begun : stage_at s.log u ≡ Some (Begun env)
+    pub given : stage_at z.log u ≡ Some Given
+    pub away : job_looks_away script (s.jobs u) ≡ true
+    pub room : env.room ≡ MADE
+
+  abbrev pub SameOrPutOff : Standing → Standing → ℕ → Type 0
+  SameOrPutOff s z u = (stage_at s.log u ≡ stage_at z.log u) ⊎ IsPutOff s z u
+
+  -- A history in order, and one in which begins of turns that look away are put off until they run.
+  pub record ArePutOff (before others : List Block) : Type 0 where
+    pub course : IsCourse script cps others
+    pub done : done_by before ≡ done_by others
+    pub close : AreClose (at script cps before) (at script cps others)
+    pub fields : (e : ℕ) → fields_of script cps e before ≡ fields_of script cps e others
+    pub stages : (u : ℕ) → SameOrPutOff (at script cps before) (at script cps others) u
+
+  -- after the same events, where each task that has begun had begun with the same job
+  stages_on : (s z x y : Standing) → AreJoint s.log z.log x.log y.log → ((u : ℕ) → HasBegun x.log u → OnlyStay s x u) → ((u : ℕ) → stage_at x.log u ≡ stage_at s.log u → SameOrPutOff s z u) → (u : ℕ) → SameOrPutOff x y u
+  stages_on s z x y joint stays was u = elim (joint.gone u) [
+    | inl same ↦ inl same
+    | inr still ↦ elim (was u still.0) [
+      | inl same ↦ inl (still.0 ∙ same ∙ sym still.1)
+      | inr p ↦
+          let has : stage_at x.log u ≡ Some (Begun p.env) = still.0 ∙ p.has_begun in
+          inr (record {
+            may = p.may;
+            env = p.env;
+            has_begun = has;
+            given = still.1 ∙ p.given;
+            away = ap (job_looks_away script) (stays u (ap is_begun has)).job ∙ p.away;
+            room = p.room;
+          })
+    ]
+  ]
+
   module _ (before others : List Block) (was : ArePutOff before others) where
     abbrev s : Standing
-    s = at before
+    s = at script cps before
 
     abbrev z : Standing
-    z = at others
+    z = at script cps others
 
     near : AreNear s.log z.log
     near = was.close.near
@@ -192,11 +200,11 @@ module _ (script : ScriptView) (cps : List CheckpointView) where
         let joint : AreJoint s.log z.log x.log y.log = joint_on s.log z.log s.log z.log (root_events script r) (root_events script r) (joint_first s.log z.log near) refl in
         record {
           course = course_push script cps others (added r) was.course stands_z orderly_z;
-          done = done_push before (added r) ∙ ap (λ (bs : List Block). bs ++ added r ∷ []) was.done ∙ sym (done_push others (added r));
-          close = subst₂ AreClose (sym (at_push before (added r))) (sym (at_push others (added r)))
+          done = done_push script cps before (added r) ∙ ap (λ (bs : List Block). bs ++ added r ∷ []) was.done ∙ sym (done_push script cps others (added r));
+          close = subst₂ AreClose (sym (at_push script cps before (added r))) (sym (at_push script cps others (added r)))
               (record { near = joint.near; held = was.close.held; jobs = ap (with_jobs (root_job script r ∷ [])) was.close.jobs });
-          fields = λ e. fields_quiet before (added r) e refl ∙ was.fields e ∙ sym (fields_quiet others (added r) e refl);
-          stages = subst₂ (λ (a b : Standing). (u : ℕ) → SameOrPutOff a b u) (sym (at_push before (added r))) (sym (at_push others (added r)))
+          fields = λ e. fields_quiet script cps before (added r) e refl ∙ was.fields e ∙ sym (fields_quiet script cps others (added r) e refl);
+          stages = subst₂ (λ (a b : Standing). (u : ℕ) → SameOrPutOff a b u) (sym (at_push script cps before (added r))) (sym (at_push script cps others (added r)))
               (stages_on s z x y joint (λ u has. root_stays script s r u has) (λ u _. was.stages u));
         }
 
@@ -215,18 +223,19 @@ module _ (script : ScriptView) (cps : List CheckpointView) where
     same_or_begun : (u : ℕ) → (stage_at s.log u ≡ stage_at z.log u) ⊎ (is_begun (stage_at s.log u) ≡ true)
     same_or_begun u = elim (was.stages u) [ inl same ↦ inl same | inr p ↦ inr (ap is_begun p.has_begun) ]
 
-    put_off_on : (t n : ℕ) (env : Env) → Stands script cps before (begun t n env) → IsOrderly script before (begun t n env) → job_looks_away script (s.jobs t) ≡ true → env.room ≡ MADE → ArePutOff (before ++ begun t n env ∷ []) others
-    put_off_on t n env stands orderly away room =
+    put_off_on : (t n : ℕ) (env : Env) → May t → Stands script cps before (begun t n env) → IsOrderly script before (begun t n env) → job_looks_away script (s.jobs t) ≡ true → env.room ≡ MADE → ArePutOff (before ++ begun t n env ∷ []) others
+    put_off_on t n env may stands orderly away room =
         let x : Standing = after_block script s (begun t n env) in
         let under = (current_is (life_of t s.log) n stands.0.resume stands.2).1 in
         record {
           course = was.course;
-          done = done_push before (begun t n env) ∙ append-nil (done_by before) ∙ was.done;
-          close = subst (λ (a : Standing). AreClose a z) (sym (at_push before (begun t n env))) (record { near = near_begin s.log t n env under ∙ near; held = was.close.held; jobs = was.close.jobs });
-          fields = λ e. fields_quiet before (begun t n env) e refl ∙ was.fields e;
-          stages = subst (λ (a : Standing). (u : ℕ) → SameOrPutOff a z u) (sym (at_push before (begun t n env)))
+          done = done_push script cps before (begun t n env) ∙ append-nil (done_by before) ∙ was.done;
+          close = subst (λ (a : Standing). AreClose a z) (sym (at_push script cps before (begun t n env))) (record { near = near_begin s.log t n env under ∙ near; held = was.close.held; jobs = was.close.jobs });
+          fields = λ e. fields_quiet script cps before (begun t n env) e refl ∙ was.fields e;
+          stages = subst (λ (a : Standing). (u : ℕ) → SameOrPutOff a z u) (sym (at_push script cps before (begun t n env)))
               (λ u. elim (cases_eq t u) [
                 | inl same ↦ inr (record {
+                    may = subst May same may;
                     env = env;
                     has_begun = ap (stage_at x.log) (sym same) ∙ begin_same t n env s.log;
                     given = ap (stage_at z.log) (sym same) ∙ given_of (stage_at s.log t) (stage_at z.log t) under (orderly.1 t refl) (near_stage s.log z.log near t) (same_or_begun t);
@@ -235,7 +244,7 @@ module _ (script : ScriptView) (cps : List CheckpointView) where
                   })
                 | inr ne ↦ elim (was.stages u) [
                   | inl one ↦ inl (begin_other t n env s.log u ne ∙ one)
-                  | inr p ↦ inr (record { env = p.env; has_begun = begin_other t n env s.log u ne ∙ p.has_begun; given = p.given; away = p.away; room = p.room })
+                  | inr p ↦ inr (record { may = p.may; env = p.env; has_begun = begin_other t n env s.log u ne ∙ p.has_begun; given = p.given; away = p.away; room = p.room })
                 ]
               ]);
         }
@@ -259,15 +268,15 @@ module _ (script : ScriptView) (cps : List CheckpointView) where
         let orderly_z : IsOrderly script others (begun t n env) = (roots_too orderly.0, seats_too t orderly.1) in
         let same : (u : ℕ) → t ≢ u → SameOrPutOff s z u → SameOrPutOff x y u = λ u ne o. elim o [
           | inl one ↦ inl (begin_other t n env s.log u ne ∙ one ∙ sym (begin_other t n env z.log u ne))
-          | inr p ↦ inr (record { env = p.env; has_begun = begin_other t n env s.log u ne ∙ p.has_begun; given = begin_other t n env z.log u ne ∙ p.given; away = p.away; room = p.room })
+          | inr p ↦ inr (record { may = p.may; env = p.env; has_begun = begin_other t n env s.log u ne ∙ p.has_begun; given = begin_other t n env z.log u ne ∙ p.given; away = p.away; room = p.room })
         ] in
         record {
           course = course_push script cps others (begun t n env) was.course stands_z orderly_z;
-          done = done_push before (begun t n env) ∙ ap (λ (bs : List Block). bs ++ []) was.done ∙ sym (done_push others (begun t n env));
-          close = subst₂ AreClose (sym (at_push before (begun t n env))) (sym (at_push others (begun t n env)))
+          done = done_push script cps before (begun t n env) ∙ ap (λ (bs : List Block). bs ++ []) was.done ∙ sym (done_push script cps others (begun t n env));
+          close = subst₂ AreClose (sym (at_push script cps before (begun t n env))) (sym (at_push script cps others (begun t n env)))
               (record { near = near_on s.log z.log (Begin (task t) n env ∷ []) (Begin (task t) n env ∷ []) near refl; held = was.close.held; jobs = was.close.jobs });
-          fields = λ e. fields_quiet before (begun t n env) e refl ∙ was.fields e ∙ sym (fields_quiet others (begun t n env) e refl);
-          stages = subst₂ (λ (a b : Standing). (u : ℕ) → SameOrPutOff a b u) (sym (at_push before (begun t n env))) (sym (at_push others (begun t n env)))
+          fields = λ e. fields_quiet script cps before (begun t n env) e refl ∙ was.fields e ∙ sym (fields_quiet script cps others (begun t n env) e refl);
+          stages = subst₂ (λ (a b : Standing). (u : ℕ) → SameOrPutOff a b u) (sym (at_push script cps before (begun t n env))) (sym (at_push script cps others (begun t n env)))
               (λ u. elim (cases_eq t u) [
                 | inl one ↦ inl (ap (stage_at x.log) (sym one) ∙ begin_same t n env s.log ∙ sym (begin_same t n env z.log) ∙ ap (stage_at y.log) one)
                 | inr ne ↦ same u ne (was.stages u)
@@ -281,12 +290,12 @@ module _ (script : ScriptView) (cps : List CheckpointView) where
   added_if false r other may f = refl
 
   run_on : (before others : List Block) (e : ℕ) (r : RecordView) (other : Env) → IsCourse script cps before → IsCourse script cps others → Stands script cps before (ran e r) → MayPlayIn script r.frame r.env other
-      → stage_at (at others).log r.task ≡ Some (Begun other) → AreClose (at before) (at others) → ((k : ℕ) → fields_of script cps k before ≡ fields_of script cps k others) → done_by before ≡ done_by others
-      → ((u : ℕ) → u ≢ r.task → SameOrPutOff (at before) (at others) u)
+      → stage_at (at script cps others).log r.task ≡ Some (Begun other) → AreClose (at script cps before) (at script cps others) → ((k : ℕ) → fields_of script cps k before ≡ fields_of script cps k others) → done_by before ≡ done_by others
+      → ((u : ℕ) → u ≢ r.task → SameOrPutOff (at script cps before) (at script cps others) u)
       → ArePutOff (before ++ ran e r ∷ []) (others ++ ran e (record r { env = other }) ∷ [])
   run_on before others e r other course course_z stands may has_begun close fields done stages =
-      let s : Standing = at before in
-      let z : Standing = at others in
+      let s : Standing = at script cps before in
+      let z : Standing = at script cps others in
       let q : RecordView = record r { env = other } in
       let x : Standing = after_block script s (ran e r) in
       let y : Standing = after_block script z (ran e q) in
@@ -294,19 +303,19 @@ module _ (script : ScriptView) (cps : List CheckpointView) where
       record_stands_too script s z close (fields_of script cps e others) e r other may has_begun (subst (λ (f : List (List ℤ)). RecordStands script s f e r) (fields e) stands) in
       let now : IsCourse script cps (before ++ ran e r ∷ []) = course_push script cps before (ran e r) course stands tt in
       let now_z : IsCourse script cps (others ++ ran e q ∷ []) = course_push script cps others (ran e q) course_z stands_z tt in
-      let new_s : ChildrenAreNew x.log = subst (λ (a : Standing). ChildrenAreNew a.log) (at_push before (ran e r)) (histories_new script cps (before ++ ran e r ∷ []) now.stand) in
-      let new_z : ChildrenAreNew y.log = subst (λ (a : Standing). ChildrenAreNew a.log) (at_push others (ran e q)) (histories_new script cps (others ++ ran e q ∷ []) now_z.stand) in
+      let new_s : ChildrenAreNew x.log = subst (λ (a : Standing). ChildrenAreNew a.log) (at_push script cps before (ran e r)) (histories_new script cps (before ++ ran e r ∷ []) now.stand) in
+      let new_z : ChildrenAreNew y.log = subst (λ (a : Standing). ChildrenAreNew a.log) (at_push script cps others (ran e q)) (histories_new script cps (others ++ ran e q ∷ []) now_z.stand) in
       let free = takes_none script (fields_of script cps e before) r other may stands.lawful in
       let c : AppliedClose script s z close x y =
       applied_close script s z close e r.task r.number r.effects r.exit r.after stands.job r.env other r.frame has_begun free stands.stands new_s new_z in
       let stays : (u : ℕ) → HasBegun x.log u → (u ≢ r.task) × OnlyStay s x u = λ u has. turn_stays script s e r.task r.number r.effects r.exit r.after stands.job r.env r.frame stands.stands u has in
       record {
         course = now_z;
-        done = done_push before (ran e r) ∙ ap (λ (bs : List Block). bs ++ ran e (record r { env = Rattle.swift_reordering.specs.Fused.no_env }) ∷ []) done ∙ sym (done_push others (ran e q));
-        close = subst₂ AreClose (sym (at_push before (ran e r))) (sym (at_push others (ran e q))) (record { near = c.joint.near; held = c.held; jobs = c.jobs });
+        done = done_push script cps before (ran e r) ∙ ap (λ (bs : List Block). bs ++ ran e (record r { env = Rattle.swift_reordering.specs.Fused.no_env }) ∷ []) done ∙ sym (done_push script cps others (ran e q));
+        close = subst₂ AreClose (sym (at_push script cps before (ran e r))) (sym (at_push script cps others (ran e q))) (record { near = c.joint.near; held = c.held; jobs = c.jobs });
         fields = λ k. fields_push script cps k before (ran e r) ∙ added_if (e == k) r other may (fields_of script cps k before)
             ∙ ap (λ (f : List (List ℤ)). replay script f (cons_option (record_in k (ran e q)) [])) (fields k) ∙ sym (fields_push script cps k others (ran e q));
-        stages = subst₂ (λ (a b : Standing). (u : ℕ) → SameOrPutOff a b u) (sym (at_push before (ran e r))) (sym (at_push others (ran e q)))
+        stages = subst₂ (λ (a b : Standing). (u : ℕ) → SameOrPutOff a b u) (sym (at_push script cps before (ran e r))) (sym (at_push script cps others (ran e q)))
             (stages_on s z x y c.joint (λ u has. (stays u has).1)
             (λ u same. elim (cases_eq u r.task) [
               | inl one ↦ absurd ((stays u (ap is_begun (same ∙ ap (stage_at s.log) one ∙ stands.stands.has_begun))).0 one)
@@ -316,10 +325,10 @@ module _ (script : ScriptView) (cps : List CheckpointView) where
 
   -- the environment in which a turn that was put off begins
 
-  late_env : (before others : List Block) → IsCourse script cps before → ArePutOff before others → (t : ℕ) (env : Env) → stage_at (at before).log t ≡ Some (Begun env) → (other : Env) × IsEnv (root_count script) (task t) (at others).log other
+  late_env : (before others : List Block) → IsCourse script cps before → ArePutOff before others → (t : ℕ) (env : Env) → stage_at (at script cps before).log t ≡ Some (Begun env) → (other : Env) × IsEnv (root_count script) (task t) (at script cps others).log other
   late_env before others course was t env has_begun =
-      let s : Standing = at before in
-      let z : Standing = at others in
+      let s : Standing = at script cps before in
+      let z : Standing = at script cps others in
       let h = all_begun script cps before course.stand t env has_begun in
       let q = priority_later h.before (Begin (task t) h.number env ∷ h.since) (task t) env.priority h.is_env.priority in
       let priority = subst (λ (l : List Event). IsPriority (links_of l) (task t) q.0) (sym h.parts) q.1 in (
@@ -331,15 +340,11 @@ module _ (script : ScriptView) (cps : List CheckpointView) where
         },
       )
 
-  module _ (on : ActorsHaveExecutors script) where
-    -- few tasks: in both histories turns have room for 16 more
-    abbrev pub AreFew : List Block → Type 0
-    AreFew bs = tasks_of (root_count script) (at bs).log + MADE * (executor_count script + 1) ≤ TASKS
+  module _ (on : ActorsHaveExecutors script) (any : (u : ℕ) → May u) where
+    few_too : (before others : List Block) → AreFew script cps before → ArePutOff before others → AreFew script cps others
+    few_too before others few was = (let same = near_tasks (at script cps before).log (at script cps others).log was.close.near (root_count script) in omega (arith, few, same))
 
-    few_too : (before others : List Block) → AreFew before → ArePutOff before others → AreFew others
-    few_too before others few was = (let same = near_tasks (at before).log (at others).log was.close.near (root_count script) in omega (arith, few, same))
-
-    room_there : (before others : List Block) → AreFew before → ArePutOff before others → (t : ℕ) → room_of (root_count script) t (at others).log ≡ MADE
+    room_there : (before others : List Block) → AreFew script cps before → ArePutOff before others → (t : ℕ) → room_of (root_count script) t (at script cps others).log ≡ MADE
     room_there before others few was t = room_free script cps others was.course on (few_too before others few was) t
 
     -- which blocks follow in the other history, where this one follows
@@ -359,11 +364,11 @@ module _ (script : ScriptView) (cps : List CheckpointView) where
     frame_away fs callers p is away = ap (frames_look_away script) (sym is) ∙ away
 
     -- a turn runs that was put off
-    late_on : (before others : List Block) (e : ℕ) (r : RecordView) → IsCourse script cps before → AreFew before → (was : ArePutOff before others) → Stands script cps before (ran e r) → IsPutOff (at before) (at others) r.task
+    late_on : (before others : List Block) (e : ℕ) (r : RecordView) → IsCourse script cps before → AreFew script cps before → (was : ArePutOff before others) → Stands script cps before (ran e r) → IsPutOff (at script cps before) (at script cps others) r.task
         → GoesOn before others (ran e r)
     late_on before others e r course few was stands p =
-        let s : Standing = at before in
-        let z : Standing = at others in
+        let s : Standing = at script cps before in
+        let z : Standing = at script cps others in
         let t : ℕ = r.task in
         let n : ℕ = r.number in
         let env = late_env before others course was t r.env stands.stands.has_begun in
@@ -379,7 +384,7 @@ module _ (script : ScriptView) (cps : List CheckpointView) where
         let room : r.env.room ≡ other.room = ap (λ (x : Env). x.room) (sym same_env) ∙ p.room ∙ sym (room_there before others few was t) ∙ sym env.1.room in
         let stands_b : Stands script cps others b = (job, given_z, sym (near_current s.log z.log was.close.near t n job.resume) ∙ stands.stands.current, env.1) in
         let orderly_b : IsOrderly script others b = (
-          roots_too before others was (all_roots before course t (ap is_begun stands.stands.has_begun)),
+          roots_too before others was (all_roots script cps before course t (ap is_begun stands.stands.has_begun)),
           λ u same. elim (cases_Bool (is_begun (stage_at z.log u))) [
             | inl has ↦
                 let one : u ≡ t = all_apart script cps before course u t (begun_here before others was u has) (ap is_begun stands.stands.has_begun)
@@ -391,26 +396,26 @@ module _ (script : ScriptView) (cps : List CheckpointView) where
         let course_b : IsCourse script cps (others ++ b ∷ []) = course_push script cps others b was.course stands_b orderly_b in
         let y : Standing = after_block script z b in
         let under = (current_is (life_of t z.log) n job.resume stands_b.2).1 in
-        let close_b : AreClose s (at (others ++ b ∷ [])) =
-        subst (AreClose s) (sym (at_push others b)) (record { near = was.close.near ∙ sym (near_begin z.log t n other under); held = was.close.held; jobs = was.close.jobs }) in
+        let close_b : AreClose s (at script cps (others ++ b ∷ [])) =
+        subst (AreClose s) (sym (at_push script cps others b)) (record { near = was.close.near ∙ sym (near_begin z.log t n other under); held = was.close.held; jobs = was.close.jobs }) in
         let stages : (u : ℕ) → u ≢ t → SameOrPutOff s y u = λ u ne. elim (was.stages u) [
           | inl one ↦ inl (one ∙ sym (begin_other t n other z.log u (λ x. ne (sym x))))
-          | inr o ↦ inr (record { env = o.env; has_begun = o.has_begun; given = begin_other t n other z.log u (λ x. ne (sym x)) ∙ o.given; away = o.away; room = o.room })
+          | inr o ↦ inr (record { may = o.may; env = o.env; has_begun = o.has_begun; given = begin_other t n other z.log u (λ x. ne (sym x)) ∙ o.given; away = o.away; room = o.room })
         ] in
-        let done : done_by before ≡ done_by (others ++ b ∷ []) = was.done ∙ sym (done_push others b ∙ append-nil (done_by others)) in
+        let done : done_by before ≡ done_by (others ++ b ∷ []) = was.done ∙ sym (done_push script cps others b ∙ append-nil (done_by others)) in
         record {
           more = b ∷ ran e q ∷ [];
           step = inr (ap (job_looks_away script) (sym (same_jobs before others was t)) ∙ away, refl);
           has = λ k p is. run_ends e k r p q (b ∷ ran e q ∷ []) refl is (1, omega arith, refl);
           put_off = subst (ArePutOff (before ++ ran e r ∷ [])) (append_assoc others (b ∷ []) (ran e q ∷ []))
               (run_on before (others ++ b ∷ []) e r other course course_b stands (record { room = room; same = inr frame })
-              (ap (λ (a : Standing). stage_at a.log t) (at_push others b) ∙ begin_same t n other z.log)
-              close_b (λ k. was.fields k ∙ sym (fields_quiet others b k refl)) done
-              (λ u ne. subst (λ (a : Standing). SameOrPutOff s a u) (sym (at_push others b)) (stages u ne)));
+              (ap (λ (a : Standing). stage_at a.log t) (at_push script cps others b) ∙ begin_same t n other z.log)
+              close_b (λ k. was.fields k ∙ sym (fields_quiet script cps others b k refl)) done
+              (λ u ne. subst (λ (a : Standing). SameOrPutOff s a u) (sym (at_push script cps others b)) (stages u ne)));
         }
 
     -- any block
-    pub goes_on : (before others : List Block) (b : Block) → IsCourse script cps before → AreFew before → ArePutOff before others → IsNotFolded b → Stands script cps before b → IsOrderly script before b → GoesOn before others b
+    pub goes_on : (before others : List Block) (b : Block) → IsCourse script cps before → AreFew script cps before → ArePutOff before others → IsNotFolded b → Stands script cps before b → IsOrderly script before b → GoesOn before others b
     goes_on before others (added r) course few was unfolded stands orderly = record {
       more = added r ∷ [];
       put_off = root_on before others was r stands orderly;
@@ -420,12 +425,12 @@ module _ (script : ScriptView) (cps : List CheckpointView) where
     goes_on before others (folded e f) course few was unfolded stands orderly = absurd unfolded
     goes_on before others (begun t n env) course few was unfolded stands orderly =
         let room = room_free script cps before course on few t in
-        elim (cases_Bool (job_looks_away script ((at before).jobs t))) [
+        elim (cases_Bool (job_looks_away script ((at script cps before).jobs t))) [
           | inl away ↦ record {
               more = [];
               step = inl refl;
               has = λ k p is. absurd (cc is);
-              put_off = subst (ArePutOff (before ++ begun t n env ∷ [])) (sym (append-nil others)) (put_off_on before others was t n env stands orderly away (stands.3.room ∙ room));
+              put_off = subst (ArePutOff (before ++ begun t n env ∷ [])) (sym (append-nil others)) (put_off_on before others was t n env (any t) stands orderly away (stands.3.room ∙ room));
             }
           | inr looks ↦ record {
               more = begun t n env ∷ [];
@@ -444,3 +449,11 @@ module _ (script : ScriptView) (cps : List CheckpointView) where
         }
       | inr p ↦ late_on before others e r course few was stands p
     ]
+
+-- those of any task
+
+abbrev pub AnyTask : ℕ → Type 0
+AnyTask u = Unit {0}
+
+pub any_task : (u : ℕ) → AnyTask u
+any_task u = tt

@@ -23,7 +23,7 @@ use Rattle.swift_reordering.specs.Fused.{BeginLate, RoomNeverBinds, IsFused, Eac
 use Rattle.swift_reordering.specs.FusedSteps.{IsFusedStep}
 use Rattle.swift_reordering.proofs.Near.{near_origin, near_ending, near_tasks, near_opened, near_closed}
 use Rattle.swift_reordering.proofs.Walks.{IsCourse, course_none, course_push}
-use Rattle.swift_reordering.proofs.Fusing.{ArePutOff, AreFew, goes_on, late_append, step_late}
+use Rattle.swift_reordering.proofs.Fusing.{ArePutOff, AnyTask, any_task, AreFew, goes_on, late_append, step_late}
 
 -- what blocks do says which roots were added, and which turns are folded
 
@@ -51,7 +51,7 @@ row_at : {A : Type 0} (f : ℕ → A) (n e : ℕ) (x : A) → slice_get (map f (
 row_at f n e x at = row_from f n 0 e x at ∙ ap f (omega arith)
 
 module _ (script : ScriptView) (cps : List CheckpointView) (on : ActorsHaveExecutors script) where
-  few_before : (before bs : List Block) → AllStand script cps before bs → AreFew script cps on (before ++ bs) → AreFew script cps on before
+  few_before : (before bs : List Block) → AllStand script cps before bs → AreFew script cps (before ++ bs) → AreFew script cps before
   few_before before bs stand few =
       let grown = log_grows script cps before bs stand in
       let more = tasks_grow (root_count script) (after_blocks script (at_first script) before).log grown.0 in
@@ -62,16 +62,16 @@ module _ (script : ScriptView) (cps : List CheckpointView) (on : ActorsHaveExecu
   late_on others more late (inl none) = subst (BeginLate script []) (sym (append-nil others) ∙ ap (λ (xs : List Block). others ++ xs) (sym none)) late
   late_on others more late (inr step) = late_append script cps others [] more late (step_late script cps others more step)
 
-  go_all : (bs before others : List Block) → IsCourse script cps before → AllStand script cps before bs → AllAllowed (IsOrderly script) before bs → NoneFolded script on cps bs → AreFew script cps on (before ++ bs) → ArePutOff script cps before others → BeginLate script [] others
-      → (rest : List Block) × ArePutOff script cps (before ++ bs) rest × BeginLate script [] rest
-  go_all [] before others course stand may none few was late = (others, subst (λ (xs : List Block). ArePutOff script cps xs others) (sym (append-nil before)) was, late)
+  go_all : (bs before others : List Block) → IsCourse script cps before → AllStand script cps before bs → AllAllowed (IsOrderly script) before bs → NoneFolded script on cps bs → AreFew script cps (before ++ bs) → ArePutOff script cps AnyTask before others → BeginLate script [] others
+      → (rest : List Block) × ArePutOff script cps AnyTask (before ++ bs) rest × BeginLate script [] rest
+  go_all [] before others course stand may none few was late = (others, subst (λ (xs : List Block). ArePutOff script cps AnyTask xs others) (sym (append-nil before)) was, late)
   go_all (b ∷ bs) before others course stand may none few was late =
-      let next = goes_on script cps on before others b course (few_before before (b ∷ bs) stand few) was (not_folded script on cps before b bs course.stand stand.0 none) stand.0 may.0 in
+      let next = goes_on script cps AnyTask on any_task before others b course (few_before before (b ∷ bs) stand few) was (not_folded script on cps before b bs course.stand stand.0 none) stand.0 may.0 in
       let more = go_all bs (before ++ b ∷ []) (others ++ next.more) (course_push script cps before b course stand.0 may.0) stand.1 may.1 (λ e low. (none_in script on cps (folded_in e b) (folded_of e bs) (none e low)).1)
-      (subst (AreFew script cps on) (sym (append_assoc before (b ∷ []) bs)) few) next.put_off (late_on others next.more late next.step) in
-      (more.0, subst (λ (xs : List Block). ArePutOff script cps xs more.0) (append_assoc before (b ∷ []) bs) more.1, more.2)
+      (subst (AreFew script cps) (sym (append_assoc before (b ∷ []) bs)) few) next.put_off (late_on others next.more late next.step) in
+      (more.0, subst (λ (xs : List Block). ArePutOff script cps AnyTask xs more.0) (append_assoc before (b ∷ []) bs) more.1, more.2)
 
-  pub none_put_off : ArePutOff script cps [] []
+  pub none_put_off : ArePutOff script cps AnyTask [] []
   none_put_off = record { course = course_none script cps; done = refl; close = record { near = refl; held = refl; jobs = refl }; fields = λ e. refl; stages = λ u. inl refl }
 
 pub each_fused : EachIsFused
@@ -79,7 +79,7 @@ each_fused script report orderly on folds room =
     let legal = orderly.legal in
     let cps = report.checkpoints in
     let m = made script report legal folds in
-    let few : AreFew script cps on legal.blocks =
+    let few : AreFew script cps legal.blocks =
     (let tasks = legal.tasks in let same = ap (tasks_of (root_count script)) legal.log in omega (arith, room, tasks, same)) in
     let all = go_all script cps on legal.blocks [] [] (course_none script cps) legal.stand orderly.orderly m.none few (none_put_off script cps on) tt in
     let bs : List Block = all.0 in
