@@ -10,3 +10,4 @@ pub mod Priorities
 pub mod Fusing
 pub mod Reports
 pub mod Closed
+pub mod Others
