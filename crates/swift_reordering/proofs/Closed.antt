@@ -36,11 +36,11 @@ use Rattle.swift_reordering.proofs.Reports.{none_put_off}
 
 -- what follows the front of a history
 
-stand_after : (script : ScriptView) (cps : List CheckpointView) (xs before ys : List Block) → AllStand script cps before (xs ++ ys) → AllStand script cps (before ++ xs) ys
+pub stand_after : (script : ScriptView) (cps : List CheckpointView) (xs before ys : List Block) → AllStand script cps before (xs ++ ys) → AllStand script cps (before ++ xs) ys
 stand_after script cps [] before ys all = subst (λ (bs : List Block). AllStand script cps bs ys) (sym (append-nil before)) all
 stand_after script cps (x ∷ xs) before ys all = subst (λ (bs : List Block). AllStand script cps bs ys) (append_assoc before (x ∷ []) xs) (stand_after script cps xs (before ++ x ∷ []) ys all.1)
 
-allowed_after : (Allowed : List Block → Block → Type 0) (xs before ys : List Block) → AllAllowed Allowed before (xs ++ ys) → AllAllowed Allowed (before ++ xs) ys
+pub allowed_after : (Allowed : List Block → Block → Type 0) (xs before ys : List Block) → AllAllowed Allowed before (xs ++ ys) → AllAllowed Allowed (before ++ xs) ys
 allowed_after Allowed [] before ys all = subst (λ (bs : List Block). AllAllowed Allowed bs ys) (sym (append-nil before)) all
 allowed_after Allowed (x ∷ xs) before ys all = subst (λ (bs : List Block). AllAllowed Allowed bs ys) (append_assoc before (x ∷ []) xs) (allowed_after Allowed xs (before ++ x ∷ []) ys all.1)
 

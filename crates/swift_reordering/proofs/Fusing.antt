@@ -62,7 +62,7 @@ module _ (script : ScriptView) (cps : List CheckpointView) where
   abbrev pub at : List Block → Standing
   at bs = after_blocks script (at_first script) bs
 
-  roots_stay : (before : List Block) (b : Block) → Stands script cps before b → AllRoots script (at before) → AllRoots script (after_block script (at before) b)
+  pub roots_stay : (before : List Block) (b : Block) → Stands script cps before b → AllRoots script (at before) → AllRoots script (after_block script (at before) b)
   roots_stay before b stands all r lt =
       keeps_block (λ (l : List Event). has_origin r l ≡ true) (λ l e _ is. origin_stays r l e is) script cps before b (λ t n env _ is. origin_stays r (at before).log (Begin (task t) n env) is) stands (all r lt)
 
@@ -109,11 +109,11 @@ module _ (script : ScriptView) (cps : List CheckpointView) where
   done_push : (bs : List Block) (b : Block) → done_by (bs ++ b ∷ []) ≡ done_by bs ++ cons_option (done_in b) []
   done_push bs b = filter_map-append done_in bs (b ∷ [])
 
-  at_push : (bs : List Block) (b : Block) → at (bs ++ b ∷ []) ≡ after_block script (at bs) b
+  pub at_push : (bs : List Block) (b : Block) → at (bs ++ b ∷ []) ≡ after_block script (at bs) b
   at_push bs b = after_push script (at_first script) bs b
 
   -- the fields stay where a block is no recorded turn
-  fields_quiet : (bs : List Block) (b : Block) (e : ℕ) → record_in e b ≡ None → fields_of script cps e (bs ++ b ∷ []) ≡ fields_of script cps e bs
+  pub fields_quiet : (bs : List Block) (b : Block) (e : ℕ) → record_in e b ≡ None → fields_of script cps e (bs ++ b ∷ []) ≡ fields_of script cps e bs
   fields_quiet bs b e none = fields_push script cps e bs b ∙ ap (λ (o : Option RecordView). replay script (fields_of script cps e bs) (cons_option o [])) none
 
   -- few tasks: turns have room for 16 more
@@ -178,7 +178,7 @@ module _ (script : ScriptView) (cps : List CheckpointView) (May : ℕ → Type 0
     same_jobs u = ap (λ (f : ℕ → Option JobFacts). f u) was.close.jobs
 
     -- what has begun there has begun here
-    begun_here : (u : ℕ) → HasBegun z.log u → HasBegun s.log u
+    pub begun_here : (u : ℕ) → HasBegun z.log u → HasBegun s.log u
     begun_here u has = elim (was.stages u) [
       | inl same ↦ ap is_begun same ∙ has
       | inr p ↦ absurd (false≢true (sym (ap is_begun p.given) ∙ has))
@@ -191,7 +191,7 @@ module _ (script : ScriptView) (cps : List CheckpointView) (May : ℕ → Type 0
     ]
 
     -- a root is added
-    root_on : (r : ℕ) → Stands script cps before (added r) → IsOrderly script before (added r) → ArePutOff (before ++ added r ∷ []) (others ++ added r ∷ [])
+    pub root_on : (r : ℕ) → Stands script cps before (added r) → IsOrderly script before (added r) → ArePutOff (before ++ added r ∷ []) (others ++ added r ∷ [])
     root_on r stands orderly =
         let stands_z : Stands script cps others (added r) = (stands.0, sym (near_origin s.log z.log near r) ∙ stands.1) in
         let orderly_z : IsOrderly script others (added r) = λ u low. ap is_some (sym (near_origin s.log z.log near u)) ∙ orderly u low in
@@ -223,7 +223,7 @@ module _ (script : ScriptView) (cps : List CheckpointView) (May : ℕ → Type 0
     same_or_begun : (u : ℕ) → (stage_at s.log u ≡ stage_at z.log u) ⊎ (is_begun (stage_at s.log u) ≡ true)
     same_or_begun u = elim (was.stages u) [ inl same ↦ inl same | inr p ↦ inr (ap is_begun p.has_begun) ]
 
-    put_off_on : (t n : ℕ) (env : Env) → May t → Stands script cps before (begun t n env) → IsOrderly script before (begun t n env) → job_looks_away script (s.jobs t) ≡ true → env.room ≡ MADE → ArePutOff (before ++ begun t n env ∷ []) others
+    pub put_off_on : (t n : ℕ) (env : Env) → May t → Stands script cps before (begun t n env) → IsOrderly script before (begun t n env) → job_looks_away script (s.jobs t) ≡ true → env.room ≡ MADE → ArePutOff (before ++ begun t n env ∷ []) others
     put_off_on t n env may stands orderly away room =
         let x : Standing = after_block script s (begun t n env) in
         let under = (current_is (life_of t s.log) n stands.0.resume stands.2).1 in
@@ -254,7 +254,7 @@ module _ (script : ScriptView) (cps : List CheckpointView) (May : ℕ → Type 0
     seats_too : (t : ℕ) → ((u : ℕ) → job_executor script (s.jobs u) ≡ job_executor script (s.jobs t) → is_begun (stage_at s.log u) ≡ false) → (u : ℕ) → job_executor script (z.jobs u) ≡ job_executor script (z.jobs t) → is_begun (stage_at z.log u) ≡ false
     seats_too t free u same = not_begun_there u (free u (ap (job_executor script) (same_jobs u) ∙ same ∙ ap (job_executor script) (sym (same_jobs t))))
 
-    begin_on : (t n : ℕ) (env : Env) → Stands script cps before (begun t n env) → IsOrderly script before (begun t n env)
+    pub begin_on : (t n : ℕ) (env : Env) → Stands script cps before (begun t n env) → IsOrderly script before (begun t n env)
         → room_of (root_count script) t s.log ≡ room_of (root_count script) t z.log → ArePutOff (before ++ begun t n env ∷ []) (others ++ begun t n env ∷ [])
     begin_on t n env stands orderly room =
         let x : Standing = after_block script s (begun t n env) in
@@ -289,7 +289,7 @@ module _ (script : ScriptView) (cps : List CheckpointView) (May : ℕ → Type 0
   added_if true r other may f = ap (λ (k : Played). k.state.fields) (same_play script f r other may)
   added_if false r other may f = refl
 
-  run_on : (before others : List Block) (e : ℕ) (r : RecordView) (other : Env) → IsCourse script cps before → IsCourse script cps others → Stands script cps before (ran e r) → MayPlayIn script r.frame r.env other
+  pub run_on : (before others : List Block) (e : ℕ) (r : RecordView) (other : Env) → IsCourse script cps before → IsCourse script cps others → Stands script cps before (ran e r) → MayPlayIn script r.frame r.env other
       → stage_at (at script cps others).log r.task ≡ Some (Begun other) → AreClose (at script cps before) (at script cps others) → ((k : ℕ) → fields_of script cps k before ≡ fields_of script cps k others) → done_by before ≡ done_by others
       → ((u : ℕ) → u ≢ r.task → SameOrPutOff (at script cps before) (at script cps others) u)
       → ArePutOff (before ++ ran e r ∷ []) (others ++ ran e (record r { env = other }) ∷ [])
@@ -325,7 +325,7 @@ module _ (script : ScriptView) (cps : List CheckpointView) (May : ℕ → Type 0
 
   -- the environment in which a turn that was put off begins
 
-  late_env : (before others : List Block) → IsCourse script cps before → ArePutOff before others → (t : ℕ) (env : Env) → stage_at (at script cps before).log t ≡ Some (Begun env) → (other : Env) × IsEnv (root_count script) (task t) (at script cps others).log other
+  pub late_env : (before others : List Block) → IsCourse script cps before → ArePutOff before others → (t : ℕ) (env : Env) → stage_at (at script cps before).log t ≡ Some (Begun env) → (other : Env) × IsEnv (root_count script) (task t) (at script cps others).log other
   late_env before others course was t env has_begun =
       let s : Standing = at script cps before in
       let z : Standing = at script cps others in
@@ -344,7 +344,7 @@ module _ (script : ScriptView) (cps : List CheckpointView) (May : ℕ → Type 0
     few_too : (before others : List Block) → AreFew script cps before → ArePutOff before others → AreFew script cps others
     few_too before others few was = (let same = near_tasks (at script cps before).log (at script cps others).log was.close.near (root_count script) in omega (arith, few, same))
 
-    room_there : (before others : List Block) → AreFew script cps before → ArePutOff before others → (t : ℕ) → room_of (root_count script) t (at script cps others).log ≡ MADE
+    pub room_there : (before others : List Block) → AreFew script cps before → ArePutOff before others → (t : ℕ) → room_of (root_count script) t (at script cps others).log ≡ MADE
     room_there before others few was t = room_free script cps others was.course on (few_too before others few was) t
 
     -- which blocks follow in the other history, where this one follows

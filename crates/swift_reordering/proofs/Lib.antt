@@ -11,3 +11,4 @@ pub mod Fusing
 pub mod Reports
 pub mod Closed
 pub mod Others
+pub mod Waits

@@ -51,7 +51,7 @@ row_at : {A : Type 0} (f : ℕ → A) (n e : ℕ) (x : A) → slice_get (map f (
 row_at f n e x at = row_from f n 0 e x at ∙ ap f (omega arith)
 
 module _ (script : ScriptView) (cps : List CheckpointView) (on : ActorsHaveExecutors script) where
-  few_before : (before bs : List Block) → AllStand script cps before bs → AreFew script cps (before ++ bs) → AreFew script cps before
+  pub few_before : (before bs : List Block) → AllStand script cps before bs → AreFew script cps (before ++ bs) → AreFew script cps before
   few_before before bs stand few =
       let grown = log_grows script cps before bs stand in
       let more = tasks_grow (root_count script) (after_blocks script (at_first script) before).log grown.0 in

@@ -2,3 +2,4 @@ pub mod Blurred
 pub mod Away
 pub mod Fused
 pub mod FusedSteps
+pub mod Waiting

@@ -2,6 +2,7 @@
 
 ghost use Rattle.swift_reordering.specs.Fused.{EachIsFused};
 ghost use Rattle.swift_reordering.specs.FusedSteps.{ClosedHasEachExit, ClosedHasEachOutcome};
+ghost use Rattle.swift_reordering.specs.Waiting.{BeginsMayWait};
 
 /// A report in order has another with the same endings, fields and turns, in which each turn that looks away begins right before it runs,
 /// where no executor has folded turns and room never binds (our own).
@@ -18,4 +19,9 @@ pub fn closed_histories_have_each_outcome()
 /// Each turn of such a report ends as a turn does of a step after one of them (our own).
 pub fn closed_histories_have_each_exit()
     ensures { ClosedHasEachExit }
+{}
+
+/// The begin of a turn that looks away may wait for a block of another task (our own).
+pub fn begins_may_wait()
+    ensures { BeginsMayWait }
 {}
