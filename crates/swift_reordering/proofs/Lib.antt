@@ -12,3 +12,4 @@ pub mod Reports
 pub mod Closed
 pub mod Others
 pub mod Waits
+pub mod Telling

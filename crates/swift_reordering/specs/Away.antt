@@ -1,8 +1,10 @@
 -- Turns that do not look at what they are given of their task: neither at its priority nor at whether it is cancelled (our own).
-use Rattle.std.specs.Prelude.{ℕ, Bool, true, false, ◌&&◌, ◌||◌, is_some, Option, Some, None, List, [], ◌∷◌}
+use Rattle.std.specs.Prelude.{◌≡◌, ℕ, All, Bool, true, false, ◌&&◌, ◌||◌, is_some, Option, Some, None, List, [], ◌∷◌}
 use Rattle.swift_types.specs.declared.priority.Priority.{Priority}
 use Rattle.script_code.specs.Tree.{Term, CallTarget, Wanted, Operation, Code}
 use Rattle.script_code.specs.Tree as code
+use Rattle.script_code.specs.Instructions.{NextAction, ends, does, tests, first_by, FollowsCode}
+use Rattle.script_code.specs.declared.instruction.Instruction.{Instruction}
 use Rattle.swift_script.specs.Scripts.{ScriptView, method_code}
 use Rattle.swift_interpreter.specs.Frames.{FrameView}
 use Rattle.swift_history.specs.TurnEnds.{JobFacts}
@@ -66,3 +68,17 @@ frames_look_away script (p ∷ callers) = frame_looks_away script p
 abbrev pub job_looks_away : ScriptView → Option JobFacts → Bool
 job_looks_away script None = false
 job_looks_away script (Some j) = frames_look_away script j.frames.frames
+
+-- what comes next looks away, whatever follows it
+abbrev pub action_looks_away : NextAction → Bool
+action_looks_away ends = true
+action_looks_away (does d rest) = operation_looks_away d
+action_looks_away (tests t held failed) = term_looks_away t
+
+-- an instruction looks away, wherever it goes on
+abbrev pub instruction_looks_away : Instruction → Bool
+instruction_looks_away line = action_looks_away (first_by (λ k. code.end) line.act line.next line.other)
+
+-- A method looks away where each of its instructions does: to see that, each is read once.
+abbrev pub InstructionsTell : Type 0
+InstructionsTell = (instructions : List Instruction) (body : Code) (at : ℕ → Code) → FollowsCode instructions body at → All (λ line. instruction_looks_away line ≡ true) instructions → code_looks_away body ≡ true

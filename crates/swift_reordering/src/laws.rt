@@ -1,5 +1,6 @@
 //! What holds of histories whose turns begin late. A call costs nothing; its contract is the law.
 
+ghost use Rattle.swift_reordering.specs.Away.{InstructionsTell};
 ghost use Rattle.swift_reordering.specs.Fused.{EachIsFused};
 ghost use Rattle.swift_reordering.specs.FusedSteps.{ClosedHasEachExit, ClosedHasEachOutcome};
 ghost use Rattle.swift_reordering.specs.Waiting.{BeginsMayWait};
@@ -24,4 +25,9 @@ pub fn closed_histories_have_each_exit()
 /// The begin of a turn that looks away may wait for a block of another task (our own).
 pub fn begins_may_wait()
     ensures { BeginsMayWait }
+{}
+
+/// A method looks away where each of its instructions does (our own).
+pub fn instructions_tell()
+    ensures { InstructionsTell }
 {}
