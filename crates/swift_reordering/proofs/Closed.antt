@@ -1,24 +1,16 @@
 -- A list of histories that is closed under steps in which turns that look away begin and run has the outcome of each report.
-use Rattle.std.proofs.Common.{◌≡◌, ◌⊎◌, ℕ, ◌+◌, ◌*◌, ◌<◌, ◌≤◌, List, [], ◌∷◌, ◌++◌, length, refl, sym, ◌∙◌, ap, subst, subst₂, Bool, true, false, inl, inr, append_assoc, append-nil, arith}
+use Rattle.std.proofs.Common.{◌≡◌, ◌⊎◌, ℕ, ◌+◌, List, [], ◌∷◌, ◌++◌, refl, sym, ◌∙◌, ap, subst, inl, inr, append_assoc, append-nil, arith}
 use Rattle.std.specs.Prelude.{Option, Some, None, Contains, is_some, ◌||◌}
 use Rattle.std.specs.Option.{option_map}
-use Rattle.swift_types.specs.declared.limits.TheConstants.{TASKS, MADE}
-use Rattle.swift_types.specs.declared.outcome.Fault.{Fault}
-use Rattle.swift_types.specs.declared.outcome.Ending.{Ending}
-use Rattle.swift_script.specs.Scripts.{ScriptView, root_count, executor_count, method_code}
+use Rattle.swift_script.specs.Scripts.{ScriptView, root_count, method_code}
 use Rattle.swift_interpreter.specs.Frames.{FrameView}
-use Rattle.swift_interpreter.specs.Turn.{ExitView}
 use Rattle.swift_journal.specs.Records.{RecordView}
 use Rattle.swift_journal.specs.Checkpoints.{CheckpointView}
-use Rattle.swift_events.specs.declared.life.Origin.{Origin}
-use Rattle.swift_events.specs.declared.life.Life.{Life}
-use Rattle.swift_events.specs.Events.{tasks_of}
-use Rattle.swift_events.specs.Lives.{life_of}
 use Rattle.swift_history.specs.TurnEnds.{JobFacts}
-use Rattle.swift_history.specs.Histories.{Block, added, begun, ran, folded, Standing, at_first, after_blocks, folded_in, folded_of, Stands, AllStand, ReportView}
+use Rattle.swift_history.specs.Histories.{Block, added, begun, ran, at_first, after_blocks, folded_in, folded_of, Stands, AllStand, ReportView}
 use Rattle.swift_history.specs.Orderly.{AllAllowed, IsOrderly, IsOrderlyLegal}
 use Rattle.swift_laws.specs.Laws.{ActorsHaveExecutors}
-use Rattle.swift_digest.specs.Digests.{Digest, digest_of}
+use Rattle.swift_digest.specs.Digests.{Digest}
 use Rattle.swift_digest.specs.Plans.{FramePlan, JobPlan, plan_of, frame_plans, job_plan}
 use Rattle.swift_digest.specs.Futures.{LeadAlike, IsLike, AreLike}
 use Rattle.swift_digest.specs.Explored.{StartsFresh, IsOutcome, state_of, FoldsNone, IsNotFolded}
@@ -26,7 +18,6 @@ use Rattle.swift_digest.proofs.SameStands.{same_futures}
 use Rattle.swift_digest.proofs.SameLogs.{same_tasks}
 use Rattle.swift_digest.proofs.Outcomes.{NoneFolded, Made, made, none_in, not_folded, lead_on, orderly_too, outcome_too}
 use Rattle.swift_reordering.specs.Away.{frames_look_away, job_looks_away, code_looks_away}
-use Rattle.swift_reordering.specs.Blurred.{blurred}
 use Rattle.swift_reordering.specs.FusedSteps.{IsFusedStep, MayStep, HasRoom, AreClosed, HasExit, IsTried, ClosedHasEachOutcome, ClosedHasEachExit}
 use Rattle.swift_reordering.proofs.Near.{near_tasks}
 use Rattle.swift_reordering.proofs.Walks.{IsCourse, course_none, course_push}

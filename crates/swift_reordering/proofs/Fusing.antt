@@ -1,13 +1,11 @@
 -- A history goes on in one in which begins of turns that look away have been left out for later.
-use Rattle.std.proofs.Common.{◌≡◌, ◌≢◌, ◌⊎◌, ℕ, ℤ, ◌+◌, ◌*◌, ◌<◌, ◌≤◌, List, [], ◌∷◌, ◌++◌, length, refl, sym, ◌∙◌, ap, ap₂, subst, subst₂, Bool, true, false, inl, inr, append_assoc, append-nil, arith}
+use Rattle.std.proofs.Common.{◌≡◌, ◌≢◌, ◌⊎◌, ℕ, ℤ, ◌+◌, ◌*◌, ◌<◌, ◌≤◌, List, [], ◌∷◌, ◌++◌, refl, sym, ◌∙◌, ap, subst, subst₂, Bool, true, false, inl, inr, append_assoc, append-nil, arith}
 use Rattle.std.specs.Prelude.{Option, Some, None, Contains, ◌==◌, is_some, if◌then◌else◌}
-use Rattle.std.specs.List.{filter_map, cons_option}
+use Rattle.std.specs.List.{cons_option}
 use Rattle.std.proofs.lemmas.Bool.{cases_Bool, cases_eq, false≢true}
-use Rattle.std.proofs.lemmas.Option.{none-some, same_Some}
 use Rattle.std.proofs.lemmas.List.Elements.{filter_map-append}
 use Rattle.swift_types.specs.declared.limits.TheConstants.{TASKS, MADE}
 use Rattle.swift_types.specs.declared.env.Env.{Env}
-use Rattle.swift_types.specs.declared.outcome.Resume.{Resume}
 use Rattle.swift_script.specs.Scripts.{ScriptView, root_count, executor_count}
 use Rattle.swift_interpreter.specs.Frames.{FrameView}
 use Rattle.swift_interpreter.specs.Turn.{Played}
@@ -23,14 +21,14 @@ use Rattle.swift_events.specs.Events.{tasks_of}
 use Rattle.swift_events.specs.Lives.{life_of}
 use Rattle.swift_events.specs.Relations.{is_cancelled, links_of}
 use Rattle.swift_events.specs.Room.{IsEnv, room_of}
-use Rattle.swift_history.specs.Checks.{is_begun, is_under_way, is_current}
+use Rattle.swift_history.specs.Checks.{is_begun, is_under_way}
 use Rattle.swift_history.specs.TurnEnds.{JobFacts, task, root_job, root_events}
-use Rattle.swift_history.specs.Histories.{Block, added, begun, ran, folded, Standing, at_first, after_block, after_blocks, with_jobs, records_of, record_in, fields_of, turn_applied, TurnStands, RecordStands, Stands, AllStand}
+use Rattle.swift_history.specs.Histories.{Block, added, begun, ran, folded, Standing, at_first, after_block, after_blocks, with_jobs, record_in, fields_of, RecordStands, Stands}
 use Rattle.swift_history.specs.Orderly.{IsOrderly, job_executor}
 use Rattle.swift_escalation.specs.Waits.{IsPriority}
 use Rattle.swift_laws.specs.Laws.{ActorsHaveExecutors}
 use Rattle.swift_laws.proofs.HistoriesBegun.{all_begun}
-use Rattle.swift_laws.proofs.HistoriesGrow.{begins, keeps_block}
+use Rattle.swift_laws.proofs.HistoriesGrow.{keeps_block}
 use Rattle.swift_laws.proofs.HistoriesTurns.{after_push, current_is}
 use Rattle.swift_laws.proofs.OpenLogs.{has_origin, origin_stays}
 use Rattle.swift_digest.specs.Digests.{ChildrenAreNew}
@@ -40,15 +38,16 @@ use Rattle.swift_digest.proofs.Links.{same_priority}
 use Rattle.swift_digest.proofs.SameStands.{fields_push}
 use Rattle.swift_reordering.specs.Blurred.{AreNear, AreClose, blurred_stage, stage_at}
 use Rattle.swift_reordering.specs.Away.{frame_looks_away, frames_look_away, job_looks_away}
-use Rattle.swift_reordering.specs.Fused.{RunsNext, BeginLate, done_in, done_by}
+use Rattle.swift_reordering.specs.Fused.{RunsNext, BeginLate, done_in, done_by, no_env}
 use Rattle.swift_reordering.specs.FusedSteps.{IsFusedStep, HasExit}
 use Rattle.swift_reordering.proofs.Near.{near_on, near_begin, near_origin, near_tasks, near_stage, near_cancelled, near_links, near_current}
-use Rattle.swift_reordering.proofs.NearEnds.{AreJoint, HaveGoneOn, joint_first, joint_on}
+use Rattle.swift_reordering.proofs.NearEnds.{AreJoint, joint_first, joint_on}
 use Rattle.swift_reordering.proofs.Turning.{MayPlayIn, AppliedClose, in_own, applied_close, record_stands_too, same_play, takes_none}
 use Rattle.swift_reordering.proofs.Walks.{IsCourse, along, course_push}
 use Rattle.swift_reordering.proofs.Seats.{HasBegun, OnlyStay, turn_stays, root_stays, begin_other, begin_same, all_apart}
 use Rattle.swift_reordering.proofs.Rooms.{room_free}
 use Rattle.swift_reordering.proofs.Priorities.{priority_later}
+use Rattle.swift_events.proofs.LogLemmas.{unborn_without}
 
 -- where a turn has begun, each root is there
 
@@ -78,7 +77,7 @@ module _ (script : ScriptView) (cps : List CheckpointView) where
   all_roots bs course =
       along script cps (λ (xs : List Block). RootsWhereBegun script (at xs))
       (λ before b course stands orderly roots. subst (RootsWhereBegun script) (sym (after_push script (at_first script) before b)) (roots_next before b stands orderly roots))
-      (λ u has. absurd (false≢true (sym (ap (λ (l : Life). is_begun l.stage) (Rattle.swift_events.proofs.LogLemmas.unborn_without u [] refl)) ∙ has)))
+      (λ u has. absurd (false≢true (sym (ap (λ (l : Life). is_begun l.stage) (unborn_without u [] refl)) ∙ has)))
       bs course
 
   -- the lists grow
@@ -235,13 +234,13 @@ module _ (script : ScriptView) (cps : List CheckpointView) (May : ℕ → Type 0
           stages = subst (λ (a : Standing). (u : ℕ) → SameOrPutOff a z u) (sym (at_push script cps before (begun t n env)))
               (λ u. elim (cases_eq t u) [
                 | inl same ↦ inr (record {
-                    may = subst May same may;
-                    env = env;
-                    has_begun = ap (stage_at x.log) (sym same) ∙ begin_same t n env s.log;
-                    given = ap (stage_at z.log) (sym same) ∙ given_of (stage_at s.log t) (stage_at z.log t) under (orderly.1 t refl) (near_stage s.log z.log near t) (same_or_begun t);
-                    away = ap (λ (k : ℕ). job_looks_away script (s.jobs k)) (sym same) ∙ away;
-                    room = room;
-                  })
+                  may = subst May same may;
+                  env = env;
+                  has_begun = ap (stage_at x.log) (sym same) ∙ begin_same t n env s.log;
+                  given = ap (stage_at z.log) (sym same) ∙ given_of (stage_at s.log t) (stage_at z.log t) under (orderly.1 t refl) (near_stage s.log z.log near t) (same_or_begun t);
+                  away = ap (λ (k : ℕ). job_looks_away script (s.jobs k)) (sym same) ∙ away;
+                  room = room;
+                })
                 | inr ne ↦ elim (was.stages u) [
                   | inl one ↦ inl (begin_other t n env s.log u ne ∙ one)
                   | inr p ↦ inr (record { may = p.may; env = p.env; has_begun = begin_other t n env s.log u ne ∙ p.has_begun; given = p.given; away = p.away; room = p.room })
@@ -311,7 +310,7 @@ module _ (script : ScriptView) (cps : List CheckpointView) (May : ℕ → Type 0
       let stays : (u : ℕ) → HasBegun x.log u → (u ≢ r.task) × OnlyStay s x u = λ u has. turn_stays script s e r.task r.number r.effects r.exit r.after stands.job r.env r.frame stands.stands u has in
       record {
         course = now_z;
-        done = done_push script cps before (ran e r) ∙ ap (λ (bs : List Block). bs ++ ran e (record r { env = Rattle.swift_reordering.specs.Fused.no_env }) ∷ []) done ∙ sym (done_push script cps others (ran e q));
+        done = done_push script cps before (ran e r) ∙ ap (λ (bs : List Block). bs ++ ran e (record r { env = no_env }) ∷ []) done ∙ sym (done_push script cps others (ran e q));
         close = subst₂ AreClose (sym (at_push script cps before (ran e r))) (sym (at_push script cps others (ran e q))) (record { near = c.joint.near; held = c.held; jobs = c.jobs });
         fields = λ k. fields_push script cps k before (ran e r) ∙ added_if (e == k) r other may (fields_of script cps k before)
             ∙ ap (λ (f : List (List ℤ)). replay script f (cons_option (record_in k (ran e q)) [])) (fields k) ∙ sym (fields_push script cps k others (ran e q));
@@ -388,7 +387,7 @@ module _ (script : ScriptView) (cps : List CheckpointView) (May : ℕ → Type 0
           λ u same. elim (cases_Bool (is_begun (stage_at z.log u))) [
             | inl has ↦
                 let one : u ≡ t = all_apart script cps before course u t (begun_here before others was u has) (ap is_begun stands.stands.has_begun)
-                    (ap (job_executor script) (same_jobs before others was u) ∙ same ∙ ap (job_executor script) (sym (same_jobs before others was t))) in
+                (ap (job_executor script) (same_jobs before others was u) ∙ same ∙ ap (job_executor script) (sym (same_jobs before others was t))) in
                 absurd (false≢true (sym (ap is_begun (ap (stage_at z.log) one ∙ p.given)) ∙ has))
             | inr not ↦ not
           ],
@@ -427,26 +426,26 @@ module _ (script : ScriptView) (cps : List CheckpointView) (May : ℕ → Type 0
         let room = room_free script cps before course on few t in
         elim (cases_Bool (job_looks_away script ((at script cps before).jobs t))) [
           | inl away ↦ record {
-              more = [];
-              step = inl refl;
-              has = λ k p is. absurd (cc is);
-              put_off = subst (ArePutOff (before ++ begun t n env ∷ [])) (sym (append-nil others)) (put_off_on before others was t n env (any t) stands orderly away (stands.3.room ∙ room));
-            }
+            more = [];
+            step = inl refl;
+            has = λ k p is. absurd (cc is);
+            put_off = subst (ArePutOff (before ++ begun t n env ∷ [])) (sym (append-nil others)) (put_off_on before others was t n env (any t) stands orderly away (stands.3.room ∙ room));
+          }
           | inr looks ↦ record {
-              more = begun t n env ∷ [];
-              step = inr (ap (job_looks_away script) (sym (same_jobs before others was t)) ∙ looks);
-              has = λ k p is. absurd (cc is);
-              put_off = begin_on before others was t n env stands orderly (room ∙ sym (room_there before others few was t));
-            }
+            more = begun t n env ∷ [];
+            step = inr (ap (job_looks_away script) (sym (same_jobs before others was t)) ∙ looks);
+            has = λ k p is. absurd (cc is);
+            put_off = begin_on before others was t n env stands orderly (room ∙ sym (room_there before others few was t));
+          }
         ]
     goes_on before others (ran e r) course few was unfolded stands orderly = elim (was.stages r.task) [
       | inl same ↦ record {
-          more = ran e r ∷ [];
-          step = inr tt;
-          has = λ k p is. run_ends e k r p r (ran e r ∷ []) refl is (0, omega arith, refl);
-          put_off = run_on before others e r r.env course was.course stands (in_own script r.frame r.env) (sym same ∙ stands.stands.has_begun) was.close was.fields was.done
-              (λ u ne. was.stages u);
-        }
+        more = ran e r ∷ [];
+        step = inr tt;
+        has = λ k p is. run_ends e k r p r (ran e r ∷ []) refl is (0, omega arith, refl);
+        put_off = run_on before others e r r.env course was.course stands (in_own script r.frame r.env) (sym same ∙ stands.stands.has_begun) was.close was.fields was.done
+            (λ u ne. was.stages u);
+      }
       | inr p ↦ late_on before others e r course few was stands p
     ]
 

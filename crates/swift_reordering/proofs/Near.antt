@@ -1,31 +1,28 @@
 -- Digests that are one but for which turns under way have begun, and in which environments.
-use Rattle.std.proofs.Common.{◌≡◌, ◌≢◌, ◌⊎◌, ℕ, zero, suc, ◌+◌, List, [], ◌∷◌, ◌++◌, refl, sym, ◌∙◌, ap, ap₂, subst, subst₂, Bool, true, false, inl, inr, cond, append-nil, append_assoc, arith}
+use Rattle.std.proofs.Common.{◌≡◌, ℕ, zero, suc, ◌+◌, List, [], ◌∷◌, ◌++◌, refl, sym, ◌∙◌, ap, ap₂, subst, Bool, true, false, append-nil, arith}
 use Rattle.std.specs.Prelude.{Option, Some, None, ◌==◌, ◌||◌, ◌&&◌, ◌-◌, ◌^◌, nat_lt, if◌then◌else◌}
-use Rattle.std.proofs.lemmas.Bool.{cases_Bool, cases_eq, eqb-true, eq-eqb, ne_eqb}
-use Rattle.swift_types.specs.declared.id.TaskId.{TaskId}
+use Rattle.std.proofs.lemmas.Bool.{eqb-true}
 use Rattle.swift_types.specs.declared.env.Env.{Env}
 use Rattle.swift_types.specs.declared.outcome.Resume.{Resume}
 use Rattle.swift_escalation.specs.declared.waits.PriorityEvent.{PriorityEvent as Link}
-use Rattle.swift_types.specs.declared.outcome.Ending.{Ending}
 use Rattle.swift_events.specs.declared.event.Event.{Event}
 use Rattle.swift_events.specs.declared.event.Event.TheVariants.{Begin}
 use Rattle.swift_events.specs.declared.life.Life.{Life}
 use Rattle.swift_events.specs.declared.life.LastJob.{LastJob}
-use Rattle.swift_events.specs.declared.life.Origin.{Origin}
 use Rattle.swift_events.specs.declared.life.JobStage.{JobStage}
 use Rattle.swift_events.specs.declared.life.JobStage.TheVariants.{Given, Begun, Applied, Waits, Asks, Closes}
-use Rattle.swift_events.specs.Events.{task_of, later, tasks_of}
+use Rattle.swift_events.specs.Events.{task_of, later, tasks_of, is_made}
 use Rattle.swift_events.specs.Lives.{life_of, lived, stage_in}
 use Rattle.swift_events.specs.Relations.{own_tasks, waiters_of, opened_by, is_closed, group_of, parent_of, is_cancelled, is_cancelled_group, links_of}
 use Rattle.swift_events.proofs.Cancels.{of_parent_same}
-use Rattle.swift_events.proofs.LogLemmas.{life_of-push_same, life_of-push_other}
-use Rattle.swift_history.specs.Checks.{is_under_way, is_current, is_begun, was_given}
+use Rattle.swift_history.specs.Checks.{is_under_way, is_current, was_given}
 use Rattle.swift_history.specs.TurnEnds.{task}
-use Rattle.swift_digest.specs.Digests.{Card, GroupCard, Digest, digest_of, all_noted, noted, card_noted, group_noted, said, one_if, own_link, ChildrenAreNew, HasLink, parent_in, group_in, cancelled_in, is_cancelled_in, is_cancelled_group_in}
+use Rattle.swift_digest.specs.Digests.{Card, GroupCard, Digest, digest_of, all_noted, noted, card_noted, group_noted, one_if, ChildrenAreNew, HasLink, parent_in, group_in, cancelled_in, is_cancelled_in, is_cancelled_group_in}
 use Rattle.swift_digest.proofs.Cards.{digest_of-append, digest_of-push}
 use Rattle.swift_digest.proofs.Answers.{tasks_of_is, life_of_is, parent_of_is, own_tasks_is, opened_by_is, waiters_of_is, is_closed_is, group_of_is, is_cancelled_is, is_cancelled_group_is}
 use Rattle.swift_reordering.specs.Blurred.{blurred_stage, blurred_life, blurred, AreNear}
 use Rattle.swift_digest.proofs.Links.{AreWithin, link_in_digest, link_in_log}
+use Rattle.std.specs.List.{cons_option}
 
 blurred_twice : (s : Option JobStage) → blurred_stage s ≡ blurred_stage (blurred_stage s)
 blurred_twice None = refl
@@ -46,7 +43,7 @@ life_blurred false l e = ap (λ (s : Option JobStage). record l { stage = s }) (
 
 noted_blurred : (d : Digest) (e : Event) → blurred (noted d e) ≡ blurred (noted (blurred d) e)
 noted_blurred d e = λ k. record {
-  made = d.made + one_if (Rattle.swift_events.specs.Events.is_made e);
+  made = d.made + one_if (is_made e);
   cards = λ t. record (card_noted t (d.cards t) e) { life = life_blurred (task_of e == t) (d.cards t).life e k };
   groups = λ o g. group_noted o g (d.groups o g) e;
 }
@@ -135,7 +132,7 @@ or_none false = refl
 none_more : (n : ℕ) → n + 0 ≡ n
 none_more n = omega arith
 
-no_link : (b : Bool) → Rattle.std.specs.List.cons_option (if b then none_said else none_said) [] ≡ []
+no_link : (b : Bool) → cons_option (if b then none_said else none_said) [] ≡ []
 no_link true = refl
 no_link false = refl
 

@@ -142,7 +142,6 @@ same_made script t own (e ∷ es) a b same =
     ap₂ (λ (xs ys : List JobFacts). xs ++ ys) (same_job a b same script t e)
     (same_made script t own es (a ++ effect_events (root_count script) t own a e) (b ++ effect_events (root_count script) t own b e) (near_on a b _ _ same (same_effect a b same (root_count script) t own e)))
 
-
 -- how far each task's job is after the same events: as in the other log, or as before in both
 
 abbrev pub HaveGoneOn : List Event → List Event → List Event → List Event → Type 0

@@ -1,8 +1,8 @@
 -- A turn changes nothing of the job of another task that has one: neither how far it is, nor what it is.
-use Rattle.std.proofs.Common.{◌≡◌, ◌≢◌, ◌⊎◌, ℕ, ◌+◌, List, [], ◌∷◌, ◌++◌, length, refl, sym, ◌∙◌, ap, ap₂, subst, Bool, true, false, inl, inr, append_assoc, append-nil}
-use Rattle.std.specs.Prelude.{Option, Some, None, ◌==◌, if◌then◌else◌, replicate}
+use Rattle.std.proofs.Common.{◌≡◌, ◌≢◌, ℕ, List, [], ◌∷◌, ◌++◌, refl, sym, ◌∙◌, ap, subst, Bool, true, inl, inr, append_assoc, append-nil}
+use Rattle.std.specs.Prelude.{Option, Some, None, ◌==◌, if◌then◌else◌}
 use Rattle.std.specs.List.{AllByRecursion}
-use Rattle.std.proofs.lemmas.Bool.{cases_Bool, cases_eq, eqb-true, ne_eqb, false≢true}
+use Rattle.std.proofs.lemmas.Bool.{cases_eq, ne_eqb, false≢true}
 use Rattle.swift_types.specs.declared.env.Env.{Env}
 use Rattle.swift_types.specs.declared.priority.Priority.{Priority}
 use Rattle.swift_script.specs.Scripts.{ScriptView, root_count, root_priority}
@@ -18,7 +18,7 @@ use Rattle.swift_events.specs.Events.{later, task_of}
 use Rattle.swift_events.specs.Lives.{life_of, stage_in, given_in}
 use Rattle.swift_events.proofs.LogLemmas.{life_of-push_same, life_of-push_other}
 use Rattle.swift_history.specs.Checks.{is_under_way}
-use Rattle.swift_history.specs.TurnEnds.{JobFacts, AfterTurn, TurnEnd, task, gives, root_job, root_events, exit_events, exit_resume, followed, jobs_made, log_after, turn_end}
+use Rattle.swift_history.specs.TurnEnds.{JobFacts, TurnEnd, task, gives, root_job, exit_events, log_after, turn_end}
 use Rattle.swift_history.specs.Histories.{added, Standing, after_block, with_jobs, taken, begun_priority, left_as, turn_applied, TurnStands}
 use Rattle.swift_laws.proofs.HistoriesCounted.{AreCounted}
 use Rattle.swift_laws.proofs.HistoriesTurns.{Resting, applied_is, current_is, turn_follows}
@@ -44,9 +44,9 @@ job_other first u log e ne same = (let is = life_of-push_other u log e ne in rec
 job_quiet : (first : List Event) (u : ℕ) (log : List Event) (e : Event) → SaysNoJob e → SameJob first u log → SameJob first u (log ++ e ∷ [])
 job_quiet first u log e quiet same = elim (cases_eq (task_of e) u) [
   | inl one ↦ (let is = life_of-push_same u log e one in record {
-      stage = ap (λ (l : Life). l.stage) is ∙ ap (λ (x : Option JobStage). later x (stage_at log u)) quiet.0 ∙ same.stage;
-      given = ap (λ (l : Life). l.given) is ∙ ap (λ (x : Option LastJob). later x (given_at log u)) quiet.1 ∙ same.given;
-    })
+    stage = ap (λ (l : Life). l.stage) is ∙ ap (λ (x : Option JobStage). later x (stage_at log u)) quiet.0 ∙ same.stage;
+    given = ap (λ (l : Life). l.given) is ∙ ap (λ (x : Option LastJob). later x (given_at log u)) quiet.1 ∙ same.given;
+  })
   | inr ne ↦ job_other first u log e ne same
 ]
 

@@ -1,8 +1,7 @@
 -- A turn that looks away plays the same in each environment with the same room.
-use Rattle.std.proofs.Common.{◌≡◌, ◌⊎◌, ℕ, zero, suc, ℤ, List, [], ◌∷◌, ◌++◌, refl, sym, ◌∙◌, ap, ap₂, subst, Bool, true, false, inl, inr}
-use Rattle.std.specs.Prelude.{Option, Some, None, ◌&&◌, ◌||◌, is_some, pos, if◌then◌else◌, nat_lt, ◌^◌, slice_get, unwrap_or}
+use Rattle.std.proofs.Common.{◌≡◌, ℕ, zero, suc, ℤ, List, [], ◌∷◌, ◌++◌, refl, ◌∙◌, ap, ap₂, subst, Bool, true, false}
+use Rattle.std.specs.Prelude.{Option, Some, None, ◌&&◌, ◌||◌, is_some, pos, if◌then◌else◌, nat_lt, ◌^◌, slice_get, unwrap_or, neg_ℤ}
 use Rattle.std.specs.List.{AllByRecursion}
-use Rattle.std.proofs.lemmas.Bool.{cases_Bool}
 use Rattle.swift_types.specs.declared.outcome.Fault.{Fault}
 use Rattle.swift_types.specs.declared.outcome.Fault.TheVariants.{Turns, Invariant}
 use Rattle.swift_types.specs.declared.outcome.Resume.{Resume}
@@ -12,8 +11,8 @@ use Rattle.swift_types.specs.declared.priority.Priority.{Priority}
 use Rattle.swift_types.specs.declared.env.Env.{Env}
 use Rattle.script_code.specs.Tree.{Term, CallTarget, Wanted, Operation, Code, followed}
 use Rattle.script_code.specs.Tree as code
-use Rattle.script_code.specs.Layout.{entry, stands_for, code_written, exchanged, code_at}
-use Rattle.script_code.specs.Value.{Scene, and_then, joined, ev, evs, in_front, is_zero}
+use Rattle.script_code.specs.Layout.{entry, stands_for, exchanged, code_at}
+use Rattle.script_code.specs.Value.{Scene, and_then, joined, ev, evs, in_front, is_zero, flag, within}
 use Rattle.script_code.specs.Instructions.{NextAction, first, ends, does, tests}
 use Rattle.script_code.specs.declared.instruction.NumberPlace.{NumberPlace}
 use Rattle.script_code.specs.declared.instruction.NumberPlace.TheVariants.{Variable, Field}
@@ -24,7 +23,9 @@ use Rattle.swift_interpreter.specs.Turn as Turn
 use Rattle.swift_turn.specs.Body.{kept_turn, invariants_at, state_at}
 use Rattle.swift_laws.proofs.HistoriesTurns.{all_append, both}
 use Rattle.swift_reordering.specs.Away.{term_looks_away, terms_look_away, term_if_looks_away, wanted_looks_away, operation_looks_away, code_looks_away, frame_looks_away}
-use Rattle.swift_reordering.proofs.NearEnds.{TakesNone, takes_own}
+use Rattle.swift_reordering.proofs.NearEnds.{TakesNone}
+use Rattle.script_code.specs.declared.instruction.Cancelled.{Cancelled}
+use Rattle.script_code.specs.declared.instruction.Cancelled.TheVariants as subject
 
 -- expressions
 
@@ -39,8 +40,8 @@ module _ (variables : List ℤ) (fields : List (List ℤ)) (bindings : List (ℕ
   same_value (code.local l d) away = refl
   same_value code.priority away = absurd (cc away)
   same_value code.cancelled away = absurd (cc away)
-  same_value (code.opposite t) away = ap (λ (o : Option ℤ). and_then o (λ x. Rattle.script_code.specs.Value.within (Rattle.std.specs.Prelude.neg_ℤ x))) (same_value t away)
-  same_value (code.denial t) away = ap (λ (o : Option ℤ). and_then o (λ x. Some (Rattle.script_code.specs.Value.flag (is_zero x)))) (same_value t away)
+  same_value (code.opposite t) away = ap (λ (o : Option ℤ). and_then o (λ x. within (neg_ℤ x))) (same_value t away)
+  same_value (code.denial t) away = ap (λ (o : Option ℤ). and_then o (λ x. Some (flag (is_zero x)))) (same_value t away)
   same_value (code.binary op a b) away =
       let parts = both (term_looks_away a) (term_looks_away b) away in
       ap₂ (λ (o u : Option ℤ). and_then o (λ x. joined op x u)) (same_value a parts.0) (same_value b parts.1)
@@ -100,10 +101,10 @@ spawn_none : (i : InvocationView) (p : Option Priority) (bindings : List (ℕ ×
 spawn_none i None bindings is = absurd (cc is)
 spawn_none i (Some p) bindings is = refl
 
-cancel_none : (handles : List ℕ) (c : Rattle.script_code.specs.declared.instruction.Cancelled.Cancelled) → TakesNone (Turn.cancel_of handles c)
-cancel_none handles (Rattle.script_code.specs.declared.instruction.Cancelled.TheVariants.Root r) = refl
-cancel_none handles (Rattle.script_code.specs.declared.instruction.Cancelled.TheVariants.Task h) = refl
-cancel_none handles (Rattle.script_code.specs.declared.instruction.Cancelled.TheVariants.Group h) = refl
+cancel_none : (handles : List ℕ) (c : Cancelled) → TakesNone (Turn.cancel_of handles c)
+cancel_none handles (subject.Root r) = refl
+cancel_none handles (subject.Task h) = refl
+cancel_none handles (subject.Group h) = refl
 
 -- joined statements
 

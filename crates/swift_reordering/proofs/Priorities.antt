@@ -1,6 +1,6 @@
 -- A task that has a priority has one once more tasks were added and have waited.
-use Rattle.std.proofs.Common.{◌≡◌, ◌⊎◌, ℕ, zero, suc, ◌+◌, ◌<◌, ◌≤◌, List, [], ◌∷◌, ◌++◌, length, refl, sym, ◌∙◌, ap, ap₂, subst, Bool, true, false, inl, inr, arith, slice_index_or}
-use Rattle.std.specs.Prelude.{Option, Some, None, ◌==◌, ◌&&◌, ◌||◌, Contains}
+use Rattle.std.proofs.Common.{◌≡◌, ◌⊎◌, ℕ, zero, suc, ◌<◌, ◌≤◌, List, [], ◌∷◌, ◌++◌, length, refl, sym, ◌∙◌, ap, ap₂, subst, Bool, true, false, inl, inr, arith, slice_index_or}
+use Rattle.std.specs.Prelude.{◌==◌, ◌&&◌, ◌||◌, Contains}
 use Rattle.std.proofs.lemmas.Bool.{cases_Bool, eqb-true, eq-eqb, false≢true}
 use Rattle.std.proofs.lemmas.List.Elements.{Contains-append_right, filter_map-append}
 use Rattle.swift_types.specs.Priority.{rank}
@@ -227,25 +227,25 @@ module _ (all : List Link) (t : TaskId) where
   }
   greatest_take l ls u p it r (inl g) = elim (le_or (rank g.priority) (rank p)) [
     | inl up ↦ record {
-        from = u;
-        priority = p;
-        given = given_here l ls u p it;
-        reached = r;
-        greatest = λ s q is also. elim (given_cases l ls s q is) [
-          | inl here ↦ (let same = ap rank (gives_one l u s p q it here).1 in omega (arith, same))
-          | inr more ↦ (let le = g.greatest s q more also in omega (arith, le, up))
-        ];
-      }
+      from = u;
+      priority = p;
+      given = given_here l ls u p it;
+      reached = r;
+      greatest = λ s q is also. elim (given_cases l ls s q is) [
+        | inl here ↦ (let same = ap rank (gives_one l u s p q it here).1 in omega (arith, same))
+        | inr more ↦ (let le = g.greatest s q more also in omega (arith, le, up))
+      ];
+    }
     | inr down ↦ record {
-        from = g.from;
-        priority = g.priority;
-        given = given_on l ls g.from g.priority g.given;
-        reached = g.reached;
-        greatest = λ s q is also. elim (given_cases l ls s q is) [
-          | inl here ↦ (let same = ap rank (gives_one l u s p q it here).1 in omega (arith, same, down))
-          | inr more ↦ g.greatest s q more also
-        ];
-      }
+      from = g.from;
+      priority = g.priority;
+      given = given_on l ls g.from g.priority g.given;
+      reached = g.reached;
+      greatest = λ s q is also. elim (given_cases l ls s q is) [
+        | inl here ↦ (let same = ap rank (gives_one l u s p q it here).1 in omega (arith, same, down))
+        | inr more ↦ g.greatest s q more also
+      ];
+    }
   ]
 
   greatest_of : (ls : List Link) → Greatest ls ⊎ NoneReaches ls

@@ -1,14 +1,13 @@
 -- Room never binds while there are few tasks: the executors' turns have reserved 16 tasks each at most.
-use Rattle.std.proofs.Common.{◌≡◌, ◌≢◌, ◌⊎◌, ℕ, zero, suc, ◌+◌, ◌-◌, ◌*◌, ◌<◌, ◌≤◌, List, [], ◌∷◌, ◌++◌, refl, sym, ◌∙◌, ap, subst, Bool, true, false, inl, inr, arith}
-use Rattle.std.specs.Prelude.{Option, Some, None, ◌==◌, if◌then◌else◌, sum_by, unwrap_or, min, map}
+use Rattle.std.proofs.Common.{◌≡◌, ◌≢◌, ◌⊎◌, ℕ, zero, suc, ◌+◌, ◌*◌, ◌<◌, ◌≤◌, List, [], ◌∷◌, refl, sym, ◌∙◌, ap, subst, Bool, inl, inr, arith}
+use Rattle.std.specs.Prelude.{Option, Some, None, ◌==◌, if◌then◌else◌, sum_by, unwrap_or, map}
 use Rattle.std.specs.List.{range_with_len}
 use Rattle.std.proofs.Math.Nat.{min-eq_left, min-le_left}
-use Rattle.std.proofs.lemmas.Bool.{cases_Bool, cases_eq, eqb-true, eq-eqb, ne_eqb, false≢true}
+use Rattle.std.proofs.lemmas.Bool.{cases_eq, eq-eqb, ne_eqb, false≢true}
 use Rattle.std.proofs.lemmas.List.FromFn.{sum_by-map-range_with_len_more}
 use Rattle.swift_types.specs.declared.env.Env.{Env}
 use Rattle.swift_types.specs.declared.limits.TheConstants.{TASKS, MADE}
 use Rattle.swift_script.specs.Scripts.{ScriptView, root_count, executor_count, actor_executor, method_actor}
-use Rattle.swift_turn.specs.Body.{HasFrames}
 use Rattle.swift_journal.specs.Checkpoints.{CheckpointView}
 use Rattle.swift_events.specs.declared.event.Event.{Event}
 use Rattle.swift_events.specs.declared.life.Life.{Life}
@@ -20,14 +19,15 @@ use Rattle.swift_events.specs.Room.{lives_of, reserved_of, room_of}
 use Rattle.swift_history.specs.Checks.{is_begun}
 use Rattle.swift_history.specs.TurnEnds.{JobFacts}
 use Rattle.swift_history.specs.Histories.{Block, added, begun, ran, folded, Standing, at_first, after_block, after_blocks, Stands}
-use Rattle.swift_history.specs.Orderly.{IsOrderly, job_executor}
+use Rattle.swift_history.specs.Orderly.{job_executor}
 use Rattle.swift_laws.specs.Laws.{ActorsHaveExecutors}
 use Rattle.swift_laws.proofs.HistoriesBegun.{all_begun}
 use Rattle.swift_laws.proofs.HistoriesTurns.{after_push}
 use Rattle.swift_reordering.specs.Blurred.{stage_at}
 use Rattle.swift_reordering.proofs.Walks.{IsCourse, along, course_none}
-use Rattle.swift_reordering.proofs.Seats.{HasBegun, OnlyStay, AreApart, turn_stays, root_stays, begin_other, all_apart}
+use Rattle.swift_reordering.proofs.Seats.{HasBegun, OnlyStay, turn_stays, root_stays, begin_other, all_apart}
 use Rattle.swift_reordering.proofs.Framed.{all_framed, has_root, seat_of}
+use Rattle.swift_events.proofs.LogLemmas.{unborn_without}
 
 -- what the first n of some numbers make in all
 abbrev total : (ℕ → ℕ) → ℕ → ℕ
@@ -102,19 +102,19 @@ total_none w (suc n) none = let a = total_none w n none in let b = none n in ome
 
 few_in_all : (seats : ℕ) (w seat : ℕ → ℕ) → Small w → OneEach w seat → ((t : ℕ) → 0 < w t → seat t < seats) → (n : ℕ) → total w n ≤ 16 * seats
 few_in_all zero w seat small one low n =
-    let none = total_none w n (λ t. elim (zero_or (w t)) [ | inl is ↦ is | inr some ↦ (let lt = low t some in absurd (omega (arith, lt))) ]) in
+    let none = total_none w n (λ t. elim (zero_or (w t)) [ inl is ↦ is | inr some ↦ (let lt = low t some in absurd (omega (arith, lt))) ]) in
     omega (arith, none)
 few_in_all (suc seats) w seat small one low n =
     let less = without_less w seat seats in
     let first = one_left w seat seats small one n in
     let rest = few_in_all seats (without w seat seats) seat
-        (λ t. (let a = less t in let b = small t in omega (arith, a, b)))
-        (λ t u some also at. (let a = less t in let b = less u in one t u (omega (arith, a, some)) (omega (arith, b, also)) at))
-        (λ t some. elim (cases_eq (seat t) seats) [
-          | inl same ↦ (let is : without w seat seats t ≡ 0 = ap (λ (b : Bool). if b then 0 else w t) (eq-eqb (seat t) seats same) in absurd (omega (arith, is, some)))
-          | inr other ↦ (let a = less t in let lt = low t (omega (arith, a, some)) in omega (arith, lt, other))
-        ])
-        n in
+    (λ t. (let a = less t in let b = small t in omega (arith, a, b)))
+    (λ t u some also at. (let a = less t in let b = less u in one t u (omega (arith, a, some)) (omega (arith, b, also)) at))
+    (λ t some. elim (cases_eq (seat t) seats) [
+      | inl same ↦ (let is : without w seat seats t ≡ 0 = ap (λ (b : Bool). if b then 0 else w t) (eq-eqb (seat t) seats same) in absurd (omega (arith, is, some)))
+      | inr other ↦ (let a = less t in let lt = low t (omega (arith, a, some)) in omega (arith, lt, other))
+    ])
+    n in
     omega (arith, first, rest)
 
 -- in a history
@@ -158,7 +158,7 @@ module _ (script : ScriptView) (cps : List CheckpointView) where
   all_have bs course =
       along script cps (λ (xs : List Block). HaveJobs (after_blocks script (at_first script) xs))
       (λ before b course stands orderly have. subst HaveJobs (sym (after_push script (at_first script) before b)) (have_next before b stands have))
-      (λ u has. absurd (false≢true (sym (ap (λ (l : Life). is_begun l.stage) (Rattle.swift_events.proofs.LogLemmas.unborn_without u [] refl)) ∙ has)))
+      (λ u has. absurd (false≢true (sym (ap (λ (l : Life). is_begun l.stage) (unborn_without u [] refl)) ∙ has)))
       bs course
 
   module _ (bs : List Block) (course : IsCourse script cps bs) (on : ActorsHaveExecutors script) where
@@ -180,7 +180,7 @@ module _ (script : ScriptView) (cps : List CheckpointView) where
         (actor_executor script (method_actor script p.0.method), ap (job_executor script) j.1 ∙ p.1, λ root. on root (method_actor script p.0.method))
 
     some_block : (xs : List Block) → IsCourse script cps xs → (u : ℕ) → HasBegun (after_blocks script (at_first script) xs).log u → 0 < root_count script
-    some_block [] c u has = absurd (false≢true (sym (ap (λ (l : Life). is_begun l.stage) (Rattle.swift_events.proofs.LogLemmas.unborn_without u [] refl)) ∙ has))
+    some_block [] c u has = absurd (false≢true (sym (ap (λ (l : Life). is_begun l.stage) (unborn_without u [] refl)) ∙ has))
     some_block (b ∷ xs) c u has = has_root script cps [] b (course_none script cps) c.stand.0
 
     held_few : Small held_of

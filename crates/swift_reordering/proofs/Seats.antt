@@ -1,12 +1,10 @@
 -- Executors run one turn at a time: two tasks whose turns have begun are at different executors.
-use Rattle.std.proofs.Common.{◌≡◌, ◌≢◌, ◌⊎◌, ℕ, ◌+◌, ◌<◌, List, [], ◌∷◌, ◌++◌, length, refl, sym, ◌∙◌, ap, ap₂, subst, subst₂, Bool, true, false, inl, inr, append_assoc, append-nil, replicate}
+use Rattle.std.proofs.Common.{◌≡◌, ◌≢◌, ℕ, List, [], ◌∷◌, ◌++◌, refl, sym, ◌∙◌, ap, subst, Bool, true, false, inl, inr, append_assoc, append-nil}
 use Rattle.std.specs.Prelude.{Option, Some, None, ◌==◌, if◌then◌else◌}
-use Rattle.std.specs.List.{AllByRecursion}
-use Rattle.std.proofs.lemmas.Bool.{cases_Bool, cases_eq, eq-eqb, eqb-true, false≢true}
-use Rattle.std.proofs.lemmas.Option.{none-some}
+use Rattle.std.proofs.lemmas.Bool.{cases_Bool, cases_eq, eq-eqb, eqb-true, false≢true, ne_eqb}
 use Rattle.swift_types.specs.declared.env.Env.{Env}
 use Rattle.swift_types.specs.declared.priority.Priority.{Priority}
-use Rattle.swift_script.specs.Scripts.{ScriptView, root_count, root_priority, executor_count, actor_executor, method_actor}
+use Rattle.swift_script.specs.Scripts.{ScriptView, root_count, root_priority}
 use Rattle.swift_interpreter.specs.Frames.{FrameView}
 use Rattle.swift_interpreter.specs.Turn.{EffectView, ExitView}
 use Rattle.swift_turn.specs.Body.{Advanced, advanced}
@@ -14,11 +12,11 @@ use Rattle.swift_journal.specs.Checkpoints.{CheckpointView}
 use Rattle.swift_events.specs.declared.event.Event.{Event}
 use Rattle.swift_events.specs.declared.event.Event.TheVariants.{Root, Begin, Apply, Free, Open, Child, Skip, CancelTask, CancelGroup, Wait, Next, Close, End, Give}
 use Rattle.swift_events.specs.declared.life.JobStage.{JobStage}
-use Rattle.swift_events.specs.declared.life.JobStage.TheVariants.{Given, Begun}
+use Rattle.swift_events.specs.declared.life.JobStage.TheVariants.{Given, Begun, Applied}
 use Rattle.swift_events.specs.Events.{later, task_of}
 use Rattle.swift_events.specs.Lives.{life_of, stage_in}
 use Rattle.swift_history.specs.Checks.{is_begun}
-use Rattle.swift_history.specs.TurnEnds.{JobFacts, AfterTurn, TurnEnd, task, gives, root_job, root_events, exit_events, exit_resume, followed, jobs_made, log_after, turn_end}
+use Rattle.swift_history.specs.TurnEnds.{JobFacts, TurnEnd, task, gives, root_job, root_events, exit_events, log_after, turn_end}
 use Rattle.swift_history.specs.Histories.{Block, added, begun, ran, folded, Standing, at_first, after_block, after_blocks, with_jobs, taken, begun_priority, left_as, turn_applied, TurnStands, Stands}
 use Rattle.swift_history.specs.Orderly.{IsOrderly, job_executor}
 use Rattle.swift_laws.proofs.HistoriesTurns.{after_push, applied_is}
@@ -26,6 +24,8 @@ use Rattle.swift_laws.proofs.HistoriesGrow.{begins, keeps_applied, keeps_turn}
 use Rattle.swift_reordering.specs.Blurred.{stage_at}
 use Rattle.swift_reordering.proofs.NearEnds.{stage_push}
 use Rattle.swift_reordering.proofs.Walks.{IsCourse, along}
+use Rattle.swift_events.proofs.LogLemmas.{unborn_without}
+use Rattle.swift_events.specs.declared.life.Life.{Life}
 
 -- whether the turn of a task has begun
 abbrev pub HasBegun : List Event → ℕ → Type 0
@@ -101,12 +101,12 @@ module _ (script : ScriptView) (s : Standing) where
       let written : List Event = done ++ exit_events t done exit adv.step in
       let stage : stage_at x.log u ≡ stage_at s.log u = keeps_turn (OnlyStays s.log u) (stays_push s.log u) script s.log s.held t n own effects exit adv (λ _. refl) now in
       let apart : u ≢ t = λ same.
-      (let applied : stage_at begun_log u ≡ Some Rattle.swift_events.specs.declared.life.JobStage.TheVariants.Applied = stage_push u s.log (Apply (task t) n)
-          ∙ ap (λ (b : Bool). later (if b then Some Rattle.swift_events.specs.declared.life.JobStage.TheVariants.Applied else None) (stage_at s.log u)) (eq-eqb t u (sym same)) in
+      (let applied : stage_at begun_log u ≡ Some Applied = stage_push u s.log (Apply (task t) n)
+      ∙ ap (λ (b : Bool). later (if b then Some Applied else None) (stage_at s.log u)) (eq-eqb t u (sym same)) in
       let kept : stage_at x.log u ≡ stage_at begun_log u = keeps_applied (OnlyStays begun_log u) (stays_push begun_log u) script s.log s.held t n own effects exit adv (λ _. refl) now in
       false≢true (sym (ap is_begun (kept ∙ applied)) ∙ now)) in
       let jobs : with_jobs x.jobs (taken t s.jobs) u ≡ s.jobs u =
-      with_gives x.jobs written (taken t s.jobs) u now ∙ ap (λ (b : Bool). if b then None else s.jobs u) (Rattle.std.proofs.lemmas.Bool.ne_eqb u t apart) in
+      with_gives x.jobs written (taken t s.jobs) u now ∙ ap (λ (b : Bool). if b then None else s.jobs u) (ne_eqb u t apart) in
       subst (λ (z : Standing). (u ≢ t) × OnlyStay s z u) (sym is) (apart, record { stage = stage; job = jobs })
 
   pub root_stays : (r u : ℕ) → HasBegun (s.log ++ root_events script r) u → OnlyStay s (after_block script s (added r)) u
@@ -131,7 +131,7 @@ apart_stays script s z apart stays u v has also same =
 
 -- a begin is of one task
 pub begin_other : (t n : ℕ) (env : Env) (log : List Event) (u : ℕ) → t ≢ u → stage_at (log ++ Begin (task t) n env ∷ []) u ≡ stage_at log u
-begin_other t n env log u ne = stage_push u log (Begin (task t) n env) ∙ ap (λ (b : Bool). later (if b then Some (Begun env) else None) (stage_at log u)) (Rattle.std.proofs.lemmas.Bool.ne_eqb t u ne)
+begin_other t n env log u ne = stage_push u log (Begin (task t) n env) ∙ ap (λ (b : Bool). later (if b then Some (Begun env) else None) (stage_at log u)) (ne_eqb t u ne)
 
 pub begin_same : (t n : ℕ) (env : Env) (log : List Event) → stage_at (log ++ Begin (task t) n env ∷ []) t ≡ Some (Begun env)
 begin_same t n env log = stage_push t log (Begin (task t) n env) ∙ ap (λ (b : Bool). later (if b then Some (Begun env) else None) (stage_at log t)) (eq-eqb t t refl)
@@ -171,5 +171,5 @@ module _ (script : ScriptView) (cps : List CheckpointView) where
       (λ u v has also same. absurd (false≢true (sym (ap is_begun (none_at u)) ∙ has)))
       bs course
     where
-    none_at : (u : ℕ) → stage_at [] u ≡ None
-    none_at u = ap (λ (l : Rattle.swift_events.specs.declared.life.Life.Life). l.stage) (Rattle.swift_events.proofs.LogLemmas.unborn_without u [] refl)
+      none_at : (u : ℕ) → stage_at [] u ≡ None
+      none_at u = ap (λ (l : Life). l.stage) (unborn_without u [] refl)

@@ -1,12 +1,12 @@
 -- A method whose instructions look away looks away.
-use Rattle.std.proofs.Common.{◌≡◌, ℕ, zero, suc, List, [], ◌∷◌, refl, sym, ◌∙◌, ap, subst, Bool, true, false}
+use Rattle.std.proofs.Common.{◌≡◌, ℕ, zero, suc, List, [], ◌∷◌, refl, sym, ◌∙◌, ap, Bool, true, false}
 use Rattle.std.specs.Prelude.{Option, Some, None, All, Contains, ◌&&◌, slice_get}
 use Rattle.std.proofs.lemmas.Bool.{false≢true}
 use Rattle.std.proofs.lemmas.Option.{same_Some, none-some}
 use Rattle.std.proofs.lemmas.List.Elements.{All-contains}
 use Rattle.script_code.specs.Tree.{Term, Operation, Code, followed}
 use Rattle.script_code.specs.Tree as code
-use Rattle.script_code.specs.Instructions.{NextAction, ends, does, tests, first, first_by, first_if, FollowsCode}
+use Rattle.script_code.specs.Instructions.{does, tests, first, first_by, first_if, FollowsCode}
 use Rattle.script_code.specs.declared.instruction.Act.{Act}
 use Rattle.script_code.specs.declared.instruction.Act.TheVariants as acts
 use Rattle.script_code.specs.declared.instruction.Instruction.{Instruction}

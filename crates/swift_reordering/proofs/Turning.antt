@@ -1,9 +1,8 @@
 -- A turn that stands at one standing stands at another that differs only in which turns under way have begun, and in which environments.
-use Rattle.std.proofs.Common.{◌≡◌, ◌⊎◌, ℕ, ℤ, ◌+◌, List, [], ◌∷◌, ◌++◌, length, refl, sym, ◌∙◌, ap, ap₂, subst, subst₂, Bool, true, false, inl, inr}
-use Rattle.std.specs.Prelude.{Option, Some, None, ◌&&◌, ◌==◌, nat_lt, not, is_some, if◌then◌else◌}
-use Rattle.std.specs.List.{AllByRecursion, cons_option}
+use Rattle.std.proofs.Common.{◌≡◌, ◌⊎◌, ℕ, ℤ, List, [], ◌∷◌, length, refl, sym, ◌∙◌, ap, ap₂, subst, subst₂, Bool, true, inl, inr}
+use Rattle.std.specs.Prelude.{Option, Some, ◌&&◌, nat_lt, not, is_some}
+use Rattle.std.specs.List.{AllByRecursion}
 use Rattle.swift_types.specs.declared.priority.Priority.{Priority}
-use Rattle.swift_types.specs.declared.outcome.Resume.{Resume}
 use Rattle.swift_types.specs.declared.env.Env.{Env}
 use Rattle.swift_script.specs.Scripts.{ScriptView, root_count}
 use Rattle.swift_interpreter.specs.declared.effect.TaskName.{TaskName}
@@ -16,16 +15,15 @@ use Rattle.swift_journal.specs.Replay.{turn_of, IsAfter, IsLawfulRecord}
 use Rattle.swift_events.specs.declared.event.Event.{Event}
 use Rattle.swift_events.specs.declared.life.JobStage.{JobStage}
 use Rattle.swift_events.specs.declared.life.JobStage.TheVariants.{Begun}
-use Rattle.swift_events.specs.Lives.{life_of}
-use Rattle.swift_history.specs.Checks.{Counters, is_current, counters, can_name, can_use, can_run, fits_effect, counted, fits_exit, fits_turn}
+use Rattle.swift_history.specs.Checks.{Counters, counters, can_name, can_use, can_run, fits_effect, counted, fits_exit, fits_turn}
 use Rattle.swift_history.specs.TurnEnds.{JobFacts, WaitingTaskView, TurnEnd, turn_end}
-use Rattle.swift_history.specs.Histories.{Standing, with_jobs, taken, begun_priority, left_as, frames_applied, turn_applied, TurnStands, RecordStands}
+use Rattle.swift_history.specs.Histories.{Standing, with_jobs, taken, begun_priority, left_as, turn_applied, TurnStands, RecordStands}
 use Rattle.swift_laws.proofs.HistoriesTurns.{applied_is}
 use Rattle.swift_digest.specs.Digests.{ChildrenAreNew}
 use Rattle.swift_reordering.specs.Away.{frame_looks_away}
 use Rattle.swift_reordering.specs.Blurred.{AreNear, AreClose, stage_at}
 use Rattle.swift_reordering.proofs.Near.{near_origin, near_own, near_opened, near_closed, near_current}
-use Rattle.swift_reordering.proofs.NearEnds.{AreJoint, EndNear, TakesNone, near_end}
+use Rattle.swift_reordering.proofs.NearEnds.{AreJoint, TakesNone, near_end}
 use Rattle.swift_reordering.proofs.Playing.{same_turn}
 
 -- whether a turn fits

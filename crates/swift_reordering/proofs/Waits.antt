@@ -1,7 +1,7 @@
 -- The begin of a turn that looks away waits for a block of another task.
-use Rattle.std.proofs.Common.{◌≡◌, ◌≢◌, ◌⊎◌, ℕ, ◌+◌, ◌*◌, ◌<◌, ◌≤◌, List, [], ◌∷◌, ◌++◌, refl, sym, ◌∙◌, ap, ap₂, subst, subst₂, Bool, true, false, inl, inr, append_assoc, append-nil, arith}
-use Rattle.std.specs.Prelude.{Option, Some, None, is_some}
-use Rattle.std.proofs.lemmas.Bool.{cases_Bool, cases_eq, false≢true}
+use Rattle.std.proofs.Common.{◌≡◌, ◌≢◌, ℕ, ◌<◌, List, [], ◌∷◌, ◌++◌, refl, sym, ◌∙◌, ap, ap₂, subst, subst₂, true, inl, inr, append_assoc}
+use Rattle.std.specs.Prelude.{Option, Some, is_some}
+use Rattle.std.proofs.lemmas.Bool.{cases_Bool, false≢true}
 use Rattle.swift_types.specs.declared.env.Env.{Env}
 use Rattle.swift_script.specs.Scripts.{ScriptView, root_count}
 use Rattle.swift_journal.specs.Checkpoints.{CheckpointView}
@@ -9,10 +9,9 @@ use Rattle.swift_events.specs.declared.life.Life.{Life}
 use Rattle.swift_events.specs.declared.life.LastJob.{LastJob}
 use Rattle.swift_events.specs.declared.life.JobStage.{JobStage}
 use Rattle.swift_events.specs.declared.life.JobStage.TheVariants.{Given, Begun}
-use Rattle.swift_events.specs.Events.{tasks_of}
 use Rattle.swift_events.specs.Lives.{life_of}
 use Rattle.swift_history.specs.Checks.{is_begun, is_under_way, is_current}
-use Rattle.swift_history.specs.TurnEnds.{JobFacts}
+use Rattle.swift_history.specs.TurnEnds.{JobFacts, task}
 use Rattle.swift_history.specs.Histories.{Block, added, begun, ran, folded, Standing, at_first, after_block, after_blocks, Stands, AllStand}
 use Rattle.swift_history.specs.Orderly.{AllAllowed, IsOrderly, job_executor}
 use Rattle.swift_laws.specs.Laws.{ActorsHaveExecutors}
@@ -22,15 +21,16 @@ use Rattle.swift_reordering.specs.Away.{job_looks_away}
 use Rattle.swift_reordering.specs.Blurred.{AreClose, LeadClose, stage_at}
 use Rattle.swift_reordering.specs.FusedSteps.{HasRoom}
 use Rattle.swift_reordering.specs.Waiting.{IsOfOther, BeginsAfter, BeginsMayWait}
-use Rattle.swift_reordering.proofs.Near.{near_begin, near_current}
+use Rattle.swift_reordering.proofs.Near.{near_begin}
 use Rattle.swift_reordering.proofs.Turning.{in_own}
 use Rattle.swift_reordering.proofs.Walks.{IsCourse, course_push}
-use Rattle.swift_reordering.proofs.Seats.{HasBegun, begin_other, begin_same, all_apart}
+use Rattle.swift_reordering.proofs.Seats.{begin_other, begin_same, all_apart}
 use Rattle.swift_reordering.proofs.Rooms.{room_free}
-use Rattle.swift_reordering.proofs.Others.{SameJob, KeepsJob, turn_keeps_job, root_keeps_job, begin_keeps_job}
-use Rattle.swift_reordering.proofs.Fusing.{ArePutOff, AreFew, at, at_push, fields_quiet, late_env, put_off_on, root_on, begin_on, run_on, roots_stay, room_there, begun_here}
+use Rattle.swift_reordering.proofs.Others.{KeepsJob, turn_keeps_job, root_keeps_job, begin_keeps_job}
+use Rattle.swift_reordering.proofs.Fusing.{ArePutOff, at_push, fields_quiet, late_env, put_off_on, root_on, begin_on, run_on, roots_stay, begun_here}
 use Rattle.swift_reordering.proofs.Reports.{few_before}
 use Rattle.swift_reordering.proofs.Closed.{stand_after, allowed_after}
+use Rattle.swift_events.specs.Room.{IsEnv}
 
 -- the front of a history
 
@@ -143,7 +143,7 @@ module _ (script : ScriptView) (cps : List CheckpointView) (before : List Block)
     | inr p ↦ p.given
   ]
 
-  late : (other : Env) × Rattle.swift_events.specs.Room.IsEnv (root_count script) (Rattle.swift_history.specs.TurnEnds.task t) z.log other
+  late : (other : Env) × IsEnv (root_count script) (task t) z.log other
   late = late_env script cps Mine ((before ++ c ∷ []) ++ b ∷ []) (before ++ b ∷ []) course_b next t env begun_s
 
   abbrev d : Block

@@ -1,6 +1,5 @@
 -- Turns that do not look at what they are given of their task: neither at its priority nor at whether it is cancelled (our own).
 use Rattle.std.specs.Prelude.{◌≡◌, ℕ, All, Bool, true, false, ◌&&◌, ◌||◌, is_some, Option, Some, None, List, [], ◌∷◌}
-use Rattle.swift_types.specs.declared.priority.Priority.{Priority}
 use Rattle.script_code.specs.Tree.{Term, CallTarget, Wanted, Operation, Code}
 use Rattle.script_code.specs.Tree as code
 use Rattle.script_code.specs.Instructions.{NextAction, ends, does, tests, first_by, FollowsCode}

@@ -5,7 +5,7 @@ use Rattle.swift_types.specs.declared.limits.TheConstants.{TASKS, MADE}
 use Rattle.swift_types.specs.declared.priority.Priority.TheVariants.{Background}
 use Rattle.swift_types.specs.declared.env.Env.{Env}
 use Rattle.swift_script.specs.Scripts.{ScriptView, executor_count}
-use Rattle.swift_history.specs.Histories.{Block, added, begun, ran, folded, at_first, after_blocks, ReportView}
+use Rattle.swift_history.specs.Histories.{Block, begun, ran, at_first, after_blocks, ReportView}
 use Rattle.swift_history.specs.Orderly.{IsOrderlyLegal}
 use Rattle.swift_laws.specs.Laws.{ActorsHaveExecutors}
 use Rattle.swift_digest.specs.Explored.{FoldsNone}
