@@ -1,6 +1,9 @@
+pub mod Sights
 pub mod Near
+pub mod SeenEnds
 pub mod NearEnds
 pub mod Playing
+pub mod SeenFits
 pub mod Turning
 pub mod Walks
 pub mod Seats

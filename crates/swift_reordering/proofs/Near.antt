@@ -21,8 +21,14 @@ use Rattle.swift_digest.specs.Digests.{Card, GroupCard, Digest, digest_of, all_n
 use Rattle.swift_digest.proofs.Cards.{digest_of-append, digest_of-push}
 use Rattle.swift_digest.proofs.Answers.{tasks_of_is, life_of_is, parent_of_is, own_tasks_is, opened_by_is, waiters_of_is, is_closed_is, group_of_is, is_cancelled_is, is_cancelled_group_is}
 use Rattle.swift_reordering.specs.Blurred.{blurred_stage, blurred_life, blurred, AreNear}
+use Rattle.swift_reordering.proofs.Sights.{waited, IsSight, seen_on, seen_tasks, seen_life, seen_origin, seen_ending, seen_opened, seen_closed, seen_cancelled, seen_links}
 use Rattle.swift_digest.proofs.Links.{AreWithin, link_in_digest, link_in_log}
 use Rattle.std.specs.List.{cons_option}
+
+-- where a turn that has begun counts as one that was given, enough is seen
+
+abbrev pub blurs : ℕ → Life → Life
+blurs u l = blurred_life l
 
 blurred_twice : (s : Option JobStage) → blurred_stage s ≡ blurred_stage (blurred_stage s)
 blurred_twice None = refl
@@ -37,88 +43,54 @@ later_blurred : (x s : Option JobStage) → blurred_stage (later x s) ≡ blurre
 later_blurred None s = blurred_twice s
 later_blurred (Some x) s = refl
 
-life_blurred : (b : Bool) (l : Life) (e : Event) → blurred_life (if b then lived l e else l) ≡ blurred_life (if b then lived (blurred_life l) e else blurred_life l)
-life_blurred true l e = ap (λ (s : Option JobStage). record (lived l e) { stage = s }) (later_blurred (stage_in e) l.stage)
-life_blurred false l e = ap (λ (s : Option JobStage). record l { stage = s }) (blurred_twice l.stage)
+waits_blurred : (s : Option JobStage) → waited (blurred_stage s) ≡ waited s
+waits_blurred None = refl
+waits_blurred (Some (Begun env)) = refl
+waits_blurred (Some Given) = refl
+waits_blurred (Some Applied) = refl
+waits_blurred (Some (Waits t)) = refl
+waits_blurred (Some (Asks g)) = refl
+waits_blurred (Some (Closes g)) = refl
 
-noted_blurred : (d : Digest) (e : Event) → blurred (noted d e) ≡ blurred (noted (blurred d) e)
-noted_blurred d e = λ k. record {
-  made = d.made + one_if (is_made e);
-  cards = λ t. record (card_noted t (d.cards t) e) { life = life_blurred (task_of e == t) (d.cards t).life e k };
-  groups = λ o g. group_noted o g (d.groups o g) e;
+pub blurs_sight : IsSight blurs
+blurs_sight = record {
+  again = λ u l. ap (λ (s : Option JobStage). record l { stage = s }) (blurred_twice l.stage);
+  on = λ u l e. ap (λ (s : Option JobStage). record (lived l e) { stage = s }) (later_blurred (stage_in e) l.stage);
+  origin = λ u l. refl;
+  ending = λ u l. refl;
+  waits = λ u l. waits_blurred l.stage;
 }
 
-near_note : (c d : Digest) (e : Event) → blurred c ≡ blurred d → blurred (noted c e) ≡ blurred (noted d e)
-near_note c d e same = noted_blurred c e ∙ ap (λ (x : Digest). blurred (noted x e)) same ∙ sym (noted_blurred d e)
-
-near_all : (es : List Event) (c d : Digest) → blurred c ≡ blurred d → blurred (all_noted c es) ≡ blurred (all_noted d es)
-near_all [] c d same = same
-near_all (e ∷ es) c d same = near_all es (noted c e) (noted d e) (near_note c d e same)
-
--- they stay so where the same events are written
 pub near_on : (a b es fs : List Event) → AreNear a b → es ≡ fs → AreNear (a ++ es) (b ++ fs)
-near_on a b es fs same is =
-    ap blurred (digest_of-append a es) ∙ near_all es (digest_of a) (digest_of b) same ∙ ap (λ (xs : List Event). blurred (all_noted (digest_of b) xs)) is ∙ ap blurred (sym (digest_of-append b fs))
-
--- what such logs have in common
-
-cancelled_blurred : (n : ℕ) (d : Digest) (t : ℕ) → cancelled_in d n t ≡ cancelled_in (blurred d) n t
-cancelled_blurred zero d t = refl
-cancelled_blurred (suc n) d t =
-    ap (λ (b : Bool). (d.cards t).named || b)
-    (of_parent_same (parent_in d t) (λ o g. (d.groups o g).named || cancelled_in d n o) (λ o g. (d.groups o g).named || cancelled_in (blurred d) n o)
-    (λ x _. ap (λ (b : Bool). (d.groups x.0 x.1).named || b) (cancelled_blurred n d x.0)))
-
-links_near : (a b : List Event) → AreNear a b → AreWithin (links_of a) (links_of b)
-links_near a b same x h = link_in_log b x (subst (λ (d : Digest). HasLink d x) same (link_in_digest a x h))
+near_on = seen_on blurs blurs_sight
 
 module _ (a b : List Event) (same : AreNear a b) where
   pub near_tasks : (roots : ℕ) → tasks_of roots a ≡ tasks_of roots b
-  near_tasks roots = tasks_of_is roots a ∙ ap (λ (d : Digest). roots + d.made) same ∙ sym (tasks_of_is roots b)
+  near_tasks = seen_tasks blurs blurs_sight a b same
 
   pub near_origin : (t : ℕ) → (life_of t a).origin ≡ (life_of t b).origin
-  near_origin t = ap (λ (l : Life). l.origin) (life_of_is t a) ∙ ap (λ (d : Digest). (d.cards t).life.origin) same ∙ ap (λ (l : Life). l.origin) (sym (life_of_is t b))
-
-  pub near_given : (t : ℕ) → (life_of t a).given ≡ (life_of t b).given
-  near_given t = ap (λ (l : Life). l.given) (life_of_is t a) ∙ ap (λ (d : Digest). (d.cards t).life.given) same ∙ ap (λ (l : Life). l.given) (sym (life_of_is t b))
+  near_origin = seen_origin blurs blurs_sight a b same
 
   pub near_ending : (t : ℕ) → (life_of t a).ending ≡ (life_of t b).ending
-  near_ending t = ap (λ (l : Life). l.ending) (life_of_is t a) ∙ ap (λ (d : Digest). (d.cards t).life.ending) same ∙ ap (λ (l : Life). l.ending) (sym (life_of_is t b))
+  near_ending = seen_ending blurs blurs_sight a b same
+
+  pub near_given : (t : ℕ) → (life_of t a).given ≡ (life_of t b).given
+  near_given t = ap (λ (l : Life). l.given) (seen_life blurs blurs_sight a b same t)
 
   pub near_stage : (t : ℕ) → blurred_stage (life_of t a).stage ≡ blurred_stage (life_of t b).stage
-  near_stage t = ap (λ (l : Life). blurred_stage l.stage) (life_of_is t a) ∙ ap (λ (d : Digest). (d.cards t).life.stage) same ∙ ap (λ (l : Life). blurred_stage l.stage) (sym (life_of_is t b))
-
-  pub near_parent : (t : ℕ) → parent_of t a ≡ parent_of t b
-  near_parent t = parent_of_is t a ∙ ap (λ (d : Digest). parent_in d t) same ∙ sym (parent_of_is t b)
-
-  pub near_own : (t : ℕ) → own_tasks t a ≡ own_tasks t b
-  near_own t = own_tasks_is t a ∙ ap (λ (d : Digest). (d.cards t).own) same ∙ sym (own_tasks_is t b)
+  near_stage t = ap (λ (l : Life). l.stage) (seen_life blurs blurs_sight a b same t)
 
   pub near_opened : (t : ℕ) → opened_by t a ≡ opened_by t b
-  near_opened t = opened_by_is t a ∙ ap (λ (d : Digest). (d.cards t).opened) same ∙ sym (opened_by_is t b)
-
-  pub near_waiters : (t : ℕ) → waiters_of t a ≡ waiters_of t b
-  near_waiters t = waiters_of_is t a ∙ ap (λ (d : Digest). (d.cards t).waiters) same ∙ sym (waiters_of_is t b)
+  near_opened = seen_opened blurs blurs_sight a b same
 
   pub near_closed : (o g : ℕ) → is_closed o g a ≡ is_closed o g b
-  near_closed o g = is_closed_is o g a ∙ ap (λ (d : Digest). (d.groups o g).closed) same ∙ sym (is_closed_is o g b)
-
-  pub near_group : (o g : ℕ) → ChildrenAreNew a → ChildrenAreNew b → group_of o g a ≡ group_of o g b
-  near_group o g new_a new_b = group_of_is o g a new_a ∙ ap (λ (d : Digest). group_in d o g) same ∙ sym (group_of_is o g b new_b)
+  near_closed = seen_closed blurs blurs_sight a b same
 
   pub near_cancelled : (t : ℕ) → is_cancelled t a ≡ is_cancelled t b
-  near_cancelled t =
-      is_cancelled_is t a ∙ cancelled_blurred (suc t) (digest_of a) t ∙ ap (λ (d : Digest). is_cancelled_in d t) same
-      ∙ sym (cancelled_blurred (suc t) (digest_of b) t) ∙ sym (is_cancelled_is t b)
-
-  pub near_cancelled_group : (o g : ℕ) → is_cancelled_group o g a ≡ is_cancelled_group o g b
-  near_cancelled_group o g =
-      is_cancelled_group_is o g a ∙ ap (λ (x : Bool). ((digest_of a).groups o g).named || x) (cancelled_blurred (suc o) (digest_of a) o)
-      ∙ ap (λ (d : Digest). is_cancelled_group_in d o g) same
-      ∙ ap (λ (x : Bool). ((digest_of b).groups o g).named || x) (sym (cancelled_blurred (suc o) (digest_of b) o)) ∙ sym (is_cancelled_group_is o g b)
+  near_cancelled = seen_cancelled blurs blurs_sight a b same
 
   pub near_links : AreWithin (links_of a) (links_of b)
-  near_links = links_near a b same
+  near_links = seen_links blurs blurs_sight a b same
 
 -- a begin is not seen
 

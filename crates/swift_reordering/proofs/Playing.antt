@@ -23,7 +23,7 @@ use Rattle.swift_interpreter.specs.Turn as Turn
 use Rattle.swift_turn.specs.Body.{kept_turn, invariants_at, state_at}
 use Rattle.swift_laws.proofs.HistoriesTurns.{all_append, both}
 use Rattle.swift_reordering.specs.Away.{term_looks_away, terms_look_away, term_if_looks_away, wanted_looks_away, operation_looks_away, code_looks_away, frame_looks_away}
-use Rattle.swift_reordering.proofs.NearEnds.{TakesNone}
+use Rattle.swift_reordering.proofs.SeenEnds.{TakesNone}
 use Rattle.script_code.specs.declared.instruction.Cancelled.{Cancelled}
 use Rattle.script_code.specs.declared.instruction.Cancelled.TheVariants as subject
 

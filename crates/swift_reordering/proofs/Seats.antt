@@ -22,7 +22,7 @@ use Rattle.swift_history.specs.Orderly.{IsOrderly, job_executor}
 use Rattle.swift_laws.proofs.HistoriesTurns.{after_push, applied_is}
 use Rattle.swift_laws.proofs.HistoriesGrow.{begins, keeps_applied, keeps_turn}
 use Rattle.swift_reordering.specs.Blurred.{stage_at}
-use Rattle.swift_reordering.proofs.NearEnds.{stage_push}
+use Rattle.swift_reordering.proofs.SeenEnds.{stage_push}
 use Rattle.swift_reordering.proofs.Walks.{IsCourse, along}
 use Rattle.swift_events.proofs.LogLemmas.{unborn_without}
 use Rattle.swift_events.specs.declared.life.Life.{Life}

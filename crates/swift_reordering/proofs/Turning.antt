@@ -22,43 +22,11 @@ use Rattle.swift_laws.proofs.HistoriesTurns.{applied_is}
 use Rattle.swift_digest.specs.Digests.{ChildrenAreNew}
 use Rattle.swift_reordering.specs.Away.{frame_looks_away}
 use Rattle.swift_reordering.specs.Blurred.{AreNear, AreClose, stage_at}
-use Rattle.swift_reordering.proofs.Near.{near_origin, near_own, near_opened, near_closed, near_current}
-use Rattle.swift_reordering.proofs.NearEnds.{AreJoint, TakesNone, near_end}
+use Rattle.swift_reordering.proofs.Near.{blurs, blurs_sight, near_current}
+use Rattle.swift_reordering.proofs.SeenFits.{seen_fits, seen_counters}
+use Rattle.swift_reordering.proofs.NearEnds.{AreJoint, near_end}
+use Rattle.swift_reordering.proofs.SeenEnds.{TakesNone}
 use Rattle.swift_reordering.proofs.Playing.{same_turn}
-
--- whether a turn fits
-
-module _ (a b : List Event) (same : AreNear a b) (script : ScriptView) (t : ℕ) where
-  near_can_name : (c : Counters) (name : TaskName) → can_name script a c name ≡ can_name script b c name
-  near_can_name c (RootName r) = ap (λ (o : Option _). nat_lt r.0 (root_count script) && is_some o) (near_origin a b same r.0)
-  near_can_name c (Own k) = refl
-
-  near_can_use : (c : Counters) (g : ℕ) → can_use t a c g ≡ can_use t b c g
-  near_can_use c g = ap (λ (x : Bool). nat_lt g c.opened && not x) (near_closed a b same t g)
-
-  near_fit : (c : Counters) (e : EffectView) → fits_effect script t a c e ≡ fits_effect script t b c e
-  near_fit c (spawning i p bindings) = refl
-  near_fit c (detaching i p) = refl
-  near_fit c opening = refl
-  near_fit c (adding g unless i p bindings) = ap (λ (x : Bool). nat_lt 0 c.room && (x && can_run script i)) (near_can_use c g)
-  near_fit c (cancelling_task name) = near_can_name c name
-  near_fit c (cancelling_group g) = near_can_use c g
-
-  near_fit_exit : (c : Counters) (exit : ExitView) → fits_exit script t a c exit ≡ fits_exit script t b c exit
-  near_fit_exit c (calling i) = refl
-  near_fit_exit c (waiting name) = near_can_name c name
-  near_fit_exit c (asking_next g) = near_can_use c g
-  near_fit_exit c (closing g f) = near_can_use c g
-  near_fit_exit c yielding = refl
-  near_fit_exit c (returning v) = refl
-  near_fit_exit c (failing f) = refl
-
-  near_fits : (es : List EffectView) (c : Counters) (exit : ExitView) → fits_turn script t a c es exit ≡ fits_turn script t b c es exit
-  near_fits [] c exit = near_fit_exit c exit
-  near_fits (e ∷ es) c exit = ap₂ (λ (x y : Bool). x && y) (near_fit c e) (near_fits es (counted c e) exit)
-
-  near_counters : (room : ℕ) → counters t a room ≡ counters t b room
-  near_counters room = ap₂ (λ (own opened : ℕ). record { own = own; opened = opened; room = room }) (ap length (near_own a b same t)) (near_opened a b same t)
 
 -- What is asked of the environment in which a turn has begun at the other standing: it has the same room, and it is the same where the turn
 -- looks at it.
@@ -82,8 +50,8 @@ module _ (script : ScriptView) (s z : Standing) (close : AreClose s z) where
     number = stands.number;
     current = sym (near_current s.log z.log close.near t n job.resume) ∙ stands.current;
     has_begun = has_begun;
-    fits = sym (near_fits s.log z.log close.near script t effects (counters t s.log env.room) exit
-        ∙ ap (λ (c : Counters). fits_turn script t z.log c effects exit) (near_counters s.log z.log close.near script t env.room ∙ ap (counters t z.log) room)) ∙ stands.fits;
+    fits = sym (seen_fits blurs blurs_sight s.log z.log close.near script t effects (counters t s.log env.room) exit
+        ∙ ap (λ (c : Counters). fits_turn script t z.log c effects exit) (seen_counters blurs blurs_sight s.log z.log close.near script t env.room ∙ ap (counters t z.log) room)) ∙ stands.fits;
     runs = stands.runs;
     on = stands.on;
   }
