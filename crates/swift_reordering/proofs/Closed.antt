@@ -4,6 +4,7 @@ use Rattle.std.specs.Prelude.{Option, Some, None, Contains, is_some, ◌||◌}
 use Rattle.std.specs.Option.{option_map}
 use Rattle.swift_script.specs.Scripts.{ScriptView, root_count, method_code}
 use Rattle.swift_interpreter.specs.Frames.{FrameView}
+use Rattle.swift_interpreter.specs.Turn.{ExitView}
 use Rattle.swift_journal.specs.Records.{RecordView}
 use Rattle.swift_journal.specs.Checkpoints.{CheckpointView}
 use Rattle.swift_history.specs.TurnEnds.{JobFacts}
@@ -89,25 +90,36 @@ module _ (script : ScriptView) (cps : List CheckpointView) (others h : List Bloc
   step_too (begun t n env ∷ ran e r ∷ []) (c ∷ d ∷ x ∷ cs) step like may = absurd like.1.1
   step_too more rest step like may = absurd step
 
-module _ (script : ScriptView) (histories : List (List Block)) (closed : AreClosed script histories) (on : ActorsHaveExecutors script) (cps : List CheckpointView) (fresh : StartsFresh script cps) where
+-- Histories that are kept: after each of them each step leads alike to one. This is over any predicate, so that a search may say in its own
+-- words which it keeps.
+module _ (script : ScriptView) (on : ActorsHaveExecutors script) (cps : List CheckpointView) (Kept : List Block → Type 0) (stand : (h : List Block) → Kept h → AllStand script cps [] h) (room : (h : List Block) → Kept h → HasRoom script h)
+    (leads : (h step : List Block) → Kept h → MayStep script cps h step → (k : List Block) × Kept k × LeadAlike script cps (h ++ step) k) where
   -- a history, one in which begins are put off, and one of the list that leads alike to that
-  record HasOne (before : List Block) : Type 0 where
-    others : List Block
-    put_off : ArePutOff script cps AnyTask before others
-    kept : List Block
-    is_kept : Contains histories kept
-    lead : LeadAlike script cps others kept
+  pub record HasOne (before : List Block) : Type 0 where
+    pub others : List Block
+    pub put_off : ArePutOff script cps AnyTask before others
+    pub kept : List Block
+    pub is_kept : Kept kept
+    pub lead : LeadAlike script cps others kept
 
   has_room : (before : List Block) → HasOne before → HasRoom script before
   has_room before one =
       let many = near_tasks (after_blocks script (at_first script) before).log (after_blocks script (at_first script) one.others).log one.put_off.close.near (root_count script) in
       let same = same_tasks (after_blocks script (at_first script) one.others).log (after_blocks script (at_first script) one.kept).log one.lead.standing.digest (root_count script) in
-      let few = closed.room one.kept one.is_kept in
+      let few = room one.kept one.is_kept in
       omega (arith, many, same, few)
 
-  record Next (before : List Block) (b : Block) : Type 0 where
-    one : HasOne (before ++ b ∷ [])
-    tried : (e : ℕ) (r : RecordView) → b ≡ ran e r → IsTried script cps histories e r.exit
+  -- a step after a kept history has a turn that ends so
+  pub record IsTriedBy (executor : ℕ) (exit : ExitView) : Type 0 where
+    pub before : List Block
+    pub step : List Block
+    pub is_kept : Kept before
+    pub may : MayStep script cps before step
+    pub has : HasExit step executor exit
+
+  pub record Next (before : List Block) (b : Block) : Type 0 where
+    pub one : HasOne (before ++ b ∷ [])
+    pub tried : (e : ℕ) (r : RecordView) → b ≡ ran e r → IsTriedBy e r.exit
 
   next_by : (before : List Block) (b : Block) (one : HasOne before) → (g : GoesOn script cps AnyTask on any_task before one.others b) → (g.more ≡ []) ⊎ IsFusedStep script one.others g.more → Next before b
   next_by before b one g (inl none) = record {
@@ -124,29 +136,29 @@ module _ (script : ScriptView) (histories : List (List Block)) (closed : AreClos
       let more : List Block = g.more in
       let stands : AllStand script cps one.others more = stand_after script cps one.others [] more g.put_off.course.stand in
       let may : AllAllowed (IsOrderly script) one.others more = allowed_after (IsOrderly script) one.others [] more g.put_off.course.orderly in
-      let o = same_futures script cps one.others one.kept more one.put_off.course.stand (closed.stand cps one.kept fresh one.is_kept) one.lead stands in
+      let o = same_futures script cps one.others one.kept more one.put_off.course.stand (stand one.kept one.is_kept) one.lead stands in
       let rest : List Block = o.0 in
       let both = step_too script cps one.others one.kept one.lead more rest step o.1 may in
       let steps : MayStep script cps one.kept rest = record { fused = both.0; stands = o.2; orderly = both.1 } in
-      let k = closed.next cps one.kept rest fresh one.is_kept steps in
+      let k = leads one.kept rest one.is_kept steps in
       record {
         one = record { others = one.others ++ more; put_off = g.put_off; kept = k.0; is_kept = k.1; lead = lead_on script cps (one.others ++ more) (one.kept ++ rest) k.0 o.3 k.2 };
         tried = λ e r is.
             (let x = g.has e r is in
             let y = exit_too script more rest e x.turn o.1 x.there in
-            record { before = one.kept; step = rest; kept = one.is_kept; may = steps; has = record { turn = y.turn; there = y.there; exit_is = y.exit_is ∙ x.exit_is } });
+            record { before = one.kept; step = rest; is_kept = one.is_kept; may = steps; has = record { turn = y.turn; there = y.there; exit_is = y.exit_is ∙ x.exit_is } });
       }
 
-  has_next : (before : List Block) (b : Block) → IsCourse script cps before → IsNotFolded b → Stands script cps before b → IsOrderly script before b → HasOne before → Next before b
+  pub has_next : (before : List Block) (b : Block) → IsCourse script cps before → IsNotFolded b → Stands script cps before b → IsOrderly script before b → HasOne before → Next before b
   has_next before b course unfolded stands orderly one =
       let g = goes_on script cps AnyTask on any_task before one.others b course (has_room before one) one.put_off unfolded stands orderly in
       next_by before b one g g.step
 
-  record All (before bs : List Block) : Type 0 where
-    one : HasOne (before ++ bs)
-    tried : (e : ℕ) (r : RecordView) → Contains bs (ran e r) → IsTried script cps histories e r.exit
+  pub record HasAll (before bs : List Block) : Type 0 where
+    pub one : HasOne (before ++ bs)
+    pub tried : (e : ℕ) (r : RecordView) → Contains bs (ran e r) → IsTriedBy e r.exit
 
-  has_all : (bs before : List Block) → IsCourse script cps before → AllStand script cps before bs → AllAllowed (IsOrderly script) before bs → NoneFolded script on cps bs → HasOne before → All before bs
+  pub has_all : (bs before : List Block) → IsCourse script cps before → AllStand script cps before bs → AllAllowed (IsOrderly script) before bs → NoneFolded script on cps bs → HasOne before → HasAll before bs
   has_all [] before course stand may none one = record { one = subst HasOne (sym (append-nil before)) one; tried = λ e r has. absurd (none_there (ran e r) has) }
   has_all (b ∷ bs) before course stand may none one =
       let next = has_next before b course (not_folded script on cps before b bs course.stand stand.0 none) stand.0 may.0 one in
@@ -156,10 +168,8 @@ module _ (script : ScriptView) (histories : List (List Block)) (closed : AreClos
         tried = λ e r has. elim (cons_cases b bs (ran e r) has) [ inl here ↦ next.tried e r here | inr later ↦ rest.tried e r later ];
       }
 
-  first_one : HasOne []
-  first_one =
-      let k = closed.first cps fresh in
-      record { others = []; put_off = none_put_off script cps on; kept = k.0; is_kept = k.1; lead = k.2 }
+  pub first_one : (k : List Block) → Kept k → LeadAlike script cps [] k → HasOne []
+  first_one k is_kept lead = record { others = []; put_off = none_put_off script cps on; kept = k; is_kept = is_kept; lead = lead }
 
 -- what is near has the same outcome
 outcome_near : (script : ScriptView) (cps : List CheckpointView) (report : ReportView) (before others : List Block) → ArePutOff script cps AnyTask before others → IsOutcome script (state_of script cps before) report → IsOutcome script (state_of script cps others) report
@@ -177,9 +187,22 @@ module _ (script : ScriptView) (histories : List (List Block)) (report : ReportV
   is_made : Made script report orderly.legal
   is_made = made script report orderly.legal folds
 
-  all_of : All script histories closed on report.checkpoints is_made.fresh [] orderly.legal.blocks
-  all_of = has_all script histories closed on report.checkpoints is_made.fresh orderly.legal.blocks [] (course_none script report.checkpoints) orderly.legal.stand orderly.orderly is_made.none
-      (first_one script histories closed on report.checkpoints is_made.fresh)
+  abbrev cps : List CheckpointView
+  cps = report.checkpoints
+
+  abbrev Kept : List Block → Type 0
+  Kept h = Contains histories h
+
+  stand : (h : List Block) → Kept h → AllStand script cps [] h
+  stand h has = closed.stand cps h is_made.fresh has
+
+  leads : (h step : List Block) → Kept h → MayStep script cps h step → (k : List Block) × Kept k × LeadAlike script cps (h ++ step) k
+  leads h step has may = closed.next cps h step is_made.fresh has may
+
+  all_of : HasAll script on cps Kept stand closed.room leads [] orderly.legal.blocks
+  all_of =
+      let k = closed.first cps is_made.fresh in
+      has_all script on cps Kept stand closed.room leads orderly.legal.blocks [] (course_none script cps) orderly.legal.stand orderly.orderly is_made.none (first_one script on cps Kept stand closed.room leads k.0 k.1 k.2)
 
 pub closed_outcome : ClosedHasEachOutcome
 unfolding is_made
@@ -190,4 +213,6 @@ closed_outcome script histories report on closed orderly folds =
     (one.kept, one.is_kept, outcome_too script cps report one.others one.kept one.lead (outcome_near script cps report orderly.legal.blocks one.others one.put_off m.outcome))
 
 pub closed_exit : ClosedHasEachExit
-closed_exit script histories report on closed orderly folds e r has = (all_of script histories report on closed orderly folds).tried e r has
+closed_exit script histories report on closed orderly folds e r has =
+    let tried = (all_of script histories report on closed orderly folds).tried e r has in
+    record { before = tried.before; step = tried.step; kept = tried.is_kept; may = tried.may; has = tried.has }
