@@ -16,3 +16,4 @@ pub mod Closed
 pub mod Others
 pub mod Waits
 pub mod Telling
+pub mod SilentPlay

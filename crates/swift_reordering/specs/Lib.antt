@@ -3,3 +3,4 @@ pub mod Away
 pub mod Fused
 pub mod FusedSteps
 pub mod Waiting
+pub mod Silent
