@@ -17,3 +17,4 @@ pub mod Others
 pub mod Waits
 pub mod Telling
 pub mod SilentPlay
+pub mod Beside
