@@ -14,6 +14,7 @@ pub mod Fusing
 pub mod Reports
 pub mod Closed
 pub mod Others
+pub mod Keeping
 pub mod Waits
 pub mod Telling
 pub mod SilentPlay

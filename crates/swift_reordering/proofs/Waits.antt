@@ -26,6 +26,7 @@ use Rattle.swift_reordering.proofs.Turning.{in_own}
 use Rattle.swift_reordering.proofs.Walks.{IsCourse, course_push}
 use Rattle.swift_reordering.proofs.Seats.{begin_other, begin_same, all_apart}
 use Rattle.swift_reordering.proofs.Rooms.{room_free}
+use Rattle.swift_reordering.proofs.Keeping.{block_keeps_job}
 use Rattle.swift_reordering.proofs.Others.{KeepsJob, turn_keeps_job, root_keeps_job, begin_keeps_job}
 use Rattle.swift_reordering.proofs.Fusing.{ArePutOff, at_push, fields_quiet, late_env, put_off_on, root_on, begin_on, run_on, roots_stay, begun_here}
 use Rattle.swift_reordering.proofs.Reports.{few_before}
@@ -44,25 +45,6 @@ allowed_front Allowed (x ∷ xs) before ys all = (all.0, allowed_front Allowed x
 
 course_front : (script : ScriptView) (cps : List CheckpointView) (xs ys : List Block) → AllStand script cps [] (xs ++ ys) → AllAllowed (IsOrderly script) [] (xs ++ ys) → IsCourse script cps xs
 course_front script cps xs ys stand orderly = record { stand = stand_front script cps xs [] ys stand; orderly = allowed_front (IsOrderly script) xs [] ys orderly }
-
--- where a turn of a task is under way, a block of another one leaves its job
-block_keeps_job : (script : ScriptView) (cps : List CheckpointView) (bs : List Block) (b : Block) (t : ℕ) → IsCourse script cps bs → Stands script cps bs b → IsOfOther t b → is_under_way (stage_at (after_blocks script (at_first script) bs).log t) ≡ true
-    → KeepsJob (after_blocks script (at_first script) bs) (after_blocks script (at_first script) (bs ++ b ∷ [])) t
-block_keeps_job script cps bs b t course stands of_other under =
-    subst (λ (z : Standing). KeepsJob (after_blocks script (at_first script) bs) z t) (sym (at_push script cps bs b)) (by_kind b stands of_other)
-  where
-    s : Standing
-    s = after_blocks script (at_first script) bs
-
-    counted : AreCounted (root_count script) s.log s.held
-    counted = all_keep script cps [] bs course.stand (first_counted script)
-
-    by_kind : (c : Block) → Stands script cps bs c → IsOfOther t c → KeepsJob s (after_block script s c) t
-    by_kind (added r) stands of_other = root_keeps_job script s counted r t (λ is.
-        (let none = unbegun (counted.each t) (ap (λ (u : ℕ). (life_of u s.log).origin) (sym is) ∙ stands.1) in false≢true (sym none ∙ under)))
-    by_kind (begun u m env) stands of_other = record { same = begin_keeps_job s u m env t of_other; job = refl }
-    by_kind (ran e r) stands of_other = turn_keeps_job script s counted e r.task r.number r.effects r.exit r.after stands.job r.env r.frame stands.stands t of_other under
-    by_kind (folded e f) stands of_other = absurd of_other
 
 same_current : (a b : Life) (n : ℕ) (j : JobFacts) → a.stage ≡ b.stage → a.given ≡ b.given → is_current a n j.resume ≡ is_current b n j.resume
 same_current a b n j stage given = ap₂ (λ (s : Option JobStage) (g : Option LastJob). is_current (record a { stage = s; given = g }) n j.resume) stage given
@@ -129,13 +111,13 @@ module _ (script : ScriptView) (cps : List CheckpointView) (before : List Block)
   has_begun = ap (λ (x : Standing). stage_at x.log t) (at_push script cps before c) ∙ begin_same t n env (after_blocks script (at_first script) before).log
 
   begun_s : stage_at s.log t ≡ Some (Begun env)
-  begun_s = (block_keeps_job script cps (before ++ c ∷ []) b t course_c stands_more.1.0 of_other (ap is_under_way has_begun)).same.stage ∙ has_begun
+  begun_s = (block_keeps_job script cps (before ++ c ∷ []) b t course_c.stand stands_more.1.0 of_other (ap is_under_way has_begun)).same.stage ∙ has_begun
 
   stands_z : Stands script cps before b
   stands_z = (stand_after script cps before [] (b ∷ []) next.course.stand).0
 
   kept : KeepsJob (after_blocks script (at_first script) before) z t
-  kept = block_keeps_job script cps before b t course stands_z of_other under
+  kept = block_keeps_job script cps before b t course.stand stands_z of_other under
 
   given_z : stage_at z.log t ≡ Some Given
   given_z = kept.same.stage ∙ elim (put_off.stages t) [
