@@ -19,3 +19,4 @@ pub mod Waits
 pub mod Telling
 pub mod SilentPlay
 pub mod Beside
+pub mod SilentSteps

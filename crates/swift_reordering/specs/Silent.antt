@@ -1,9 +1,15 @@
 -- Turns that touch nothing but their own task (our own).
-use Rattle.std.specs.Prelude.{ℕ, Bool, true, false, ◌&&◌, ◌||◌, Option, Some, None, List, [], ◌∷◌}
+use Rattle.std.specs.Prelude.{ℕ, Bool, true, false, ◌&&◌, ◌||◌, is_some, Option, Some, None, List, [], ◌∷◌}
 use Rattle.script_code.specs.Tree.{Term, Wanted, Operation, Code}
 use Rattle.script_code.specs.Tree as code
+use Rattle.script_code.specs.Layout.{code_at}
 use Rattle.script_code.specs.declared.instruction.NumberPlace.{NumberPlace}
 use Rattle.script_code.specs.declared.instruction.NumberPlace.TheVariants.{Variable, Field}
+use Rattle.swift_script.specs.Scripts.{ScriptView, method_code}
+use Rattle.swift_interpreter.specs.Frames.{FrameView}
+use Rattle.swift_interpreter.specs.Turn.{ExitView, calling, yielding, returning, failing}
+use Rattle.swift_turn.specs.Body.{callers_of}
+use Rattle.swift_history.specs.TurnEnds.{JobFacts}
 
 -- the expression reads no field, and looks away
 abbrev pub term_is_own : Term → Bool
@@ -66,3 +72,20 @@ code_is_silent code.end after = after
 code_is_silent (code.act d rest) after = operation_is_silent d && (ends_turn d || code_is_silent rest after)
 code_is_silent (code.choice t a b rest) after = term_is_own t && (code_is_silent a (code_is_silent rest after) && code_is_silent b (code_is_silent rest after))
 code_is_silent (code.loop t a rest) after = term_is_own t && (code_is_silent a true && code_is_silent rest after)
+
+-- The task goes on at once after such an exit: it has called, given way, or left a frame for its caller.
+abbrev pub goes_on_alone : List FrameView → ExitView → Bool
+goes_on_alone callers (calling c) = true
+goes_on_alone callers yielding = true
+goes_on_alone (q ∷ callers) (returning v) = true
+goes_on_alone (q ∷ callers) (failing f) = true
+goes_on_alone callers exit = false
+
+-- where the task has this job
+abbrev pub job_goes_on : Option JobFacts → ExitView → Bool
+job_goes_on None exit = false
+job_goes_on (Some j) exit = goes_on_alone (callers_of j.frames.frames) exit
+
+-- The turn of a frame is silent: a fault is pending, so that it runs no statement, or what comes next of its method is silent.
+abbrev pub frame_is_silent : ScriptView → FrameView → Bool
+frame_is_silent script p = is_some p.pending || code_is_silent (code_at (method_code script p.method) p.instruction) true
