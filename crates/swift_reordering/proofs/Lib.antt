@@ -20,3 +20,4 @@ pub mod Telling
 pub mod SilentPlay
 pub mod Beside
 pub mod SilentSteps
+pub mod Diamonds

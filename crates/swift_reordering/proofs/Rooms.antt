@@ -30,14 +30,14 @@ use Rattle.swift_reordering.proofs.Framed.{all_framed, has_root, seat_of}
 use Rattle.swift_events.proofs.LogLemmas.{unborn_without}
 
 -- what the first n of some numbers make in all
-abbrev total : (ℕ → ℕ) → ℕ → ℕ
+abbrev pub total : (ℕ → ℕ) → ℕ → ℕ
 total w zero = 0
 total w (suc n) = total w n + w n
 
 one_more : (n : ℕ) → suc n ≡ n + 1
 one_more n = omega arith
 
-sum_total : (log : List Event) (n : ℕ) → sum_by room_held (map (λ t. life_of t log) (range_with_len 0 n)) ≡ total (λ t. room_held (life_of t log)) n
+pub sum_total : (log : List Event) (n : ℕ) → sum_by room_held (map (λ t. life_of t log) (range_with_len 0 n)) ≡ total (λ t. room_held (life_of t log)) n
 sum_total log zero = refl
 sum_total log (suc n) =
     let more = sum_by-map-range_with_len_more room_held (λ t. life_of t log) 0 n n (omega arith) in
