@@ -1,15 +1,16 @@
 -- A silent turn, and a block of another task after it or before it.
 use Rattle.std.proofs.Common.{◌≡◌, ◌≢◌, ◌⊎◌, ℕ, ℤ, ◌+◌, List, [], ◌∷◌, ◌++◌, length, map, refl, sym, ◌∙◌, ap, ap₂, subst, subst₂, Bool, true, false, inl, inr, append_assoc, append-nil}
 use Rattle.std.proofs.Math.Path.{fun_ext}
-use Rattle.std.specs.Prelude.{Option, Some, None, ◌==◌, ◌&&◌, ◌-◌, min, sum_by, if◌then◌else◌}
+use Rattle.std.specs.Prelude.{Option, Some, None, ◌==◌, ◌&&◌, ◌-◌, ◌^◌, nat_lt, min, sum_by, if◌then◌else◌}
 use Rattle.std.specs.List.{cons_option, range_with_len}
 use Rattle.std.proofs.lemmas.Bool.{cases_Bool, cases_eq, eq-eqb, ne_eqb, false≢true}
 use Rattle.swift_types.specs.declared.env.Env.{Env}
 use Rattle.swift_types.specs.declared.limits.TheConstants.{TASKS, MADE}
 use Rattle.swift_types.specs.declared.priority.Priority.{Priority}
+use Rattle.swift_types.specs.declared.outcome.Resume.{Resume}
 use Rattle.swift_script.specs.Scripts.{ScriptView, root_count, executor_invariants}
 use Rattle.swift_interpreter.specs.Frames.{FrameView}
-use Rattle.swift_interpreter.specs.Turn.{EffectView, ExitView}
+use Rattle.swift_interpreter.specs.Turn.{EffectView, ExitView, calling, waiting, asking_next, closing, yielding, returning, failing, Played, TurnStateView}
 use Rattle.swift_turn.specs.Body.{Advanced, advanced}
 use Rattle.swift_journal.specs.Records.{RecordView}
 use Rattle.swift_journal.specs.Checkpoints.{CheckpointView}
@@ -17,14 +18,15 @@ use Rattle.swift_journal.specs.Replay.{replay, IsLawfulRecord}
 use Rattle.swift_events.specs.declared.event.Event.{Event}
 use Rattle.swift_events.specs.declared.event.Event.TheVariants.{Begin}
 use Rattle.swift_events.specs.declared.life.Life.{Life}
+use Rattle.swift_events.specs.declared.life.LastJob.{LastJob}
 use Rattle.swift_events.specs.declared.life.JobStage.{JobStage}
 use Rattle.swift_events.specs.declared.life.JobStage.TheVariants.{Given, Begun}
 use Rattle.swift_events.specs.Events.{tasks_of}
 use Rattle.swift_events.specs.Lives.{life_of, room_held}
 use Rattle.swift_events.specs.Relations.{links_of}
 use Rattle.swift_events.specs.Room.{IsEnv, lives_of, reserved_of, room_of}
-use Rattle.swift_history.specs.Checks.{Counters, is_current, is_under_way, counters, fits_turn}
-use Rattle.swift_history.specs.TurnEnds.{JobFacts, TurnEnd, task, turn_end}
+use Rattle.swift_history.specs.Checks.{Counters, is_current, is_under_way, was_given, counters, fits_exit, fits_turn}
+use Rattle.swift_history.specs.TurnEnds.{JobFacts, TurnEnd, task, root_job, turn_end}
 use Rattle.swift_history.specs.Histories.{Block, added, begun, ran, folded, Standing, at_first, after_block, after_blocks, with_jobs, taken, begun_priority, left_as, turn_applied, fields_of, record_in, TurnStands, RecordStands, Stands, AllStand}
 use Rattle.swift_laws.proofs.HistoriesTurns.{after_push, applied_is}
 use Rattle.swift_digest.specs.Digests.{ChildrenAreNew}
@@ -32,7 +34,9 @@ use Rattle.swift_digest.proofs.NewChildren.{histories_new}
 use Rattle.swift_digest.proofs.Links.{same_priority}
 use Rattle.swift_digest.proofs.SameStands.{all_push, fields_push}
 use Rattle.swift_reordering.specs.Blurred.{stage_at}
-use Rattle.swift_reordering.proofs.Sights.{waited, AreSeen, seen_on, seen_tasks, seen_links, seen_cancelled}
+use Rattle.swift_reordering.specs.Silent.{goes_on_alone, frame_is_silent}
+use Rattle.swift_reordering.specs.Waiting.{IsOfOther}
+use Rattle.swift_reordering.proofs.Sights.{waited, AreSeen, seen_on, seen_tasks, seen_origin, seen_links, seen_cancelled}
 use Rattle.swift_reordering.proofs.SeenFits.{seen_fits, seen_counters}
 use Rattle.swift_reordering.proofs.SeenEnds.{EndSeen, seen_end}
 use Rattle.swift_reordering.proofs.Rooms.{total, sum_total}
@@ -120,3 +124,74 @@ module _ (script : ScriptView) (t : ℕ) (s z : Standing) (beside : AreBeside t 
     with_same : (js : List JobFacts) (f g : ℕ → Option JobFacts) (v : ℕ) → f v ≡ g v → with_jobs js f v ≡ with_jobs js g v
     with_same [] f g v same = same
     with_same (j ∷ js) f g v same = with_same js (λ w. if w == j.task then Some j else f w) (λ w. if w == j.task then Some j else g w) v (if_same (v == j.task) j (f v) (g v) same)
+
+-- a block of another task
+
+module _ (script : ScriptView) (cps : List CheckpointView) (t : ℕ) (before others : List Block) (beside : AreBeside t (after_blocks script (at_first script) others) (after_blocks script (at_first script) before))
+    (fields : (k : ℕ) → fields_of script cps k others ≡ fields_of script cps k before) (stand : AllStand script cps [] before) (also : AllStand script cps [] others) where
+  abbrev s : Standing
+  s = after_blocks script (at_first script) before
+
+  abbrev z : Standing
+  z = after_blocks script (at_first script) others
+
+  -- it stands in both, and leaves them beside each other
+  pub record LeavesBeside (b : Block) : Type 0 where
+    pub stands : Stands script cps others b
+    pub near : AreSeen (besides t) (after_blocks script (at_first script) (others ++ b ∷ [])).log (after_blocks script (at_first script) (before ++ b ∷ [])).log
+    pub held : (after_blocks script (at_first script) (others ++ b ∷ [])).held ≡ (after_blocks script (at_first script) (before ++ b ∷ [])).held
+    pub jobs : (v : ℕ) → v ≢ t → (after_blocks script (at_first script) (others ++ b ∷ [])).jobs v ≡ (after_blocks script (at_first script) (before ++ b ∷ [])).jobs v
+
+  abbrev Beside : Standing → Standing → Type 0
+  Beside x y = AreSeen (besides t) x.log y.log × (x.held ≡ y.held) × ((v : ℕ) → v ≢ t → x.jobs v ≡ y.jobs v)
+
+  leaves : (b : Block) → Stands script cps others b → Beside (after_block script z b) (after_block script s b) → LeavesBeside b
+  leaves b stands is =
+      let both : Beside (after_blocks script (at_first script) (others ++ b ∷ [])) (after_blocks script (at_first script) (before ++ b ∷ [])) =
+      subst₂ Beside (sym (after_push script (at_first script) others b)) (sym (after_push script (at_first script) before b)) is in
+      record { stands = stands; near = both.0; held = both.1; jobs = both.2 }
+
+  pub block_beside : (b : Block) → Stands script cps before b → IsOfOther t b → LeavesBeside b
+  block_beside (folded e f) stands of_other = absurd of_other
+  block_beside (added r) stands of_other =
+      let origin = seen_origin (besides t) (besides_sight t) z.log s.log beside.near r in
+      leaves (added r) (stands.0, origin ∙ stands.1) (
+        seen_on (besides t) (besides_sight t) z.log s.log _ _ beside.near refl,
+        beside.held,
+        λ v other. ap (λ (o : Option JobFacts). if v == r then Some (root_job script r) else o) (beside.jobs v other),
+      )
+  block_beside (begun u m env) stands of_other =
+      let life = other_life t z.log s.log beside.near u of_other in
+      let is_env : IsEnv (root_count script) (task u) z.log env = record {
+        priority = same_priority (links_of s.log) (links_of z.log) (seen_links (besides t) (besides_sight t) s.log z.log (sym beside.near)) (seen_links (besides t) (besides_sight t) z.log s.log beside.near) (task u) env.priority stands.3.priority;
+        cancelled = stands.3.cancelled ∙ sym (seen_cancelled (besides t) (besides_sight t) z.log s.log beside.near u);
+        room = stands.3.room ∙ sym (seen_room t (root_count script) u z.log s.log beside.near beside.room);
+      } in
+      leaves (begun u m env) (stands.0, beside.jobs u of_other ∙ stands.1, ap (λ (l : Life). is_current l m stands.0.resume) life ∙ stands.2, is_env)
+      (seen_on (besides t) (besides_sight t) z.log s.log (Begin (task u) m env ∷ []) (Begin (task u) m env ∷ []) beside.near refl, beside.held, beside.jobs)
+  block_beside (ran k q) stands of_other =
+      let turn = turn_beside script t s z beside k q.task q.number q.effects q.exit stands.job q.env q.frame of_other stands.stands in
+      let stands_z : Stands script cps others (ran k q) = record {
+        job = stands.job;
+        stands = turn;
+        resume = stands.resume;
+        outer = stands.outer;
+        lawful = subst (λ (f : List (List ℤ)). IsLawfulRecord script f q) (sym (fields k)) stands.lawful;
+      } in
+      let new_z = subst (λ (a : Standing). ChildrenAreNew a.log) (after_push script (at_first script) others (ran k q)) (histories_new script cps (others ++ ran k q ∷ []) (all_push script cps others [] (ran k q) also stands_z)) in
+      let new_s = subst (λ (a : Standing). ChildrenAreNew a.log) (after_push script (at_first script) before (ran k q)) (histories_new script cps (before ++ ran k q ∷ []) (all_push script cps before [] (ran k q) stand stands)) in
+      leaves (ran k q) stands_z (turn_leaves script t s z beside k q.task q.number q.effects q.exit q.after stands.job q.env q.frame of_other stands.stands new_z new_s)
+
+-- after the silent turn, and before it
+
+current_too : (a b : Life) (n : ℕ) (x : Resume) → a.given ≡ b.given → is_under_way a.stage ≡ is_under_way b.stage → is_current a n x ≡ is_current b n x
+current_too a b n x given under = ap₂ (λ (g : Option LastJob) (y : Bool). was_given g n x && (nat_lt n (2 ^ 32 - 1) && y)) given under
+
+fits_alone : (script : ScriptView) (t u : ℕ) (a b : List Event) (c d : Counters) (callers : List FrameView) (exit : ExitView) → goes_on_alone callers exit ≡ true → fits_exit script t a c exit ≡ fits_exit script u b d exit
+fits_alone script t u a b c d callers (calling i) is = refl
+fits_alone script t u a b c d callers yielding is = refl
+fits_alone script t u a b c d callers (returning v) is = refl
+fits_alone script t u a b c d callers (failing f) is = refl
+fits_alone script t u a b c d callers (waiting x) is = absurd (false≢true is)
+fits_alone script t u a b c d callers (asking_next g) is = absurd (false≢true is)
+fits_alone script t u a b c d callers (closing g f) is = absurd (false≢true is)
