@@ -14,7 +14,7 @@ use Rattle.swift_interpreter.specs.Turn.{EffectView, ExitView, calling, waiting,
 use Rattle.swift_turn.specs.Body.{Advanced, advanced}
 use Rattle.swift_journal.specs.Records.{RecordView}
 use Rattle.swift_journal.specs.Checkpoints.{CheckpointView}
-use Rattle.swift_journal.specs.Replay.{replay, IsLawfulRecord}
+use Rattle.swift_journal.specs.Replay.{replay, IsAfter, StandsFor, IsLawfulRecord}
 use Rattle.swift_events.specs.declared.event.Event.{Event}
 use Rattle.swift_events.specs.declared.event.Event.TheVariants.{Begin}
 use Rattle.swift_events.specs.declared.life.Life.{Life}
@@ -22,25 +22,35 @@ use Rattle.swift_events.specs.declared.life.LastJob.{LastJob}
 use Rattle.swift_events.specs.declared.life.JobStage.{JobStage}
 use Rattle.swift_events.specs.declared.life.JobStage.TheVariants.{Given, Begun}
 use Rattle.swift_events.specs.Events.{tasks_of}
-use Rattle.swift_events.specs.Lives.{life_of, room_held}
-use Rattle.swift_events.specs.Relations.{links_of}
+use Rattle.swift_events.specs.Lives.{life_of, room_held, room_in}
+use Rattle.swift_events.specs.Relations.{links_of, is_cancelled}
+use Rattle.swift_events.proofs.LogLemmas.{life_of-push_same}
+use Rattle.swift_escalation.specs.Waits.{IsPriority}
+use Rattle.swift_laws.proofs.HistoriesGrow.{log_grows}
 use Rattle.swift_events.specs.Room.{IsEnv, lives_of, reserved_of, room_of}
 use Rattle.swift_history.specs.Checks.{Counters, is_current, is_under_way, was_given, counters, fits_exit, fits_turn}
 use Rattle.swift_history.specs.TurnEnds.{JobFacts, TurnEnd, task, root_job, turn_end}
-use Rattle.swift_history.specs.Histories.{Block, added, begun, ran, folded, Standing, at_first, after_block, after_blocks, with_jobs, taken, begun_priority, left_as, turn_applied, fields_of, record_in, TurnStands, RecordStands, Stands, AllStand}
+use Rattle.swift_history.specs.Histories.{Block, added, begun, ran, folded, Standing, at_first, after_block, after_blocks, with_jobs, taken, begun_priority, left_as, turn_applied, fields_of, records_of, record_in, TurnStands, RecordStands, Stands, AllStand}
 use Rattle.swift_laws.proofs.HistoriesTurns.{after_push, applied_is}
 use Rattle.swift_digest.specs.Digests.{ChildrenAreNew}
+use Rattle.swift_digest.specs.Futures.{LeadAlike}
+use Rattle.swift_digest.specs.Plans.{job_plan, held_plans}
+use Rattle.std.specs.Option.{option_map}
 use Rattle.swift_digest.proofs.NewChildren.{histories_new}
 use Rattle.swift_digest.proofs.Links.{same_priority}
-use Rattle.swift_digest.proofs.SameStands.{all_push, fields_push}
+use Rattle.swift_digest.proofs.SameStands.{all_push, fields_push, records_push, front_none}
 use Rattle.swift_reordering.specs.Blurred.{stage_at}
 use Rattle.swift_reordering.specs.Silent.{goes_on_alone, frame_is_silent}
 use Rattle.swift_reordering.specs.Waiting.{IsOfOther}
-use Rattle.swift_reordering.proofs.Sights.{waited, AreSeen, seen_on, seen_tasks, seen_origin, seen_links, seen_cancelled}
+use Rattle.swift_reordering.proofs.Sights.{waited, AreSeen, seen_on, seen_tasks, seen_origin, seen_ending, seen_links, seen_cancelled}
 use Rattle.swift_reordering.proofs.SeenFits.{seen_fits, seen_counters}
 use Rattle.swift_reordering.proofs.SeenEnds.{EndSeen, seen_end}
+use Rattle.swift_reordering.proofs.Priorities.{priority_later}
+use Rattle.swift_reordering.proofs.Others.{KeepsJob}
+use Rattle.swift_reordering.proofs.Keeping.{block_keeps_job}
+use Rattle.swift_reordering.proofs.SilentSteps.{GoesOnAlone, goes_alone, IsSilentTurn, InvariantsHold, AfterAlone, job_after, silent_after, silent_fields, no_effects, played, alone_seen, alone_life, alone_job, alone_jobs}
 use Rattle.swift_reordering.proofs.Rooms.{total, sum_total}
-use Rattle.swift_reordering.proofs.Beside.{besides, besides_sight, other_life}
+use Rattle.swift_reordering.proofs.Beside.{besides, besides_sight, other_life, one_digest}
 
 -- the room of turns, where the job of one task is not seen, and has reserved as much
 
@@ -195,3 +205,231 @@ fits_alone script t u a b c d callers (failing f) is = refl
 fits_alone script t u a b c d callers (waiting x) is = absurd (false≢true is)
 fits_alone script t u a b c d callers (asking_next g) is = absurd (false≢true is)
 fits_alone script t u a b c d callers (closing g f) is = absurd (false≢true is)
+
+stands_fields : (script : ScriptView) (m : ℕ) (st : TurnStateView) (f g : List (List ℤ)) (after : Option FrameView) → StandsFor script m (record st { fields = f }) after → StandsFor script m (record st { fields = g }) after
+stands_fields script m st f g None is = is
+stands_fields script m st f g (Some p) is = (is.0, ap (λ (x : TurnStateView). record x { fields = g }) is.1)
+
+after_fields : (script : ScriptView) (m : ℕ) (st : TurnStateView) (f g : List (List ℤ)) (exit : ExitView) (after : Option FrameView) → IsAfter script m (record st { fields = f }) exit after → IsAfter script m (record st { fields = g }) exit after
+after_fields script m st f g (returning v) after is = is
+after_fields script m st f g (failing x) after is = is
+after_fields script m st f g (calling i) after is = stands_fields script m st f g after is
+after_fields script m st f g (waiting x) after is = stands_fields script m st f g after is
+after_fields script m st f g (asking_next x) after is = stands_fields script m st f g after is
+after_fields script m st f g (closing x y) after is = stands_fields script m st f g after is
+after_fields script m st f g yielding after is = stands_fields script m st f g after is
+
+module _ (script : ScriptView) (cps : List CheckpointView) (before : List Block) (t n : ℕ) (env : Env) (e : ℕ) (r : RecordView) (silent : IsSilentTurn script cps before t n env e r) (stand : AllStand script cps [] before)
+    (hold : (bs : List Block) → AllStand script cps [] bs → InvariantsHold script cps bs e) (b : Block) (stands_b : Stands script cps before b) (of_other : IsOfOther t b)
+    (rooms : room_of (root_count script) t (after_blocks script (at_first script) before).log ≡ room_of (root_count script) t (after_blocks script (at_first script) (before ++ b ∷ [])).log) where
+  abbrev at : List Block → Standing
+  at bs = after_blocks script (at_first script) bs
+
+  abbrev after : List Block
+  after = (before ++ begun t n env ∷ []) ++ ran e r ∷ []
+
+  abbrev hb : List Block
+  hb = before ++ b ∷ []
+
+  under : is_under_way (stage_at (at before).log t) ≡ true
+  under = ap is_under_way silent.given
+
+  kept : KeepsJob (at before) (at hb) t
+  kept = block_keeps_job script cps before b t stand stands_b of_other under
+
+  given_b : stage_at (at hb).log t ≡ Some Given
+  given_b = kept.same.stage ∙ silent.given
+
+  hb_stand : AllStand script cps [] hb
+  hb_stand = all_push script cps before [] b stand stands_b
+
+  pub late : (other : Env) × IsEnv (root_count script) (task t) (at hb).log other
+  late =
+      let grown = log_grows script cps before (b ∷ []) (stands_b, tt) in
+      let q = priority_later (at before).log grown.0 (task t) env.priority silent.begins.3.priority in (
+        record { priority = q.0; cancelled = is_cancelled t (at hb).log; room = room_of (root_count script) t (at hb).log },
+        record { priority = subst (λ (l : List Event). IsPriority (links_of l) (task t) q.0) (sym grown.1) q.1; cancelled = refl; room = refl },
+      )
+
+  abbrev later_env : Env
+  later_env = late.0
+
+  abbrev c : Block
+  c = begun t n later_env
+
+  abbrev later_turn : RecordView
+  later_turn = record r { env = later_env }
+
+  begins_later : Stands script cps hb c
+  begins_later = (silent.begins.0, kept.job ∙ silent.begins.1, current_too (life_of t (at hb).log) (life_of t (at before).log) n silent.begins.0.resume kept.same.given (ap is_under_way kept.same.stage) ∙ silent.begins.2, late.1)
+
+  abbrev mid : Standing
+  mid = at (before ++ begun t n env ∷ [])
+
+  abbrev mid_b : Standing
+  mid_b = at (hb ++ c ∷ [])
+
+  to_mid : mid ≡ after_block script (at before) (begun t n env)
+  to_mid = after_push script (at_first script) before (begun t n env)
+
+  to_mid_b : mid_b ≡ after_block script (at hb) c
+  to_mid_b = after_push script (at_first script) hb c
+
+  life_mid : life_of t mid.log ≡ record (life_of t (at before).log) { stage = Some (Begun env) }
+  life_mid = ap (λ (a : Standing). life_of t a.log) to_mid ∙ life_of-push_same t (at before).log (Begin (task t) n env) refl
+
+  life_mid_b : life_of t mid_b.log ≡ record (life_of t (at hb).log) { stage = Some (Begun later_env) }
+  life_mid_b = ap (λ (a : Standing). life_of t a.log) to_mid_b ∙ life_of-push_same t (at hb).log (Begin (task t) n later_env) refl
+
+  own_env : env ≡ r.env
+  own_env =
+      let is : ◌≡◌ {A = Option JobStage} (Some (Begun env)) (Some (Begun r.env)) = ap (λ (l : Life). l.stage) (sym life_mid) ∙ ap (stage_at mid.log) (sym silent.own) ∙ silent.runs.stands.has_begun in
+      cc is
+
+  room : r.env.room ≡ later_env.room
+  room = ap (λ (x : Env). x.room) (sym own_env) ∙ silent.begins.3.room ∙ rooms ∙ sym late.1.room
+
+  mid_b_stand : AllStand script cps [] (hb ++ c ∷ [])
+  mid_b_stand = all_push script cps hb [] c hb_stand begins_later
+
+  abbrev turn_later : TurnStands script mid_b e r.task r.number r.effects r.exit silent.runs.job later_env r.frame
+  turn_later =
+      let jobs : mid_b.jobs r.task ≡ mid.jobs r.task =
+      ap mid_b.jobs silent.own ∙ ap (λ (a : Standing). a.jobs t) to_mid_b ∙ kept.job ∙ ap (λ (a : Standing). a.jobs t) (sym to_mid) ∙ ap mid.jobs (sym silent.own) in
+      let life : is_current (life_of r.task mid_b.log) r.number silent.runs.job.resume ≡ is_current (life_of r.task mid.log) r.number silent.runs.job.resume =
+      ap (λ (u : ℕ). is_current (life_of u mid_b.log) r.number silent.runs.job.resume) silent.own
+      ∙ current_too (life_of t mid_b.log) (life_of t mid.log) r.number silent.runs.job.resume (ap (λ (l : Life). l.given) life_mid_b ∙ kept.same.given ∙ ap (λ (l : Life). l.given) (sym life_mid))
+      (ap (λ (l : Life). is_under_way l.stage) life_mid_b ∙ ap (λ (l : Life). is_under_way l.stage) (sym life_mid))
+      ∙ ap (λ (u : ℕ). is_current (life_of u mid.log) r.number silent.runs.job.resume) (sym silent.own) in
+      let none = no_effects script cps before t n env e r silent (hold before stand) in
+      record {
+        given = jobs ∙ silent.runs.stands.given;
+        number = silent.runs.stands.number;
+        current = life ∙ silent.runs.stands.current;
+        has_begun = ap (stage_at mid_b.log) silent.own ∙ ap (λ (l : Life). l.stage) life_mid_b;
+        fits = ap (λ (es : List EffectView). fits_turn script r.task mid_b.log (counters r.task mid_b.log later_env.room) es r.exit) none
+            ∙ fits_alone script r.task r.task mid_b.log mid.log (counters r.task mid_b.log later_env.room) (counters r.task mid.log r.env.room) silent.runs.stands.runs.0 r.exit silent.alone
+            ∙ ap (λ (es : List EffectView). fits_turn script r.task mid.log (counters r.task mid.log r.env.room) es r.exit) (sym none) ∙ silent.runs.stands.fits;
+        runs = silent.runs.stands.runs;
+        on = silent.runs.stands.on;
+      }
+
+  abbrev runs_later : Stands script cps (hb ++ c ∷ []) (ran e later_turn)
+  runs_later =
+      let f : List (List ℤ) = fields_of script cps e (before ++ begun t n env ∷ []) in
+      let g : List (List ℤ) = fields_of script cps e (hb ++ c ∷ []) in
+      let p = played script cps before t n env e r silent (hold before stand) g later_env (hold (hb ++ c ∷ []) mid_b_stand) room in
+      let lawful = silent.runs.lawful in
+      record {
+        job = silent.runs.job;
+        stands = turn_later;
+        resume = silent.runs.resume;
+        outer = silent.runs.outer;
+        lawful = record {
+          exit = lawful.exit ∙ ap (λ (k : Played). k.exit) p.one ∙ ap (λ (k : Played). k.exit) (sym p.two);
+          effects = lawful.effects ∙ ap (λ (k : Played). k.state.effects) p.one ∙ ap (λ (k : Played). k.state.effects) (sym p.two);
+          after = subst (λ (k : Played). IsAfter script r.frame.method k.state r.exit r.after) (sym p.two)
+              (after_fields script r.frame.method p.state f g r.exit r.after (subst (λ (k : Played). IsAfter script r.frame.method k.state r.exit r.after) p.one lawful.after));
+        };
+      }
+
+  -- the silent turn stands after the block
+  abbrev silent_later : IsSilentTurn script cps hb t n later_env e later_turn
+  silent_later = record { begins = begins_later; runs = runs_later; given = given_b; own = silent.own; number = silent.number; quiet = silent.quiet; alone = silent.alone }
+
+  pub later_silent : IsSilentTurn script cps hb t n later_env e later_turn
+  later_silent = silent_later
+
+  -- and the block stands after the turn; both ways lead alike
+
+  after_stand : AllStand script cps [] after
+  after_stand = all_push script cps (before ++ begun t n env ∷ []) [] (ran e r) (all_push script cps before [] (begun t n env) stand silent.begins) silent.runs
+
+  beside : AreBeside t (at after) (at before)
+  beside =
+      let one = silent_after script cps before t n env e r silent (hold before stand) in
+      record {
+        near = alone_seen (at before) (at after) t n env _ _ one (ap waited silent.given);
+        room = ap room_held (alone_life (at before) (at after) t n env _ _ one) ∙ ap room_in (sym silent.given);
+        held = one.held;
+        jobs = alone_jobs (at before) (at after) t n env _ _ one;
+      }
+
+  fields_after : (k : ℕ) → fields_of script cps k after ≡ fields_of script cps k before
+  fields_after = silent_fields script cps before t n env e r silent (hold before stand)
+
+  block_after : LeavesBeside script cps t before after beside fields_after stand after_stand b
+  block_after = block_beside script cps t before after beside fields_after stand after_stand b stands_b of_other
+
+  pub stands_after : Stands script cps after b
+  stands_after = block_after.stands
+
+  abbrev first_then : List Block
+  first_then = after ++ b ∷ []
+
+  abbrev then_first : List Block
+  then_first = (hb ++ c ∷ []) ++ ran e later_turn ∷ []
+
+  abbrev view_is : GoesOnAlone script (left_as r.frame r.effects r.after) silent.runs.stands.runs.0 silent.runs.job.frames.outer r.exit
+  view_is = goes_alone script (left_as r.frame r.effects r.after) silent.runs.stands.runs.0 silent.runs.job.frames.outer r.exit silent.alone
+
+  alone_one : AfterAlone (at before) (at after) t n env view_is.view view_is.resume
+  alone_one = silent_after script cps before t n env e r silent (hold before stand)
+
+  alone_two : AfterAlone (at hb) (at then_first) t n later_env view_is.view view_is.resume
+  alone_two = silent_after script cps hb t n later_env e later_turn silent_later (hold hb hb_stand)
+
+  kept_after : KeepsJob (at after) (at first_then) t
+  kept_after = block_keeps_job script cps after b t after_stand stands_after of_other (ap (λ (l : Life). is_under_way l.stage) (alone_life (at before) (at after) t n env view_is.view view_is.resume alone_one))
+
+  both_seen : AreSeen (besides t) (at then_first).log (at first_then).log
+  both_seen = alone_seen (at hb) (at then_first) t n later_env view_is.view view_is.resume alone_two (ap waited given_b) ∙ sym block_after.near
+
+  both_lives : life_of t (at then_first).log ≡ life_of t (at first_then).log
+  both_lives =
+      let a : Life = life_of t (at then_first).log in
+      let d : Life = life_of t (at first_then).log in
+      let at_two = alone_life (at hb) (at then_first) t n later_env view_is.view view_is.resume alone_two in
+      let at_one = alone_life (at before) (at after) t n env view_is.view view_is.resume alone_one in
+      let origin : a.origin ≡ d.origin = seen_origin (besides t) (besides_sight t) (at then_first).log (at first_then).log both_seen t in
+      let ending : a.ending ≡ d.ending = seen_ending (besides t) (besides_sight t) (at then_first).log (at first_then).log both_seen t in
+      let given : a.given ≡ d.given = ap (λ (l : Life). l.given) at_two ∙ sym (kept_after.same.given ∙ ap (λ (l : Life). l.given) at_one) in
+      let stage : a.stage ≡ d.stage = ap (λ (l : Life). l.stage) at_two ∙ sym (kept_after.same.stage ∙ ap (λ (l : Life). l.stage) at_one) in
+      λ k. record { origin = origin k; given = given k; stage = stage k; ending = ending k }
+
+  both_jobs : (u : ℕ) → (at then_first).jobs u ≡ (at first_then).jobs u
+  both_jobs u = elim (cases_eq u t) [
+    | inl same ↦
+        ap (at then_first).jobs same ∙ alone_job (at hb) (at then_first) t n later_env view_is.view view_is.resume alone_two
+        ∙ sym (kept_after.job ∙ alone_job (at before) (at after) t n env view_is.view view_is.resume alone_one) ∙ ap (at first_then).jobs (sym same)
+    | inr ne ↦ alone_jobs (at hb) (at then_first) t n later_env view_is.view view_is.resume alone_two u ne ∙ sym (block_after.jobs u ne)
+  ]
+
+  both_fields : (k : ℕ) → fields_of script cps k then_first ≡ fields_of script cps k first_then
+  both_fields k =
+      silent_fields script cps hb t n later_env e later_turn silent_later (hold hb hb_stand) k ∙ fields_push script cps k before b
+      ∙ ap (λ (f : List (List ℤ)). replay script f (cons_option (record_in k b) [])) (sym (fields_after k)) ∙ sym (fields_push script cps k after b)
+
+  none_if : (x : Bool) → cons_option (if x then Some later_turn else None) [] ≡ [] → cons_option (if x then Some r else None) [] ≡ []
+  none_if true is = absurd (cc is)
+  none_if false is = refl
+
+  both_unused : (k : ℕ) → records_of k then_first ≡ [] → records_of k first_then ≡ []
+  both_unused k none =
+      let last = front_none script cps (records_of k (hb ++ c ∷ [])) (cons_option (record_in k (ran e later_turn)) []) (sym (records_push script cps k (hb ++ c ∷ []) (ran e later_turn)) ∙ none) in
+      let begin = front_none script cps (records_of k hb) (cons_option (record_in k c) []) (sym (records_push script cps k hb c) ∙ last.0) in
+      let block = front_none script cps (records_of k before) (cons_option (record_in k b) []) (sym (records_push script cps k before b) ∙ begin.0) in
+      let mid_none : records_of k (before ++ begun t n env ∷ []) ≡ [] = records_push script cps k before (begun t n env) ∙ ap (λ (xs : List RecordView). xs ++ []) block.0 in
+      let after_none : records_of k after ≡ [] = records_push script cps k (before ++ begun t n env ∷ []) (ran e r) ∙ ap₂ (λ (xs ys : List RecordView). xs ++ ys) mid_none (none_if (e == k) last.1) in
+      records_push script cps k after b ∙ ap₂ (λ (xs ys : List RecordView). xs ++ ys) after_none block.1
+
+  pub both_lead : LeadAlike script cps then_first first_then
+  both_lead = record {
+    standing = record {
+      digest = one_digest t (at then_first).log (at first_then).log both_seen both_lives;
+      held = ap (held_plans script) (alone_two.held ∙ sym block_after.held);
+      jobs = λ u. ap (option_map (job_plan script)) (both_jobs u);
+    };
+    fields = both_fields;
+    unused = both_unused;
+  }

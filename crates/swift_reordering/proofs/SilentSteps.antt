@@ -71,7 +71,7 @@ called_alone script p callers outer c false is = record {
   end_is = λ log held t n own. rw is (plain_end log held t n _ _);
 }
 
-goes_alone : (script : ScriptView) (p : FrameView) (callers : List FrameView) (outer : List (ℕ × ℤ)) (exit : ExitView) → goes_on_alone callers exit ≡ true → GoesOnAlone script p callers outer exit
+pub goes_alone : (script : ScriptView) (p : FrameView) (callers : List FrameView) (outer : List (ℕ × ℤ)) (exit : ExitView) → goes_on_alone callers exit ≡ true → GoesOnAlone script p callers outer exit
 goes_alone script p callers outer (calling c) is = called_alone script p callers outer c (nat_lt (length (p ∷ callers)) FRAMES) refl
 goes_alone script p callers outer yielding is = record { view = _; resume = _; end_is = λ log held t n own. plain_end log held t n (record { frames = p ∷ callers; outer = outer }) Rattle.swift_types.specs.declared.outcome.Resume.TheVariants.Go }
 goes_alone script p (q ∷ callers) outer (returning v) is = record { view = (advanced script p (q ∷ callers) outer (returning v)).task; resume = Rattle.swift_types.specs.declared.outcome.Resume.TheVariants.Value v; end_is = λ log held t n own. plain_end log held t n _ _ }
@@ -167,7 +167,7 @@ module _ (script : ScriptView) (cps : List CheckpointView) where
     abbrev frame_left : FrameView
     frame_left = left_as r.frame r.effects r.after
 
-    pub on_alone : GoesOnAlone script (left_as r.frame r.effects r.after) silent.runs.stands.runs.0 silent.runs.job.frames.outer r.exit
+    abbrev pub on_alone : GoesOnAlone script (left_as r.frame r.effects r.after) silent.runs.stands.runs.0 silent.runs.job.frames.outer r.exit
     on_alone = goes_alone script (left_as r.frame r.effects r.after) silent.runs.stands.runs.0 silent.runs.job.frames.outer r.exit silent.alone
 
     to_mid : mid ≡ after_block script s (begun t n env)
