@@ -40,6 +40,8 @@ use Rattle.swift_digest.proofs.NewChildren.{histories_new}
 use Rattle.swift_digest.proofs.Links.{same_priority}
 use Rattle.swift_digest.proofs.SameStands.{all_push, fields_push, records_push, front_none}
 use Rattle.swift_reordering.specs.Blurred.{stage_at}
+use Rattle.swift_reordering.specs.SilentTurns.{IsSilentTurn, SilentTurnsCommute}
+use Rattle.swift_reordering.proofs.Holding.{hold_always}
 use Rattle.swift_reordering.specs.Silent.{goes_on_alone, frame_is_silent}
 use Rattle.swift_reordering.specs.Waiting.{IsOfOther}
 use Rattle.swift_reordering.proofs.Sights.{waited, AreSeen, seen_on, seen_tasks, seen_origin, seen_ending, seen_links, seen_cancelled}
@@ -48,7 +50,7 @@ use Rattle.swift_reordering.proofs.SeenEnds.{EndSeen, seen_end}
 use Rattle.swift_reordering.proofs.Priorities.{priority_later}
 use Rattle.swift_reordering.proofs.Others.{KeepsJob}
 use Rattle.swift_reordering.proofs.Keeping.{block_keeps_job}
-use Rattle.swift_reordering.proofs.SilentSteps.{GoesOnAlone, goes_alone, IsSilentTurn, InvariantsHold, AfterAlone, job_after, silent_after, silent_fields, no_effects, played, alone_seen, alone_life, alone_job, alone_jobs}
+use Rattle.swift_reordering.proofs.SilentSteps.{GoesOnAlone, goes_alone, InvariantsHold, AfterAlone, job_after, silent_after, silent_fields, no_effects, played, alone_seen, alone_life, alone_job, alone_jobs}
 use Rattle.swift_reordering.proofs.Rooms.{total, sum_total}
 use Rattle.swift_reordering.proofs.Beside.{besides, besides_sight, other_life, one_digest}
 
@@ -433,3 +435,13 @@ module _ (script : ScriptView) (cps : List CheckpointView) (before : List Block)
     fields = both_fields;
     unused = both_unused;
   }
+
+pub silent_commutes : SilentTurnsCommute
+silent_commutes script cps before t n env e r b stand silent first stands_b of_other rooms =
+    let hold = hold_always script cps e first in
+    record {
+      other = (late script cps before t n env e r silent stand hold b stands_b of_other rooms).0;
+      later = later_silent script cps before t n env e r silent stand hold b stands_b of_other rooms;
+      first = stands_after script cps before t n env e r silent stand hold b stands_b of_other rooms;
+      lead = both_lead script cps before t n env e r silent stand hold b stands_b of_other rooms;
+    }

@@ -20,4 +20,5 @@ pub mod Telling
 pub mod SilentPlay
 pub mod Beside
 pub mod SilentSteps
+pub mod Holding
 pub mod Diamonds

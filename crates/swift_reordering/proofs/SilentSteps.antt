@@ -31,6 +31,7 @@ use Rattle.swift_history.specs.Histories.{Block, begun, ran, Standing, at_first,
 use Rattle.swift_laws.proofs.HistoriesTurns.{after_push, applied_is}
 use Rattle.swift_digest.proofs.SameStands.{fields_push}
 use Rattle.swift_reordering.specs.Blurred.{stage_at}
+use Rattle.swift_reordering.specs.SilentTurns.{IsSilentTurn}
 use Rattle.swift_reordering.specs.Silent.{goes_on_alone, job_goes_on, frame_is_silent}
 use Rattle.swift_reordering.proofs.Sights.{waited, AreSeen}
 use Rattle.swift_reordering.proofs.Beside.{besides, besides_sight, seen_local}
@@ -118,16 +119,6 @@ module _ (s z : Standing) (t n : ℕ) (env : Env) (view : TaskView) (resume : Re
 
   pub alone_job : z.jobs t ≡ Some (job_after t n view resume)
   alone_job = ap (λ (f : ℕ → Option JobFacts). f t) alone.jobs ∙ ap (λ (b : Bool). if b then Some (job_after t n view resume) else (if b then None else s.jobs t)) (eq-eqb t t refl)
-
--- A silent turn that may begin and run.
-pub record IsSilentTurn (script : ScriptView) (cps : List CheckpointView) (before : List Block) (t n : ℕ) (env : Env) (e : ℕ) (r : RecordView) : Type 0 where
-  pub begins : Stands script cps before (begun t n env)
-  pub runs : Stands script cps (before ++ begun t n env ∷ []) (ran e r)
-  pub given : stage_at (after_blocks script (at_first script) before).log t ≡ Some Given
-  pub own : r.task ≡ t
-  pub number : r.number ≡ n
-  pub quiet : frame_is_silent script r.frame ≡ true
-  pub alone : goes_on_alone runs.stands.runs.0 r.exit ≡ true
 
 module _ (script : ScriptView) (cps : List CheckpointView) where
   -- each invariant holds of the fields

@@ -4,3 +4,4 @@ pub mod Fused
 pub mod FusedSteps
 pub mod Waiting
 pub mod Silent
+pub mod SilentTurns

@@ -3,6 +3,7 @@
 ghost use Rattle.swift_reordering.specs.Away.{InstructionsTell};
 ghost use Rattle.swift_reordering.specs.Fused.{EachIsFused};
 ghost use Rattle.swift_reordering.specs.FusedSteps.{ClosedHasEachExit, ClosedHasEachOutcome};
+ghost use Rattle.swift_reordering.specs.SilentTurns.{SilentTurnsCommute};
 ghost use Rattle.swift_reordering.specs.Waiting.{BeginsMayWait};
 
 /// A report in order has another with the same endings, fields and turns, in which each turn that looks away begins right before it runs,
@@ -30,4 +31,9 @@ pub fn begins_may_wait()
 /// A method looks away where each of its instructions does (our own).
 pub fn instructions_tell()
     ensures { InstructionsTell }
+{}
+
+/// A turn that touches nothing but its own task, which goes on at once, may run before or after a block of another task (our own).
+pub fn silent_turns_commute()
+    ensures { SilentTurnsCommute }
 {}
