@@ -22,3 +22,4 @@ pub mod Beside
 pub mod SilentSteps
 pub mod Holding
 pub mod Diamonds
+pub mod Bringing

@@ -43,7 +43,7 @@ allowed_front : (Allowed : List Block → Block → Type 0) (xs before ys : List
 allowed_front Allowed [] before ys all = tt
 allowed_front Allowed (x ∷ xs) before ys all = (all.0, allowed_front Allowed xs (before ++ x ∷ []) ys all.1)
 
-course_front : (script : ScriptView) (cps : List CheckpointView) (xs ys : List Block) → AllStand script cps [] (xs ++ ys) → AllAllowed (IsOrderly script) [] (xs ++ ys) → IsCourse script cps xs
+pub course_front : (script : ScriptView) (cps : List CheckpointView) (xs ys : List Block) → AllStand script cps [] (xs ++ ys) → AllAllowed (IsOrderly script) [] (xs ++ ys) → IsCourse script cps xs
 course_front script cps xs ys stand orderly = record { stand = stand_front script cps xs [] ys stand; orderly = allowed_front (IsOrderly script) xs [] ys orderly }
 
 same_current : (a b : Life) (n : ℕ) (j : JobFacts) → a.stage ≡ b.stage → a.given ≡ b.given → is_current a n j.resume ≡ is_current b n j.resume

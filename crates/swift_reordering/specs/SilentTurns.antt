@@ -1,5 +1,5 @@
 -- A silent turn may run before or after a block of another task (our own).
-use Rattle.std.specs.Prelude.{◌≡◌, ℕ, true, Some, List, [], ◌∷◌, ◌++◌}
+use Rattle.std.specs.Prelude.{◌≡◌, ◌≢◌, ◌⊎◌, ℕ, ◌+◌, true, Some, List, [], ◌∷◌, ◌++◌, length}
 use Rattle.swift_types.specs.declared.env.Env.{Env}
 use Rattle.swift_script.specs.Scripts.{ScriptView, root_count, executor_invariants}
 use Rattle.swift_interpreter.specs.Turn.{all_hold}
@@ -8,7 +8,11 @@ use Rattle.swift_journal.specs.Checkpoints.{CheckpointView}
 use Rattle.swift_events.specs.declared.life.JobStage.TheVariants.{Given}
 use Rattle.swift_events.specs.Room.{room_of}
 use Rattle.swift_history.specs.Histories.{Block, begun, ran, at_first, after_blocks, checkpoint_at, Stands, AllStand}
+use Rattle.swift_history.specs.Orderly.{AllAllowed, IsOrderly}
+use Rattle.swift_laws.specs.Laws.{ActorsHaveExecutors}
 use Rattle.swift_digest.specs.Futures.{LeadAlike}
+use Rattle.swift_reordering.specs.Fused.{RunsNext}
+use Rattle.swift_reordering.specs.FusedSteps.{HasRoom}
 use Rattle.swift_reordering.specs.Blurred.{stage_at}
 use Rattle.swift_reordering.specs.Silent.{goes_on_alone, frame_is_silent}
 use Rattle.swift_reordering.specs.Waiting.{IsOfOther}
@@ -37,3 +41,23 @@ SilentTurnsCommute = (script : ScriptView) (checkpoints : List CheckpointView) (
     → Stands script checkpoints before b → IsOfOther t b
     → room_of (root_count script) t (after_blocks script (at_first script) before).log ≡ room_of (root_count script) t (after_blocks script (at_first script) (before ++ b ∷ [])).log
     → Commutes script checkpoints before t n env e r b
+
+-- Before any other block of task `t` these blocks have one in which it begins, and the next one is its turn.
+abbrev pub OwnNext : ℕ → List Block → Type 0
+OwnNext t [] = ⊥
+OwnNext t (begun u m env ∷ bs) = ((u ≡ t) × RunsNext t bs) ⊎ ((u ≢ t) × OwnNext t bs)
+OwnNext t (b ∷ bs) = IsOfOther t b × OwnNext t bs
+
+-- The turn runs first, and then come as many blocks as are left, so that they lead alike.
+pub record GoesFirst (script : ScriptView) (checkpoints : List CheckpointView) (before rest : List Block) (t n : ℕ) (env : Env) (e : ℕ) (r : RecordView) : Type 0 where
+  pub others : List Block
+  pub stand : AllStand script checkpoints before (begun t n env ∷ ran e r ∷ others)
+  pub many : length others + 2 ≡ length rest
+  pub lead : LeadAlike script checkpoints (before ++ rest) (before ++ begun t n env ∷ ran e r ∷ others)
+
+-- A silent turn may go before all that stands before it in a history in order with room for it.
+abbrev pub SilentTurnsMayGoFirst : Type 0
+SilentTurnsMayGoFirst = (script : ScriptView) (checkpoints : List CheckpointView) (before rest : List Block) (t n : ℕ) (env : Env) (e : ℕ) (r : RecordView) → ActorsHaveExecutors script
+    → AllStand script checkpoints [] (before ++ rest) → AllAllowed (IsOrderly script) [] (before ++ rest) → HasRoom script (before ++ rest)
+    → IsSilentTurn script checkpoints before t n env e r → all_hold (executor_invariants script e) (checkpoint_at checkpoints e).fields ≡ true → OwnNext t rest
+    → GoesFirst script checkpoints before rest t n env e r

@@ -3,7 +3,7 @@
 ghost use Rattle.swift_reordering.specs.Away.{InstructionsTell};
 ghost use Rattle.swift_reordering.specs.Fused.{EachIsFused};
 ghost use Rattle.swift_reordering.specs.FusedSteps.{ClosedHasEachExit, ClosedHasEachOutcome};
-ghost use Rattle.swift_reordering.specs.SilentTurns.{SilentTurnsCommute};
+ghost use Rattle.swift_reordering.specs.SilentTurns.{SilentTurnsCommute, SilentTurnsMayGoFirst};
 ghost use Rattle.swift_reordering.specs.Waiting.{BeginsMayWait};
 
 /// A report in order has another with the same endings, fields and turns, in which each turn that looks away begins right before it runs,
@@ -36,4 +36,9 @@ pub fn instructions_tell()
 /// A turn that touches nothing but its own task, which goes on at once, may run before or after a block of another task (our own).
 pub fn silent_turns_commute()
     ensures { SilentTurnsCommute }
+{}
+
+/// Such a turn may go before all that stands before it in a history in order, where there is room (our own).
+pub fn silent_turns_may_go_first()
+    ensures { SilentTurnsMayGoFirst }
 {}
