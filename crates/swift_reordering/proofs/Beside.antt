@@ -2,26 +2,20 @@
 use Rattle.std.proofs.Common.{◌≡◌, ◌≢◌, ℕ, ◌+◌, List, [], ◌∷◌, ◌++◌, refl, sym, ◌∙◌, ap, ap₂, subst, Bool, true, false, inl, inr, append-nil, arith}
 use Rattle.std.specs.Prelude.{Option, Some, None, ◌==◌, ◌||◌, if◌then◌else◌}
 use Rattle.std.specs.List.{cons_option}
-use Rattle.std.proofs.lemmas.Bool.{cases_Bool, cases_eq, eqb-true, eq-eqb, ne_eqb}
-use Rattle.swift_types.specs.declared.id.TaskId.{TaskId}
-use Rattle.swift_types.specs.declared.env.Env.{Env}
-use Rattle.swift_types.specs.declared.outcome.Resume.{Resume}
-use Rattle.swift_types.specs.declared.outcome.Ending.{Ending}
+use Rattle.std.proofs.lemmas.Bool.{cases_eq, eq-eqb, ne_eqb}
 use Rattle.swift_escalation.specs.declared.waits.PriorityEvent.{PriorityEvent as Link}
 use Rattle.swift_events.specs.declared.event.Event.{Event}
 use Rattle.swift_events.specs.declared.event.Event.TheVariants.{Begin, Apply, Give}
 use Rattle.swift_events.specs.declared.life.Life.{Life}
-use Rattle.swift_events.specs.declared.life.LastJob.{LastJob}
-use Rattle.swift_events.specs.declared.life.Origin.{Origin}
 use Rattle.swift_events.specs.declared.life.JobStage.{JobStage}
 use Rattle.swift_events.specs.declared.life.JobStage.TheVariants.{Given, Begun, Applied, Waits, Asks, Closes}
 use Rattle.swift_events.specs.Events.{task_of, later, is_made}
-use Rattle.swift_events.specs.Lives.{life_of, lived, stage_in, given_in}
+use Rattle.swift_events.specs.Lives.{life_of, lived, stage_in}
 use Rattle.swift_digest.specs.Digests.{Card, GroupCard, Digest, digest_of, noted, card_noted, group_noted, one_if}
 use Rattle.swift_digest.proofs.Cards.{digest_of-push}
 use Rattle.swift_digest.proofs.Answers.{life_of_is}
 use Rattle.swift_reordering.specs.Blurred.{stage_at}
-use Rattle.swift_reordering.proofs.Sights.{waited, IsSight, seen, AreSeen, seen_life, seen_on}
+use Rattle.swift_reordering.proofs.Sights.{waited, IsSight, seen, AreSeen, seen_life}
 
 -- what is seen of lives where the job of task `t` is not
 

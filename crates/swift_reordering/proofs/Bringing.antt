@@ -1,7 +1,6 @@
 -- A silent turn is brought to the front.
-use Rattle.std.proofs.Common.{◌≡◌, ◌≢◌, ◌⊎◌, ℕ, ◌+◌, List, [], ◌∷◌, ◌++◌, length, refl, sym, ◌∙◌, ap, ap₂, subst, subst₂, true, inl, inr, append_assoc, append-nil, arith}
+use Rattle.std.proofs.Common.{◌≡◌, ℕ, List, [], ◌∷◌, ◌++◌, length, refl, sym, ◌∙◌, ap, ap₂, subst, subst₂, true, inl, inr, append_assoc, arith}
 use Rattle.std.specs.Prelude.{Option, Some, None}
-use Rattle.std.proofs.lemmas.Option.{none-some, same_Some}
 use Rattle.swift_types.specs.declared.env.Env.{Env}
 use Rattle.swift_script.specs.Scripts.{ScriptView, root_count, executor_invariants}
 use Rattle.swift_interpreter.specs.Turn.{all_hold}
@@ -55,7 +54,7 @@ module _ (script : ScriptView) (cps : List CheckpointView) (on : ActorsHaveExecu
       let lead = (determined script cps (before ++ begun t n env ∷ []) k e q r mid runs silent.runs (next ∙ sym silent.own)).1 in
       let more : AllStand script cps ((before ++ begun t n env ∷ []) ++ ran k q ∷ []) bs = subst (λ (b : Block). AllStand script cps ((before ++ b ∷ []) ++ ran k q ∷ []) bs) same all.1.1 in
       let o = same_futures script cps ((before ++ begun t n env ∷ []) ++ ran k q ∷ []) ((before ++ begun t n env ∷ []) ++ ran e r ∷ []) bs
-          (all_push script cps (before ++ begun t n env ∷ []) [] (ran k q) mid runs) (all_push script cps (before ++ begun t n env ∷ []) [] (ran e r) mid silent.runs) lead more in
+      (all_push script cps (before ++ begun t n env ∷ []) [] (ran k q) mid runs) (all_push script cps (before ++ begun t n env ∷ []) [] (ran e r) mid silent.runs) lead more in
       let many = like_many script bs o.0 o.1 in
       let far : (c d : Block) (xs : List Block) → ((before ++ c ∷ []) ++ d ∷ []) ++ xs ≡ before ++ c ∷ d ∷ xs = λ c d xs. append_assoc (before ++ c ∷ []) (d ∷ []) xs ∙ append_assoc before (c ∷ []) (d ∷ xs) in
       record {

@@ -14,12 +14,12 @@ use Rattle.swift_laws.specs.Laws.{ActorsHaveExecutors}
 use Rattle.swift_digest.specs.Digests.{Digest}
 use Rattle.swift_digest.specs.Plans.{FramePlan, JobPlan, plan_of, frame_plans, job_plan}
 use Rattle.swift_digest.specs.Futures.{LeadAlike, IsLike, AreLike}
-use Rattle.swift_digest.specs.Explored.{StartsFresh, IsOutcome, state_of, FoldsNone, IsNotFolded}
+use Rattle.swift_digest.specs.Explored.{IsOutcome, state_of, FoldsNone, IsNotFolded}
 use Rattle.swift_digest.proofs.SameStands.{same_futures}
 use Rattle.swift_digest.proofs.SameLogs.{same_tasks}
 use Rattle.swift_digest.proofs.Outcomes.{NoneFolded, Made, made, none_in, not_folded, lead_on, orderly_too, outcome_too}
 use Rattle.swift_reordering.specs.Away.{frames_look_away, job_looks_away, code_looks_away}
-use Rattle.swift_reordering.specs.FusedSteps.{IsFusedStep, MayStep, HasRoom, AreClosed, HasExit, IsTried, ClosedHasEachOutcome, ClosedHasEachExit}
+use Rattle.swift_reordering.specs.FusedSteps.{IsFusedStep, MayStep, HasRoom, AreClosed, HasExit, ClosedHasEachOutcome, ClosedHasEachExit}
 use Rattle.swift_reordering.proofs.Near.{near_tasks}
 use Rattle.swift_reordering.proofs.Walks.{IsCourse, course_none, course_push}
 use Rattle.swift_reordering.proofs.Priorities.{cons_cases, cons_here, cons_more, none_there}

@@ -1,14 +1,14 @@
 -- A silent turn, and a block of another task after it or before it.
-use Rattle.std.proofs.Common.{◌≡◌, ◌≢◌, ◌⊎◌, ℕ, ℤ, ◌+◌, List, [], ◌∷◌, ◌++◌, length, map, refl, sym, ◌∙◌, ap, ap₂, subst, subst₂, Bool, true, false, inl, inr, append_assoc, append-nil}
+use Rattle.std.proofs.Common.{◌≡◌, ◌≢◌, ℕ, ℤ, List, [], ◌∷◌, ◌++◌, map, refl, sym, ◌∙◌, ap, ap₂, subst, subst₂, Bool, true, false, inl, inr}
 use Rattle.std.proofs.Math.Path.{fun_ext}
 use Rattle.std.specs.Prelude.{Option, Some, None, ◌==◌, ◌&&◌, ◌-◌, ◌^◌, nat_lt, min, sum_by, if◌then◌else◌}
 use Rattle.std.specs.List.{cons_option, range_with_len}
-use Rattle.std.proofs.lemmas.Bool.{cases_Bool, cases_eq, eq-eqb, ne_eqb, false≢true}
+use Rattle.std.proofs.lemmas.Bool.{cases_eq, false≢true}
 use Rattle.swift_types.specs.declared.env.Env.{Env}
 use Rattle.swift_types.specs.declared.limits.TheConstants.{TASKS, MADE}
 use Rattle.swift_types.specs.declared.priority.Priority.{Priority}
 use Rattle.swift_types.specs.declared.outcome.Resume.{Resume}
-use Rattle.swift_script.specs.Scripts.{ScriptView, root_count, executor_invariants}
+use Rattle.swift_script.specs.Scripts.{ScriptView, root_count}
 use Rattle.swift_interpreter.specs.Frames.{FrameView}
 use Rattle.swift_interpreter.specs.Turn.{EffectView, ExitView, calling, waiting, asking_next, closing, yielding, returning, failing, Played, TurnStateView}
 use Rattle.swift_turn.specs.Body.{Advanced, advanced}
@@ -30,7 +30,7 @@ use Rattle.swift_laws.proofs.HistoriesGrow.{log_grows}
 use Rattle.swift_events.specs.Room.{IsEnv, lives_of, reserved_of, room_of}
 use Rattle.swift_history.specs.Checks.{Counters, is_current, is_under_way, was_given, counters, fits_exit, fits_turn}
 use Rattle.swift_history.specs.TurnEnds.{JobFacts, TurnEnd, task, root_job, turn_end}
-use Rattle.swift_history.specs.Histories.{Block, added, begun, ran, folded, Standing, at_first, after_block, after_blocks, with_jobs, taken, begun_priority, left_as, turn_applied, fields_of, records_of, record_in, TurnStands, RecordStands, Stands, AllStand}
+use Rattle.swift_history.specs.Histories.{Block, added, begun, ran, folded, Standing, at_first, after_block, after_blocks, with_jobs, taken, begun_priority, left_as, turn_applied, fields_of, records_of, record_in, TurnStands, Stands, AllStand}
 use Rattle.swift_laws.proofs.HistoriesTurns.{after_push, applied_is}
 use Rattle.swift_digest.specs.Digests.{ChildrenAreNew}
 use Rattle.swift_digest.specs.Futures.{LeadAlike}
@@ -42,7 +42,7 @@ use Rattle.swift_digest.proofs.SameStands.{all_push, fields_push, records_push, 
 use Rattle.swift_reordering.specs.Blurred.{stage_at}
 use Rattle.swift_reordering.specs.SilentTurns.{IsSilentTurn, SilentTurnsCommute}
 use Rattle.swift_reordering.proofs.Holding.{hold_always}
-use Rattle.swift_reordering.specs.Silent.{goes_on_alone, frame_is_silent}
+use Rattle.swift_reordering.specs.Silent.{goes_on_alone}
 use Rattle.swift_reordering.specs.Waiting.{IsOfOther}
 use Rattle.swift_reordering.proofs.Sights.{waited, AreSeen, seen_on, seen_tasks, seen_origin, seen_ending, seen_links, seen_cancelled}
 use Rattle.swift_reordering.proofs.SeenFits.{seen_fits, seen_counters}
@@ -50,7 +50,7 @@ use Rattle.swift_reordering.proofs.SeenEnds.{EndSeen, seen_end}
 use Rattle.swift_reordering.proofs.Priorities.{priority_later}
 use Rattle.swift_reordering.proofs.Others.{KeepsJob}
 use Rattle.swift_reordering.proofs.Keeping.{block_keeps_job}
-use Rattle.swift_reordering.proofs.SilentSteps.{GoesOnAlone, goes_alone, InvariantsHold, AfterAlone, job_after, silent_after, silent_fields, no_effects, played, alone_seen, alone_life, alone_job, alone_jobs}
+use Rattle.swift_reordering.proofs.SilentSteps.{GoesOnAlone, goes_alone, InvariantsHold, AfterAlone, silent_after, silent_fields, no_effects, played, alone_seen, alone_life, alone_job, alone_jobs}
 use Rattle.swift_reordering.proofs.Rooms.{total, sum_total}
 use Rattle.swift_reordering.proofs.Beside.{besides, besides_sight, other_life, one_digest}
 
@@ -126,16 +126,16 @@ module _ (script : ScriptView) (t : ℕ) (s z : Standing) (beside : AreBeside t 
             ∙ ap (λ (js : List JobFacts). with_jobs js (taken u s.jobs) v) (e.jobs ∙ ap (λ (a : TurnEnd). a.jobs) same),
       )
     where
-    taken_same : (v : ℕ) → v ≢ t → taken u z.jobs v ≡ taken u s.jobs v
-    taken_same v other = ap (λ (o : Option JobFacts). if v == u then None else o) (beside.jobs v other)
+      taken_same : (v : ℕ) → v ≢ t → taken u z.jobs v ≡ taken u s.jobs v
+      taken_same v other = ap (λ (o : Option JobFacts). if v == u then None else o) (beside.jobs v other)
 
-    if_same : (b : Bool) (j : JobFacts) (o p : Option JobFacts) → o ≡ p → (if b then Some j else o) ≡ (if b then Some j else p)
-    if_same true j o p same = refl
-    if_same false j o p same = same
+      if_same : (b : Bool) (j : JobFacts) (o p : Option JobFacts) → o ≡ p → (if b then Some j else o) ≡ (if b then Some j else p)
+      if_same true j o p same = refl
+      if_same false j o p same = same
 
-    with_same : (js : List JobFacts) (f g : ℕ → Option JobFacts) (v : ℕ) → f v ≡ g v → with_jobs js f v ≡ with_jobs js g v
-    with_same [] f g v same = same
-    with_same (j ∷ js) f g v same = with_same js (λ w. if w == j.task then Some j else f w) (λ w. if w == j.task then Some j else g w) v (if_same (v == j.task) j (f v) (g v) same)
+      with_same : (js : List JobFacts) (f g : ℕ → Option JobFacts) (v : ℕ) → f v ≡ g v → with_jobs js f v ≡ with_jobs js g v
+      with_same [] f g v same = same
+      with_same (j ∷ js) f g v same = with_same js (λ w. if w == j.task then Some j else f w) (λ w. if w == j.task then Some j else g w) v (if_same (v == j.task) j (f v) (g v) same)
 
 -- a block of another task
 

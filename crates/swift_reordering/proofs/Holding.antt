@@ -1,15 +1,14 @@
 -- Invariants that hold of the fields of a checkpoint hold of those of each history from it.
 use Rattle.std.proofs.Common.{◌≡◌, ℕ, ℤ, List, [], ◌∷◌, ◌++◌, refl, sym, ◌∙◌, ap, subst, Bool, true, false, append_assoc, append-nil}
-use Rattle.std.specs.Prelude.{Option, Some, None, ◌==◌, if◌then◌else◌}
+use Rattle.std.specs.Prelude.{Some, None, ◌==◌, if◌then◌else◌}
 use Rattle.std.specs.List.{cons_option}
 use Rattle.std.proofs.lemmas.Bool.{eqb-true}
 use Rattle.swift_types.specs.declared.outcome.Fault.{Fault}
 use Rattle.swift_types.specs.declared.outcome.Fault.TheVariants.{Invariant}
 use Rattle.swift_types.specs.declared.limits.TheConstants.{STEPS}
-use Rattle.swift_types.specs.declared.outcome.Resume.{Resume}
 use Rattle.script_code.specs.Tree.{Term}
 use Rattle.swift_script.specs.Scripts.{ScriptView, executor_invariants, actor_executor, method_actor}
-use Rattle.swift_interpreter.specs.Turn.{ExitView, failing, TurnStateView, TurnInputView, Played, left_by, exits, undoes, all_hold, kept_of, kept, whole_turn}
+use Rattle.swift_interpreter.specs.Turn.{ExitView, failing, TurnStateView, TurnInputView, Played, left_by, exits, undoes, all_hold, kept_of, whole_turn}
 use Rattle.swift_turn.specs.Body.{invariants_at, state_at}
 use Rattle.swift_journal.specs.Records.{RecordView}
 use Rattle.swift_journal.specs.Replay.{turn_of, replay}

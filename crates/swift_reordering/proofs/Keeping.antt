@@ -1,36 +1,16 @@
 -- Where a turn of a task is under way, a block of another one leaves its job.
-use Rattle.std.proofs.Common.{◌≡◌, ◌≢◌, ℕ, ◌<◌, List, [], ◌∷◌, ◌++◌, refl, sym, ◌∙◌, ap, ap₂, subst, subst₂, true, inl, inr, append_assoc}
-use Rattle.std.specs.Prelude.{Option, Some, is_some}
-use Rattle.std.proofs.lemmas.Bool.{cases_Bool, false≢true}
-use Rattle.swift_types.specs.declared.env.Env.{Env}
+use Rattle.std.proofs.Common.{◌≡◌, ℕ, List, [], ◌∷◌, ◌++◌, refl, sym, ◌∙◌, ap, subst, true}
+use Rattle.std.proofs.lemmas.Bool.{false≢true}
 use Rattle.swift_script.specs.Scripts.{ScriptView, root_count}
 use Rattle.swift_journal.specs.Checkpoints.{CheckpointView}
-use Rattle.swift_events.specs.declared.life.Life.{Life}
-use Rattle.swift_events.specs.declared.life.LastJob.{LastJob}
-use Rattle.swift_events.specs.declared.life.JobStage.{JobStage}
-use Rattle.swift_events.specs.declared.life.JobStage.TheVariants.{Given, Begun}
 use Rattle.swift_events.specs.Lives.{life_of}
-use Rattle.swift_history.specs.Checks.{is_begun, is_under_way, is_current}
-use Rattle.swift_history.specs.TurnEnds.{JobFacts, task}
+use Rattle.swift_history.specs.Checks.{is_under_way}
 use Rattle.swift_history.specs.Histories.{Block, added, begun, ran, folded, Standing, at_first, after_block, after_blocks, Stands, AllStand}
-use Rattle.swift_history.specs.Orderly.{AllAllowed, IsOrderly, job_executor}
-use Rattle.swift_laws.specs.Laws.{ActorsHaveExecutors}
 use Rattle.swift_laws.proofs.HistoriesCounted.{AreCounted, unbegun}
-use Rattle.swift_laws.proofs.HistoriesTurns.{all_keep, first_counted, current_is, after_push}
-use Rattle.swift_reordering.specs.Away.{job_looks_away}
-use Rattle.swift_reordering.specs.Blurred.{AreClose, LeadClose, stage_at}
-use Rattle.swift_reordering.specs.FusedSteps.{HasRoom}
-use Rattle.swift_reordering.specs.Waiting.{IsOfOther, BeginsAfter, BeginsMayWait}
-use Rattle.swift_reordering.proofs.Near.{near_begin}
-use Rattle.swift_reordering.proofs.Turning.{in_own}
-use Rattle.swift_reordering.proofs.Walks.{IsCourse, course_push}
-use Rattle.swift_reordering.proofs.Seats.{begin_other, begin_same, all_apart}
-use Rattle.swift_reordering.proofs.Rooms.{room_free}
+use Rattle.swift_laws.proofs.HistoriesTurns.{all_keep, first_counted, after_push}
+use Rattle.swift_reordering.specs.Blurred.{stage_at}
+use Rattle.swift_reordering.specs.Waiting.{IsOfOther}
 use Rattle.swift_reordering.proofs.Others.{KeepsJob, turn_keeps_job, root_keeps_job, begin_keeps_job}
-use Rattle.swift_reordering.proofs.Fusing.{ArePutOff, at_push, fields_quiet, late_env, put_off_on, root_on, begin_on, run_on, roots_stay, begun_here}
-use Rattle.swift_reordering.proofs.Reports.{few_before}
-use Rattle.swift_reordering.proofs.Closed.{stand_after, allowed_after}
-use Rattle.swift_events.specs.Room.{IsEnv}
 
 pub block_keeps_job : (script : ScriptView) (cps : List CheckpointView) (bs : List Block) (b : Block) (t : ℕ) → AllStand script cps [] bs → Stands script cps bs b → IsOfOther t b → is_under_way (stage_at (after_blocks script (at_first script) bs).log t) ≡ true
     → KeepsJob (after_blocks script (at_first script) bs) (after_blocks script (at_first script) (bs ++ b ∷ [])) t

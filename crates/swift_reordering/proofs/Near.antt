@@ -1,5 +1,5 @@
 -- Digests that are one but for which turns under way have begun, and in which environments.
-use Rattle.std.proofs.Common.{◌≡◌, ℕ, zero, suc, ◌+◌, List, [], ◌∷◌, ◌++◌, refl, sym, ◌∙◌, ap, ap₂, subst, Bool, true, false, append-nil, arith}
+use Rattle.std.proofs.Common.{◌≡◌, ℕ, ◌+◌, List, [], ◌∷◌, ◌++◌, refl, sym, ◌∙◌, ap, ap₂, subst, Bool, true, false, append-nil, arith}
 use Rattle.std.specs.Prelude.{Option, Some, None, ◌==◌, ◌||◌, ◌&&◌, ◌-◌, ◌^◌, nat_lt, if◌then◌else◌}
 use Rattle.std.proofs.lemmas.Bool.{eqb-true}
 use Rattle.swift_types.specs.declared.env.Env.{Env}
@@ -11,18 +11,17 @@ use Rattle.swift_events.specs.declared.life.Life.{Life}
 use Rattle.swift_events.specs.declared.life.LastJob.{LastJob}
 use Rattle.swift_events.specs.declared.life.JobStage.{JobStage}
 use Rattle.swift_events.specs.declared.life.JobStage.TheVariants.{Given, Begun, Applied, Waits, Asks, Closes}
-use Rattle.swift_events.specs.Events.{task_of, later, tasks_of, is_made}
+use Rattle.swift_events.specs.Events.{later, tasks_of}
 use Rattle.swift_events.specs.Lives.{life_of, lived, stage_in}
-use Rattle.swift_events.specs.Relations.{own_tasks, waiters_of, opened_by, is_closed, group_of, parent_of, is_cancelled, is_cancelled_group, links_of}
-use Rattle.swift_events.proofs.Cancels.{of_parent_same}
+use Rattle.swift_events.specs.Relations.{opened_by, is_closed, is_cancelled, links_of}
 use Rattle.swift_history.specs.Checks.{is_under_way, is_current, was_given}
 use Rattle.swift_history.specs.TurnEnds.{task}
-use Rattle.swift_digest.specs.Digests.{Card, GroupCard, Digest, digest_of, all_noted, noted, card_noted, group_noted, one_if, ChildrenAreNew, HasLink, parent_in, group_in, cancelled_in, is_cancelled_in, is_cancelled_group_in}
-use Rattle.swift_digest.proofs.Cards.{digest_of-append, digest_of-push}
-use Rattle.swift_digest.proofs.Answers.{tasks_of_is, life_of_is, parent_of_is, own_tasks_is, opened_by_is, waiters_of_is, is_closed_is, group_of_is, is_cancelled_is, is_cancelled_group_is}
+use Rattle.swift_digest.specs.Digests.{Card, GroupCard, Digest, digest_of, noted, card_noted, group_noted}
+use Rattle.swift_digest.proofs.Cards.{digest_of-push}
+use Rattle.swift_digest.proofs.Answers.{life_of_is}
 use Rattle.swift_reordering.specs.Blurred.{blurred_stage, blurred_life, blurred, AreNear}
 use Rattle.swift_reordering.proofs.Sights.{waited, IsSight, seen_on, seen_tasks, seen_life, seen_origin, seen_ending, seen_opened, seen_closed, seen_cancelled, seen_links}
-use Rattle.swift_digest.proofs.Links.{AreWithin, link_in_digest, link_in_log}
+use Rattle.swift_digest.proofs.Links.{AreWithin}
 use Rattle.std.specs.List.{cons_option}
 
 -- where a turn that has begun counts as one that was given, enough is seen

@@ -1,25 +1,12 @@
 -- Whether a turn fits, by two logs that are one as far as one looks at lives.
-use Rattle.std.proofs.Common.{◌≡◌, ◌⊎◌, ℕ, ℤ, List, [], ◌∷◌, length, refl, sym, ◌∙◌, ap, ap₂, subst, subst₂, Bool, true, inl, inr}
-use Rattle.std.specs.Prelude.{Option, Some, ◌&&◌, nat_lt, not, is_some}
-use Rattle.std.specs.List.{AllByRecursion}
-use Rattle.swift_types.specs.declared.priority.Priority.{Priority}
-use Rattle.swift_types.specs.declared.env.Env.{Env}
+use Rattle.std.proofs.Common.{◌≡◌, ℕ, List, [], ◌∷◌, length, refl, ap, ap₂, Bool}
+use Rattle.std.specs.Prelude.{Option, ◌&&◌, nat_lt, not, is_some}
 use Rattle.swift_script.specs.Scripts.{ScriptView, root_count}
 use Rattle.swift_interpreter.specs.declared.effect.TaskName.{TaskName}
 use Rattle.swift_interpreter.specs.declared.effect.TaskName.TheVariants.{Root as RootName, Own}
-use Rattle.swift_interpreter.specs.Frames.{FrameView}
-use Rattle.swift_interpreter.specs.Turn.{EffectView, spawning, detaching, opening, adding, cancelling_task, cancelling_group, ExitView, calling, waiting, asking_next, closing, yielding, returning, failing, Played}
-use Rattle.swift_turn.specs.Body.{Advanced, advanced}
-use Rattle.swift_journal.specs.Records.{RecordView}
-use Rattle.swift_journal.specs.Replay.{turn_of, IsAfter, IsLawfulRecord}
+use Rattle.swift_interpreter.specs.Turn.{EffectView, spawning, detaching, opening, adding, cancelling_task, cancelling_group, ExitView, calling, waiting, asking_next, closing, yielding, returning, failing}
 use Rattle.swift_events.specs.declared.event.Event.{Event}
-use Rattle.swift_events.specs.declared.life.JobStage.{JobStage}
-use Rattle.swift_events.specs.declared.life.JobStage.TheVariants.{Begun}
 use Rattle.swift_history.specs.Checks.{Counters, counters, can_name, can_use, can_run, fits_effect, counted, fits_exit, fits_turn}
-use Rattle.swift_history.specs.TurnEnds.{JobFacts, WaitingTaskView, TurnEnd, turn_end}
-use Rattle.swift_history.specs.Histories.{Standing, with_jobs, taken, begun_priority, left_as, turn_applied, TurnStands, RecordStands}
-use Rattle.swift_laws.proofs.HistoriesTurns.{applied_is}
-use Rattle.swift_digest.specs.Digests.{ChildrenAreNew}
 use Rattle.swift_events.specs.declared.life.Life.{Life}
 use Rattle.swift_reordering.proofs.Sights.{IsSight, AreSeen, seen_origin, seen_own, seen_opened, seen_closed}
 

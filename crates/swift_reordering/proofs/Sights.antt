@@ -1,27 +1,18 @@
 -- Digests that are one as far as one looks at lives: which parts of a life count may depend on the task.
-use Rattle.std.proofs.Common.{◌≡◌, ℕ, zero, suc, ◌+◌, List, [], ◌∷◌, ◌++◌, refl, sym, ◌∙◌, ap, ap₂, subst, Bool, true, false, append-nil, arith}
-use Rattle.std.specs.Prelude.{Option, Some, None, ◌==◌, ◌||◌, ◌&&◌, ◌-◌, ◌^◌, nat_lt, if◌then◌else◌}
-use Rattle.std.proofs.lemmas.Bool.{eqb-true}
-use Rattle.swift_types.specs.declared.env.Env.{Env}
-use Rattle.swift_types.specs.declared.outcome.Resume.{Resume}
-use Rattle.swift_escalation.specs.declared.waits.PriorityEvent.{PriorityEvent as Link}
+use Rattle.std.proofs.Common.{◌≡◌, ℕ, zero, suc, ◌+◌, List, [], ◌∷◌, ◌++◌, refl, sym, ◌∙◌, ap, subst, Bool, true, false}
+use Rattle.std.specs.Prelude.{Option, Some, None, ◌==◌, ◌||◌, if◌then◌else◌}
 use Rattle.swift_events.specs.declared.event.Event.{Event}
-use Rattle.swift_events.specs.declared.event.Event.TheVariants.{Begin}
 use Rattle.swift_events.specs.declared.life.Life.{Life}
-use Rattle.swift_events.specs.declared.life.LastJob.{LastJob}
 use Rattle.swift_events.specs.declared.life.JobStage.{JobStage}
-use Rattle.swift_events.specs.declared.life.JobStage.TheVariants.{Given, Begun, Applied, Waits, Asks, Closes}
-use Rattle.swift_events.specs.Events.{task_of, later, tasks_of, is_made}
-use Rattle.swift_events.specs.Lives.{life_of, lived, stage_in}
+use Rattle.swift_events.specs.declared.life.JobStage.TheVariants.{Waits, Asks, Closes}
+use Rattle.swift_events.specs.Events.{task_of, tasks_of, is_made}
+use Rattle.swift_events.specs.Lives.{life_of, lived}
 use Rattle.swift_events.specs.Relations.{own_tasks, waiters_of, opened_by, is_closed, group_of, parent_by, parent_of, of_parent, is_cancelled, is_cancelled_group, links_of}
 use Rattle.swift_events.proofs.Cancels.{of_parent_same}
-use Rattle.swift_history.specs.Checks.{is_under_way, is_current, was_given}
-use Rattle.swift_history.specs.TurnEnds.{task}
-use Rattle.swift_digest.specs.Digests.{Card, GroupCard, Digest, digest_of, all_noted, noted, card_noted, group_noted, one_if, ChildrenAreNew, HasLink, parent_in, group_in, cancelled_in, is_cancelled_in, is_cancelled_group_in}
-use Rattle.swift_digest.proofs.Cards.{digest_of-append, digest_of-push}
-use Rattle.swift_digest.proofs.Answers.{tasks_of_is, life_of_is, parent_of_is, own_tasks_is, opened_by_is, waiters_of_is, is_closed_is, group_of_is, is_cancelled_is, is_cancelled_group_is}
+use Rattle.swift_digest.specs.Digests.{Digest, digest_of, all_noted, noted, card_noted, group_noted, one_if, ChildrenAreNew, HasLink, parent_in, group_in, cancelled_in, is_cancelled_in, is_cancelled_group_in}
+use Rattle.swift_digest.proofs.Cards.{digest_of-append}
+use Rattle.swift_digest.proofs.Answers.{tasks_of_is, life_of_is, own_tasks_is, opened_by_is, waiters_of_is, is_closed_is, group_of_is, is_cancelled_is, is_cancelled_group_is}
 use Rattle.swift_digest.proofs.Links.{AreWithin, link_in_digest, link_in_log}
-use Rattle.std.specs.List.{cons_option}
 
 -- of how far a job is, only what its task waits for
 abbrev pub waited : Option JobStage → Option JobStage

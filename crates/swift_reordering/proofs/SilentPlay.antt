@@ -1,9 +1,9 @@
 -- A silent turn plays the same on all fields, and leaves them.
-use Rattle.std.proofs.Common.{◌≡◌, ◌⊎◌, ℕ, zero, suc, ℤ, List, [], ◌∷◌, ◌++◌, refl, sym, ◌∙◌, ap, ap₂, subst, subst₂, Bool, true, false, inl, inr}
-use Rattle.std.specs.Prelude.{Option, Some, None, ◌&&◌, ◌||◌, is_some, pos, if◌then◌else◌, nat_lt, ◌^◌, neg_ℤ, slice_set}
-use Rattle.std.proofs.lemmas.Bool.{cases_Bool, false≢true}
+use Rattle.std.proofs.Common.{◌≡◌, ℕ, zero, suc, ℤ, List, [], ◌∷◌, refl, sym, ◌∙◌, ap, ap₂, subst, subst₂, Bool, true, false}
+use Rattle.std.specs.Prelude.{Option, Some, None, ◌&&◌, ◌||◌, is_some, pos, if◌then◌else◌, neg_ℤ, slice_set}
+use Rattle.std.proofs.lemmas.Bool.{false≢true}
 use Rattle.swift_types.specs.declared.outcome.Fault.{Fault}
-use Rattle.swift_types.specs.declared.outcome.Fault.TheVariants.{Turns, Invariant, Steps}
+use Rattle.swift_types.specs.declared.outcome.Fault.TheVariants.{Turns, Steps}
 use Rattle.swift_types.specs.declared.outcome.Resume.{Resume}
 use Rattle.swift_types.specs.declared.outcome.Resume.TheVariants.{Start, Go, Value, Fault as Raise}
 use Rattle.swift_types.specs.declared.limits.TheConstants.{STEPS}

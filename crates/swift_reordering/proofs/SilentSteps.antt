@@ -1,40 +1,36 @@
 -- Where a silent turn leads: only the job of its own task changes.
-use Rattle.std.proofs.Common.{◌≡◌, ◌≢◌, ◌⊎◌, ℕ, ℤ, ◌+◌, List, [], ◌∷◌, ◌++◌, length, refl, sym, ◌∙◌, ap, ap₂, subst, subst₂, Bool, true, false, inl, inr, append_assoc, append-nil}
-use Rattle.std.specs.Prelude.{Option, Some, None, ◌==◌, ◌&&◌, nat_lt, ◌-◌, ◌^◌, if◌then◌else◌}
+use Rattle.std.proofs.Common.{◌≡◌, ◌≢◌, ℕ, ℤ, ◌+◌, List, [], ◌∷◌, ◌++◌, length, refl, sym, ◌∙◌, ap, ap₂, subst, Bool, true, false, append-nil}
+use Rattle.std.specs.Prelude.{Option, Some, None, ◌==◌, nat_lt, if◌then◌else◌}
 use Rattle.std.specs.List.{cons_option}
-use Rattle.std.proofs.lemmas.Bool.{cases_Bool, cases_eq, eq-eqb, eqb-true, ne_eqb, false≢true}
-use Rattle.std.proofs.lemmas.Option.{none-some, same_Some}
+use Rattle.std.proofs.lemmas.Bool.{eq-eqb, eqb-true, ne_eqb, false≢true}
 use Rattle.swift_types.specs.declared.env.Env.{Env}
 use Rattle.swift_types.specs.declared.limits.TheConstants.{FRAMES}
+use Rattle.swift_types.specs.declared.outcome.Fault.TheVariants.{Depth}
 use Rattle.swift_types.specs.declared.outcome.Resume.{Resume}
+use Rattle.swift_types.specs.declared.outcome.Resume.TheVariants.{Start, Go, Value, Fault as Raise}
 use Rattle.swift_types.specs.declared.priority.Priority.{Priority}
-use Rattle.script_code.specs.Tree.{Term}
-use Rattle.swift_script.specs.Scripts.{ScriptView, root_count, executor_invariants}
+use Rattle.swift_script.specs.Scripts.{ScriptView, executor_invariants}
 use Rattle.swift_interpreter.specs.Frames.{FrameView}
-use Rattle.swift_interpreter.specs.Turn.{InvocationView, EffectView, ExitView, calling, waiting, asking_next, closing, yielding, returning, failing, Played, TurnStateView, all_hold}
-use Rattle.swift_turn.specs.declared.step.Step.{Step}
-use Rattle.swift_turn.specs.declared.step.Step.TheVariants.{Run}
-use Rattle.swift_turn.specs.Body.{TaskView, Advanced, advanced, called, runs, callers_of}
+use Rattle.swift_interpreter.specs.Turn.{InvocationView, EffectView, ExitView, calling, waiting, asking_next, closing, yielding, returning, failing, Played, all_hold}
+use Rattle.swift_turn.specs.Body.{TaskView, Advanced, advanced, called, invariants_at}
 use Rattle.swift_journal.specs.Records.{RecordView}
-use Rattle.swift_journal.specs.Replay.{turn_of, replay, IsAfter, StandsFor, IsLawfulRecord}
+use Rattle.swift_journal.specs.Replay.{turn_of, replay}
 use Rattle.swift_journal.specs.Checkpoints.{CheckpointView}
 use Rattle.swift_events.specs.declared.event.Event.{Event}
 use Rattle.swift_events.specs.declared.event.Event.TheVariants.{Begin, Apply, Give}
 use Rattle.swift_events.specs.declared.life.Life.{Life}
-use Rattle.swift_events.specs.declared.life.LastJob.{LastJob}
-use Rattle.swift_events.specs.declared.life.JobStage.{JobStage}
 use Rattle.swift_events.specs.declared.life.JobStage.TheVariants.{Given, Begun, Applied}
 use Rattle.swift_events.specs.Lives.{life_of}
 use Rattle.swift_events.proofs.LogLemmas.{life_of-push_same}
-use Rattle.swift_history.specs.TurnEnds.{JobFacts, WaitingTaskView, AfterTurn, TurnEnd, task, gives, resume_at, exit_events, exit_resume, followed, turn_end}
-use Rattle.swift_history.specs.Histories.{Block, begun, ran, Standing, at_first, after_block, after_blocks, with_jobs, taken, begun_priority, left_as, turn_applied, records_of, record_in, fields_of, TurnStands, RecordStands, Stands, AllStand}
+use Rattle.swift_history.specs.TurnEnds.{JobFacts, WaitingTaskView, TurnEnd, task, gives, resume_at, turn_end}
+use Rattle.swift_history.specs.Histories.{Block, begun, ran, Standing, at_first, after_block, after_blocks, with_jobs, taken, begun_priority, left_as, fields_of}
 use Rattle.swift_laws.proofs.HistoriesTurns.{after_push, applied_is}
 use Rattle.swift_digest.proofs.SameStands.{fields_push}
 use Rattle.swift_reordering.specs.Blurred.{stage_at}
 use Rattle.swift_reordering.specs.SilentTurns.{IsSilentTurn}
-use Rattle.swift_reordering.specs.Silent.{goes_on_alone, job_goes_on, frame_is_silent}
+use Rattle.swift_reordering.specs.Silent.{goes_on_alone}
 use Rattle.swift_reordering.proofs.Sights.{waited, AreSeen}
-use Rattle.swift_reordering.proofs.Beside.{besides, besides_sight, seen_local}
+use Rattle.swift_reordering.proofs.Beside.{besides, seen_local}
 use Rattle.swift_reordering.proofs.SilentPlay.{SamePlay, silent_turn}
 
 -- the end of a turn that goes on alone
@@ -63,20 +59,20 @@ plain_end log held t n v resume = ap₂ (λ (l : List Event) (h : List (Option W
 called_alone : (script : ScriptView) (p : FrameView) (callers : List FrameView) (outer : List (ℕ × ℤ)) (c : InvocationView) (b : Bool) → nat_lt (length (p ∷ callers)) FRAMES ≡ b → GoesOnAlone script p callers outer (calling c)
 called_alone script p callers outer c true is = record {
   view = (called script p callers outer c).task;
-  resume = Rattle.swift_types.specs.declared.outcome.Resume.TheVariants.Start;
+  resume = Start;
   end_is = λ log held t n own. rw is (plain_end log held t n _ _);
 }
 called_alone script p callers outer c false is = record {
   view = (called script p callers outer c).task;
-  resume = Rattle.swift_types.specs.declared.outcome.Resume.TheVariants.Fault Rattle.swift_types.specs.declared.outcome.Fault.TheVariants.Depth;
+  resume = Raise Depth;
   end_is = λ log held t n own. rw is (plain_end log held t n _ _);
 }
 
 pub goes_alone : (script : ScriptView) (p : FrameView) (callers : List FrameView) (outer : List (ℕ × ℤ)) (exit : ExitView) → goes_on_alone callers exit ≡ true → GoesOnAlone script p callers outer exit
 goes_alone script p callers outer (calling c) is = called_alone script p callers outer c (nat_lt (length (p ∷ callers)) FRAMES) refl
-goes_alone script p callers outer yielding is = record { view = _; resume = _; end_is = λ log held t n own. plain_end log held t n (record { frames = p ∷ callers; outer = outer }) Rattle.swift_types.specs.declared.outcome.Resume.TheVariants.Go }
-goes_alone script p (q ∷ callers) outer (returning v) is = record { view = (advanced script p (q ∷ callers) outer (returning v)).task; resume = Rattle.swift_types.specs.declared.outcome.Resume.TheVariants.Value v; end_is = λ log held t n own. plain_end log held t n _ _ }
-goes_alone script p (q ∷ callers) outer (failing f) is = record { view = (advanced script p (q ∷ callers) outer (failing f)).task; resume = Rattle.swift_types.specs.declared.outcome.Resume.TheVariants.Fault f; end_is = λ log held t n own. plain_end log held t n _ _ }
+goes_alone script p callers outer yielding is = record { view = _; resume = _; end_is = λ log held t n own. plain_end log held t n (record { frames = p ∷ callers; outer = outer }) Go }
+goes_alone script p (q ∷ callers) outer (returning v) is = record { view = (advanced script p (q ∷ callers) outer (returning v)).task; resume = Value v; end_is = λ log held t n own. plain_end log held t n _ _ }
+goes_alone script p (q ∷ callers) outer (failing f) is = record { view = (advanced script p (q ∷ callers) outer (failing f)).task; resume = Raise f; end_is = λ log held t n own. plain_end log held t n _ _ }
 goes_alone script p [] outer (returning v) is = absurd (false≢true is)
 goes_alone script p [] outer (failing f) is = absurd (false≢true is)
 goes_alone script p callers outer (waiting x) is = absurd (false≢true is)
@@ -141,7 +137,7 @@ module _ (script : ScriptView) (cps : List CheckpointView) where
     hold_mid : all_hold (executor_invariants script e) f ≡ true
     hold_mid = ap (all_hold (executor_invariants script e)) (fields_mid e) ∙ hold
 
-    hold_frame : (fields : List (List ℤ)) → all_hold (executor_invariants script e) fields ≡ true → all_hold (Rattle.swift_turn.specs.Body.invariants_at script r.frame) fields ≡ true
+    hold_frame : (fields : List (List ℤ)) → all_hold (executor_invariants script e) fields ≡ true → all_hold (invariants_at script r.frame) fields ≡ true
     hold_frame fields is = ap (λ (k : ℕ). all_hold (executor_invariants script k) fields) silent.runs.stands.on ∙ is
 
     -- the turn on its own fields, and on others
@@ -174,7 +170,7 @@ module _ (script : ScriptView) (cps : List CheckpointView) where
         let own : Priority = begun_priority (stage_at mid.log r.task) in
         let end_of : ℕ → ℕ → List EffectView → TurnEnd = λ u m es. turn_end script mid.log mid.held u m own es r.exit adv in
         let is = after_push script (at_first script) (before ++ begun t n env ∷ []) (ran e r)
-            ∙ applied_is script mid r.task r.number silent.runs.job r.frame callers r.effects r.exit r.after silent.runs.stands.given silent.runs.stands.runs.1 in
+        ∙ applied_is script mid r.task r.number silent.runs.job r.frame callers r.effects r.exit r.after silent.runs.stands.given silent.runs.stands.runs.1 in
         let end : end_of r.task r.number r.effects ≡ alone_end mid.log mid.held t n on_alone.view on_alone.resume =
         ap₂ (λ (u m : ℕ). end_of u m r.effects) silent.own silent.number ∙ ap (end_of t n) no_effects ∙ on_alone.end_is mid.log mid.held t n own in
         let x : TurnEnd = end_of r.task r.number r.effects in

@@ -15,8 +15,7 @@ use Rattle.swift_history.specs.TurnEnds.{JobFacts, task}
 use Rattle.swift_history.specs.Histories.{Block, added, begun, ran, folded, Standing, at_first, after_block, after_blocks, Stands, AllStand}
 use Rattle.swift_history.specs.Orderly.{AllAllowed, IsOrderly, job_executor}
 use Rattle.swift_laws.specs.Laws.{ActorsHaveExecutors}
-use Rattle.swift_laws.proofs.HistoriesCounted.{AreCounted, unbegun}
-use Rattle.swift_laws.proofs.HistoriesTurns.{all_keep, first_counted, current_is}
+use Rattle.swift_laws.proofs.HistoriesTurns.{current_is}
 use Rattle.swift_reordering.specs.Away.{job_looks_away}
 use Rattle.swift_reordering.specs.Blurred.{AreClose, LeadClose, stage_at}
 use Rattle.swift_reordering.specs.FusedSteps.{HasRoom}
@@ -27,7 +26,7 @@ use Rattle.swift_reordering.proofs.Walks.{IsCourse, course_push}
 use Rattle.swift_reordering.proofs.Seats.{begin_other, begin_same, all_apart}
 use Rattle.swift_reordering.proofs.Rooms.{room_free}
 use Rattle.swift_reordering.proofs.Keeping.{block_keeps_job}
-use Rattle.swift_reordering.proofs.Others.{KeepsJob, turn_keeps_job, root_keeps_job, begin_keeps_job}
+use Rattle.swift_reordering.proofs.Others.{KeepsJob}
 use Rattle.swift_reordering.proofs.Fusing.{ArePutOff, at_push, fields_quiet, late_env, put_off_on, root_on, begin_on, run_on, roots_stay, begun_here}
 use Rattle.swift_reordering.proofs.Reports.{few_before}
 use Rattle.swift_reordering.proofs.Closed.{stand_after, allowed_after}

@@ -1,10 +1,10 @@
 -- Turns that touch nothing but their own task (our own).
-use Rattle.std.specs.Prelude.{ℕ, Bool, true, false, ◌&&◌, ◌||◌, is_some, Option, Some, None, List, [], ◌∷◌}
+use Rattle.std.specs.Prelude.{Bool, true, false, ◌&&◌, ◌||◌, is_some, Option, Some, None, List, [], ◌∷◌}
 use Rattle.script_code.specs.Tree.{Term, Wanted, Operation, Code}
 use Rattle.script_code.specs.Tree as code
 use Rattle.script_code.specs.Layout.{code_at}
 use Rattle.script_code.specs.declared.instruction.NumberPlace.{NumberPlace}
-use Rattle.script_code.specs.declared.instruction.NumberPlace.TheVariants.{Variable, Field}
+use Rattle.script_code.specs.declared.instruction.NumberPlace.TheVariants.{Field}
 use Rattle.swift_script.specs.Scripts.{ScriptView, method_code}
 use Rattle.swift_interpreter.specs.Frames.{FrameView}
 use Rattle.swift_interpreter.specs.Turn.{ExitView, calling, yielding, returning, failing}
