@@ -63,7 +63,7 @@ module _ (script : ScriptView) where
   ]
 
 module _ (script : ScriptView) (cps : List CheckpointView) (others h : List Block) (lead : LeadAlike script cps others h) where
-  same_away : (t : ℕ) → job_looks_away script ((after_blocks script (at_first script) others).jobs t) ≡ job_looks_away script ((after_blocks script (at_first script) h).jobs t)
+  pub same_away : (t : ℕ) → job_looks_away script ((after_blocks script (at_first script) others).jobs t) ≡ job_looks_away script ((after_blocks script (at_first script) h).jobs t)
   same_away t = jobs_away script _ _ (lead.standing.jobs t)
 
   -- a step is one after the other history

@@ -1,7 +1,7 @@
 -- A silent turn, and a block of another task after it or before it.
 use Rattle.std.proofs.Common.{◌≡◌, ◌≢◌, ℕ, ℤ, List, [], ◌∷◌, ◌++◌, map, refl, sym, ◌∙◌, ap, ap₂, subst, subst₂, Bool, true, false, inl, inr}
 use Rattle.std.proofs.Math.Path.{fun_ext}
-use Rattle.std.specs.Prelude.{Option, Some, None, ◌==◌, ◌&&◌, ◌-◌, ◌^◌, nat_lt, min, sum_by, if◌then◌else◌}
+use Rattle.std.specs.Prelude.{Option, Some, None, is_some, ◌==◌, ◌&&◌, ◌-◌, ◌^◌, nat_lt, min, sum_by, if◌then◌else◌}
 use Rattle.std.specs.List.{cons_option, range_with_len}
 use Rattle.std.proofs.lemmas.Bool.{cases_eq, false≢true}
 use Rattle.swift_types.specs.declared.env.Env.{Env}
@@ -28,9 +28,10 @@ use Rattle.swift_events.proofs.LogLemmas.{life_of-push_same}
 use Rattle.swift_escalation.specs.Waits.{IsPriority}
 use Rattle.swift_laws.proofs.HistoriesGrow.{log_grows}
 use Rattle.swift_events.specs.Room.{IsEnv, lives_of, reserved_of, room_of}
-use Rattle.swift_history.specs.Checks.{Counters, is_current, is_under_way, was_given, counters, fits_exit, fits_turn}
+use Rattle.swift_history.specs.Checks.{Counters, is_begun, is_current, is_under_way, was_given, counters, fits_exit, fits_turn}
 use Rattle.swift_history.specs.TurnEnds.{JobFacts, TurnEnd, task, root_job, turn_end}
 use Rattle.swift_history.specs.Histories.{Block, added, begun, ran, folded, Standing, at_first, after_block, after_blocks, with_jobs, taken, begun_priority, left_as, turn_applied, fields_of, records_of, record_in, TurnStands, Stands, AllStand}
+use Rattle.swift_history.specs.Orderly.{IsOrderly, job_executor}
 use Rattle.swift_laws.proofs.HistoriesTurns.{after_push, applied_is}
 use Rattle.swift_digest.specs.Digests.{ChildrenAreNew}
 use Rattle.swift_digest.specs.Futures.{LeadAlike}
@@ -366,6 +367,25 @@ module _ (script : ScriptView) (cps : List CheckpointView) (before : List Block)
   pub stands_after : Stands script cps after b
   stands_after = block_after.stands
 
+  orderly_by : (x : Block) → IsOfOther t x → IsOrderly script before x → IsOrderly script after x
+  orderly_by (added u) other is = λ v low. ap is_some (seen_origin (besides t) (besides_sight t) (at after).log (at before).log beside.near v) ∙ is v low
+  orderly_by (begun u m x) other is = (
+    λ v low. ap is_some (seen_origin (besides t) (besides_sight t) (at after).log (at before).log beside.near v) ∙ is.0 v low,
+    λ v same. elim (cases_eq v t) [
+      | inl one ↦
+          let life = alone_life (at before) (at after) t n env _ _ (silent_after script cps before t n env e r silent (hold before stand)) in
+          ap (λ (w : ℕ). is_begun (stage_at (at after).log w)) one ∙ ap (λ (l : Life). is_begun l.stage) life
+      | inr ne ↦
+          ap (λ (l : Life). is_begun l.stage) (other_life t (at after).log (at before).log beside.near v ne)
+          ∙ is.1 v (ap (job_executor script) (sym (beside.jobs v ne)) ∙ same ∙ ap (job_executor script) (beside.jobs u other))
+    ],
+  )
+  orderly_by (ran k q) other is = tt
+  orderly_by (folded k q) other is = tt
+
+  pub orderly_after : IsOrderly script before b → IsOrderly script after b
+  orderly_after is = orderly_by b of_other is
+
   abbrev first_then : List Block
   first_then = after ++ b ∷ []
 
@@ -442,6 +462,7 @@ silent_commutes script cps before t n env e r b stand silent first stands_b of_o
     record {
       other = (late script cps before t n env e r silent stand hold b stands_b of_other rooms).0;
       later = later_silent script cps before t n env e r silent stand hold b stands_b of_other rooms;
+      orderly = orderly_after script cps before t n env e r silent stand hold b stands_b of_other rooms;
       first = stands_after script cps before t n env e r silent stand hold b stands_b of_other rooms;
       lead = both_lead script cps before t n env e r silent stand hold b stands_b of_other rooms;
     }

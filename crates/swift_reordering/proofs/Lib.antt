@@ -22,4 +22,5 @@ pub mod Beside
 pub mod SilentSteps
 pub mod Holding
 pub mod Diamonds
+pub mod Carrying
 pub mod Bringing

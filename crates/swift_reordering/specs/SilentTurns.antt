@@ -27,11 +27,13 @@ pub record IsSilentTurn (script : ScriptView) (checkpoints : List CheckpointView
   pub quiet : frame_is_silent script r.frame ≡ true
   pub alone : goes_on_alone runs.stands.runs.0 r.exit ≡ true
 
--- It may do so after block `b` too, in another environment, and `b` may stand after it; both ways lead alike.
+-- It may do so after block `b` too, in another environment, and `b` may stand after it, in order where it was so before; both ways lead
+-- alike.
 pub record Commutes (script : ScriptView) (checkpoints : List CheckpointView) (before : List Block) (t n : ℕ) (env : Env) (e : ℕ) (r : RecordView) (b : Block) : Type 0 where
   pub other : Env
   pub later : IsSilentTurn script checkpoints (before ++ b ∷ []) t n other e (record r { env = other })
   pub first : Stands script checkpoints ((before ++ begun t n env ∷ []) ++ ran e r ∷ []) b
+  pub orderly : IsOrderly script before b → IsOrderly script ((before ++ begun t n env ∷ []) ++ ran e r ∷ []) b
   pub lead : LeadAlike script checkpoints (((before ++ b ∷ []) ++ begun t n other ∷ []) ++ ran e (record r { env = other }) ∷ []) (((before ++ begun t n env ∷ []) ++ ran e r ∷ []) ++ b ∷ [])
 
 -- So it is with each block of another task, where the invariants hold at the start and the turn has the same room after that block.
