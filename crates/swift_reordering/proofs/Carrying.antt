@@ -12,7 +12,7 @@ use Rattle.swift_reordering.specs.Fused.{RunsNext, BeginLate}
 use Rattle.swift_reordering.proofs.Closed.{same_away}
 
 -- a turn runs next in both
-runs_like : (script : ScriptView) (t : ℕ) (bs cs : List Block) → AreLike script bs cs → RunsNext t bs → RunsNext t cs
+pub runs_like : (script : ScriptView) (t : ℕ) (bs cs : List Block) → AreLike script bs cs → RunsNext t bs → RunsNext t cs
 runs_like script t (ran e r ∷ bs) (c ∷ cs) like is = subst (λ (x : Block). RunsNext t (x ∷ cs)) (sym like.0.2) is
 runs_like script t (ran e r ∷ bs) [] like is = absurd like
 runs_like script t [] cs like is = absurd is
@@ -37,7 +37,7 @@ module _ (script : ScriptView) (cps : List CheckpointView) where
   late_one (ran e r) c bs cs before others lead like all late more =
       subst (λ (x : Block). BeginLate script others (x ∷ cs)) (sym like.2) (subst (λ (x : Block). BeginLate script (others ++ x ∷ []) cs) like.2 more)
 
-  late_rest : (b : Block) (bs before : List Block) → BeginLate script before (b ∷ bs) → BeginLate script (before ++ b ∷ []) bs
+  pub late_rest : (b : Block) (bs before : List Block) → BeginLate script before (b ∷ bs) → BeginLate script (before ++ b ∷ []) bs
   late_rest (added r) bs before late = late
   late_rest (begun t n env) bs before late = late.1
   late_rest (ran e r) bs before late = late

@@ -52,7 +52,7 @@ module _ (script : ScriptView) where
   jobs_away (Some j) None same = absurd (cc same)
 
   -- turns that are alike end alike
-  exit_too : (bs cs : List Block) (e : ℕ) (q : RecordView) → AreLike script bs cs → Contains bs (ran e q) → HasExit cs e q.exit
+  pub exit_too : (bs cs : List Block) (e : ℕ) (q : RecordView) → AreLike script bs cs → Contains bs (ran e q) → HasExit cs e q.exit
   exit_too [] cs e q like has = absurd (none_there (ran e q) has)
   exit_too (b ∷ bs) [] e q like has = absurd like
   exit_too (b ∷ bs) (c ∷ cs) e q like has = elim (cons_cases b bs (ran e q) has) [

@@ -348,7 +348,7 @@ module _ (script : ScriptView) (cps : List CheckpointView) (before : List Block)
   after_stand : AllStand script cps [] after
   after_stand = all_push script cps (before ++ begun t n env ∷ []) [] (ran e r) (all_push script cps before [] (begun t n env) stand silent.begins) silent.runs
 
-  beside : AreBeside t (at after) (at before)
+  pub beside : AreBeside t (at after) (at before)
   beside =
       let one = silent_after script cps before t n env e r silent (hold before stand) in
       record {
@@ -462,6 +462,7 @@ silent_commutes script cps before t n env e r b stand silent first stands_b of_o
     record {
       other = (late script cps before t n env e r silent stand hold b stands_b of_other rooms).0;
       later = later_silent script cps before t n env e r silent stand hold b stands_b of_other rooms;
+      jobs = (beside script cps before t n env e r silent stand hold b stands_b of_other rooms).jobs;
       orderly = orderly_after script cps before t n env e r silent stand hold b stands_b of_other rooms;
       first = stands_after script cps before t n env e r silent stand hold b stands_b of_other rooms;
       lead = both_lead script cps before t n env e r silent stand hold b stands_b of_other rooms;

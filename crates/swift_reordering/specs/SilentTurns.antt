@@ -1,5 +1,5 @@
 -- A silent turn may run before or after a block of another task (our own).
-use Rattle.std.specs.Prelude.{◌≡◌, ◌≢◌, ◌⊎◌, ℕ, ◌+◌, true, Some, List, [], ◌∷◌, ◌++◌, length}
+use Rattle.std.specs.Prelude.{◌≡◌, ◌≢◌, ◌⊎◌, ℕ, ◌+◌, true, Some, List, [], ◌∷◌, ◌++◌, length, Contains}
 use Rattle.swift_types.specs.declared.env.Env.{Env}
 use Rattle.swift_script.specs.Scripts.{ScriptView, root_count, executor_invariants}
 use Rattle.swift_interpreter.specs.Turn.{all_hold}
@@ -11,8 +11,8 @@ use Rattle.swift_history.specs.Histories.{Block, begun, ran, at_first, after_blo
 use Rattle.swift_history.specs.Orderly.{AllAllowed, IsOrderly}
 use Rattle.swift_laws.specs.Laws.{ActorsHaveExecutors}
 use Rattle.swift_digest.specs.Futures.{LeadAlike}
-use Rattle.swift_reordering.specs.Fused.{RunsNext}
-use Rattle.swift_reordering.specs.FusedSteps.{HasRoom}
+use Rattle.swift_reordering.specs.Fused.{RunsNext, BeginLate}
+use Rattle.swift_reordering.specs.FusedSteps.{HasRoom, HasExit}
 use Rattle.swift_reordering.specs.Blurred.{stage_at}
 use Rattle.swift_reordering.specs.Silent.{goes_on_alone, frame_is_silent}
 use Rattle.swift_reordering.specs.Waiting.{IsOfOther}
@@ -33,6 +33,8 @@ pub record Commutes (script : ScriptView) (checkpoints : List CheckpointView) (b
   pub other : Env
   pub later : IsSilentTurn script checkpoints (before ++ b ∷ []) t n other e (record r { env = other })
   pub first : Stands script checkpoints ((before ++ begun t n env ∷ []) ++ ran e r ∷ []) b
+  pub jobs : (u : ℕ) → u ≢ t
+      → (after_blocks script (at_first script) ((before ++ begun t n env ∷ []) ++ ran e r ∷ [])).jobs u ≡ (after_blocks script (at_first script) before).jobs u
   pub orderly : IsOrderly script before b → IsOrderly script ((before ++ begun t n env ∷ []) ++ ran e r ∷ []) b
   pub lead : LeadAlike script checkpoints (((before ++ b ∷ []) ++ begun t n other ∷ []) ++ ran e (record r { env = other }) ∷ []) (((before ++ begun t n env ∷ []) ++ ran e r ∷ []) ++ b ∷ [])
 
@@ -56,10 +58,16 @@ pub record GoesFirst (script : ScriptView) (checkpoints : List CheckpointView) (
   pub stand : AllStand script checkpoints before (begun t n env ∷ ran e r ∷ others)
   pub many : length others + 2 ≡ length rest
   pub lead : LeadAlike script checkpoints (before ++ rest) (before ++ begun t n env ∷ ran e r ∷ others)
+  -- they are in order, and turns that look away begin late
+  pub orderly : AllAllowed (IsOrderly script) ((before ++ begun t n env ∷ []) ++ ran e r ∷ []) others
+  pub late : BeginLate script ((before ++ begun t n env ∷ []) ++ ran e r ∷ []) others
+  pub next : (u : ℕ) → u ≢ t → RunsNext u rest → RunsNext u others
+  -- and each turn ends as it did
+  pub exits : (k : ℕ) (q : RecordView) → Contains rest (ran k q) → HasExit (ran e r ∷ others) k q.exit
 
 -- A silent turn may go before all that stands before it in a history in order with room for it.
 abbrev pub SilentTurnsMayGoFirst : Type 0
 SilentTurnsMayGoFirst = (script : ScriptView) (checkpoints : List CheckpointView) (before rest : List Block) (t n : ℕ) (env : Env) (e : ℕ) (r : RecordView) → ActorsHaveExecutors script
     → AllStand script checkpoints [] (before ++ rest) → AllAllowed (IsOrderly script) [] (before ++ rest) → HasRoom script (before ++ rest)
-    → IsSilentTurn script checkpoints before t n env e r → all_hold (executor_invariants script e) (checkpoint_at checkpoints e).fields ≡ true → OwnNext t rest
+    → BeginLate script before rest → IsSilentTurn script checkpoints before t n env e r → all_hold (executor_invariants script e) (checkpoint_at checkpoints e).fields ≡ true → OwnNext t rest
     → GoesFirst script checkpoints before rest t n env e r
