@@ -1,6 +1,6 @@
 -- A silent turn is brought to the front.
 use Rattle.std.proofs.Common.{◌≡◌, ◌≢◌, ℕ, List, [], ◌∷◌, ◌++◌, length, refl, sym, ◌∙◌, ap, ap₂, subst, subst₂, true, inl, inr, append_assoc, arith}
-use Rattle.std.specs.Prelude.{Option, Some, None, Contains}
+use Rattle.std.specs.Prelude.{Option, Some, None}
 use Rattle.swift_types.specs.declared.env.Env.{Env}
 use Rattle.swift_script.specs.Scripts.{ScriptView, root_count, executor_invariants}
 use Rattle.swift_interpreter.specs.Turn.{ExitView, all_hold}
@@ -18,7 +18,7 @@ use Rattle.swift_digest.specs.Futures.{AreLike, LeadAlike}
 use Rattle.swift_digest.proofs.Determined.{determined, determined_exit}
 use Rattle.swift_digest.proofs.Lines.{one_env}
 use Rattle.swift_digest.proofs.Outcomes.{lead_on}
-use Rattle.swift_digest.proofs.SameStands.{all_push, same_futures}
+use Rattle.swift_digest.proofs.SameStands.{all_push}
 use Rattle.swift_reordering.specs.Fused.{RunsNext, BeginLate}
 use Rattle.swift_reordering.specs.FusedSteps.{HasRoom, HasExit}
 use Rattle.swift_reordering.specs.Waiting.{IsOfOther}
@@ -52,7 +52,7 @@ module _ (script : ScriptView) (cps : List CheckpointView) (on : ActorsHaveExecu
       let is = determined script cps (before ++ begun t n env ∷ []) k e q r mid all.1.0 silent.runs (own ∙ sym silent.own) in
       let exit : q.exit ≡ r.exit = determined_exit script cps (before ++ begun t n env ∷ []) k e q r all.1.0 silent.runs (own ∙ sym silent.own) in
       let o = carry script cps bs ((before ++ begun t n env ∷ []) ++ ran k q ∷ []) ((before ++ begun t n env ∷ []) ++ ran e r ∷ [])
-          (all_push script cps (before ++ begun t n env ∷ []) [] (ran k q) mid all.1.0) (all_push script cps (before ++ begun t n env ∷ []) [] (ran e r) mid silent.runs) is.1 all.1.1 may.1.1 late.1 in
+      (all_push script cps (before ++ begun t n env ∷ []) [] (ran k q) mid all.1.0) (all_push script cps (before ++ begun t n env ∷ []) [] (ran e r) mid silent.runs) is.1 all.1.1 may.1.1 late.1 in
       let many = like_many script bs o.rest o.like in
       let far : (d : Block) (xs : List Block) → ((before ++ begun t n env ∷ []) ++ d ∷ []) ++ xs ≡ before ++ begun t n env ∷ d ∷ xs = λ d xs. append_assoc (before ++ begun t n env ∷ []) (d ∷ []) xs ∙ append_assoc before (begun t n env ∷ []) (d ∷ xs) in
       record {

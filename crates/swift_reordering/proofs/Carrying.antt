@@ -1,13 +1,12 @@
 -- What goes on in order after one history goes on so after another that it leads alike.
-use Rattle.std.proofs.Common.{◌≡◌, ℕ, List, [], ◌∷◌, ◌++◌, refl, sym, ◌∙◌, subst, subst₂, true, append_assoc, append-nil}
+use Rattle.std.proofs.Common.{ℕ, List, [], ◌∷◌, ◌++◌, sym, ◌∙◌, subst, subst₂, append_assoc, append-nil}
 use Rattle.swift_script.specs.Scripts.{ScriptView}
 use Rattle.swift_journal.specs.Checkpoints.{CheckpointView}
-use Rattle.swift_history.specs.Histories.{Block, added, begun, ran, folded, at_first, after_blocks, Stands, AllStand}
+use Rattle.swift_history.specs.Histories.{Block, added, begun, ran, folded, AllStand}
 use Rattle.swift_history.specs.Orderly.{AllAllowed, IsOrderly}
 use Rattle.swift_digest.specs.Futures.{LeadAlike, IsLike, AreLike}
 use Rattle.swift_digest.proofs.Outcomes.{orderly_too}
 use Rattle.swift_digest.proofs.SameStands.{all_push, block_stands, lead_push}
-use Rattle.swift_reordering.specs.Away.{job_looks_away}
 use Rattle.swift_reordering.specs.Fused.{RunsNext, BeginLate}
 use Rattle.swift_reordering.proofs.Closed.{same_away}
 

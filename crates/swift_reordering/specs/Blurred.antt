@@ -19,6 +19,7 @@ abbrev pub blurred_stage : Option JobStage → Option JobStage
 blurred_stage (Some (Begun env)) = Some Given
 blurred_stage s = s
 
+-- a life with such a stage
 abbrev pub blurred_life : Life → Life
 blurred_life l = record l { stage = blurred_stage l.stage }
 

@@ -52,7 +52,7 @@ pub record HasExit (blocks : List Block) (executor : ℕ) (exit : ExitView) : Ty
   pub there : Contains blocks (ran executor turn)
   pub exit_is : turn.exit ≡ exit
 
--- Each turn of such a report ends as one does of a step after one of the histories.
+-- a step after one of the histories has a turn on this executor that ends so
 pub record IsTried (script : ScriptView) (checkpoints : List CheckpointView) (histories : List (List Block)) (executor : ℕ) (exit : ExitView) : Type 0 where
   pub before : List Block
   pub step : List Block
@@ -60,6 +60,7 @@ pub record IsTried (script : ScriptView) (checkpoints : List CheckpointView) (hi
   pub may : MayStep script checkpoints before step
   pub has : HasExit step executor exit
 
+-- Each turn of such a report ends as one does of a step after one of them.
 abbrev pub ClosedHasEachExit : Type 0
 ClosedHasEachExit = (script : ScriptView) (histories : List (List Block)) (report : ReportView) → ActorsHaveExecutors script → AreClosed script histories
     → (orderly : IsOrderlyLegal script report) → FoldsNone report → (e : ℕ) (r : RecordView) → Contains orderly.legal.blocks (ran e r) → IsTried script report.checkpoints histories e r.exit
