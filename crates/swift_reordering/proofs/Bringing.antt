@@ -28,12 +28,12 @@ use Rattle.swift_reordering.proofs.Rooms.{room_free}
 use Rattle.swift_reordering.proofs.Reports.{few_before}
 use Rattle.swift_reordering.specs.Away.{job_looks_away}
 use Rattle.swift_reordering.proofs.Priorities.{cons_cases, cons_here, cons_more}
-use Rattle.swift_reordering.proofs.Carrying.{carry, late_rest, runs_like}
+use Rattle.swift_reordering.proofs.Carrying.{carry, late_rest, runs_like, plain_like}
 use Rattle.swift_reordering.proofs.Closed.{stand_after, allowed_after, exit_too}
 use Rattle.swift_reordering.proofs.Waits.{course_front}
 use Rattle.swift_reordering.proofs.Diamonds.{silent_commutes}
 
-like_many : (script : ScriptView) (xs ys : List Block) → AreLike script xs ys → length ys ≡ length xs
+pub like_many : (script : ScriptView) (xs ys : List Block) → AreLike script xs ys → length ys ≡ length xs
 like_many script [] [] like = refl
 like_many script (x ∷ xs) (y ∷ ys) like = (let rest = like_many script xs ys like.1 in omega (arith, rest))
 like_many script [] (y ∷ ys) like = absurd like
@@ -63,6 +63,7 @@ module _ (script : ScriptView) (cps : List CheckpointView) (on : ActorsHaveExecu
         orderly = o.orderly;
         late = o.late;
         next = λ u ne runs. absurd runs;
+        plain = λ all. plain_like script cps bs o.rest o.like all.1.1;
         exits = λ x p has. elim (cons_cases (begun t n env) (ran k q ∷ bs) (ran x p) has) [
           | inl no_turn ↦ absurd (cc no_turn)
           | inr more ↦ elim (cons_cases (ran k q) bs (ran x p) more) [
@@ -146,6 +147,7 @@ module _ (script : ScriptView) (cps : List CheckpointView) (on : ActorsHaveExecu
         orderly = (c.orderly may, o.orderly);
         late = late_past b bs o.rest g.others before ((before ++ x ∷ []) ++ y ∷ []) of_other c.jobs late g.next o.like o.late;
         next = λ u ne runs. next_past b bs o.rest u runs;
+        plain = λ all. (all.0, plain_like script cps g.others o.rest o.like (g.plain all.1));
         exits = λ k p has. elim (cons_cases b bs (ran k p) has) [
           | inl here ↦ record { turn = p; there = cons_more y (b ∷ o.rest) (ran k p) (cons_here b o.rest (ran k p) here); exit_is = refl }
           | inr later ↦ exit_past r c.other k p.exit b g.others o.rest o.like (g.exits k p later)
@@ -165,7 +167,7 @@ module _ (script : ScriptView) (cps : List CheckpointView) (on : ActorsHaveExecu
       let c = silent_commutes script cps before t n env e r b course.stand silent hold all.0 of_other rooms in
       past before bs env r b c course.stand silent all.0 may.0 of_other late (others c.other c.later)
 
-  bring : (rest before : List Block) (env : Env) (r : RecordView) → IsCourse script cps before → AllStand script cps before rest → AllAllowed (IsOrderly script) before rest → HasRoom script (before ++ rest) → BeginLate script before rest → IsSilentTurn script cps before t n env e r
+  pub bring : (rest before : List Block) (env : Env) (r : RecordView) → IsCourse script cps before → AllStand script cps before rest → AllAllowed (IsOrderly script) before rest → HasRoom script (before ++ rest) → BeginLate script before rest → IsSilentTurn script cps before t n env e r
       → OwnNext t rest → GoesFirst script cps before rest t n env e r
   bring [] before env r course all may few late silent own = absurd own
   bring (added x ∷ bs) before env r course all may few late silent own =

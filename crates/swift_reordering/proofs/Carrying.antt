@@ -1,11 +1,13 @@
 -- What goes on in order after one history goes on so after another that it leads alike.
 use Rattle.std.proofs.Common.{ℕ, List, [], ◌∷◌, ◌++◌, sym, ◌∙◌, subst, subst₂, append_assoc, append-nil}
+use Rattle.std.specs.List.{AllByRecursion}
 use Rattle.swift_script.specs.Scripts.{ScriptView}
+use Rattle.swift_digest.specs.Explored.{IsNotFolded}
 use Rattle.swift_journal.specs.Checkpoints.{CheckpointView}
 use Rattle.swift_history.specs.Histories.{Block, added, begun, ran, folded, AllStand}
 use Rattle.swift_history.specs.Orderly.{AllAllowed, IsOrderly}
 use Rattle.swift_digest.specs.Futures.{LeadAlike, IsLike, AreLike}
-use Rattle.swift_digest.proofs.Outcomes.{orderly_too}
+use Rattle.swift_digest.proofs.Outcomes.{orderly_too, unfolded_too}
 use Rattle.swift_digest.proofs.SameStands.{all_push, block_stands, lead_push}
 use Rattle.swift_reordering.specs.Fused.{RunsNext, BeginLate}
 use Rattle.swift_reordering.proofs.Closed.{same_away}
@@ -18,6 +20,12 @@ runs_like script t [] cs like is = absurd is
 runs_like script t (added r ∷ bs) cs like is = absurd is
 runs_like script t (begun u n env ∷ bs) cs like is = absurd is
 runs_like script t (folded e f ∷ bs) cs like is = absurd is
+
+pub plain_like : (script : ScriptView) (cps : List CheckpointView) (bs cs : List Block) → AreLike script bs cs → AllByRecursion IsNotFolded bs → AllByRecursion IsNotFolded cs
+plain_like script cps [] [] like all = tt
+plain_like script cps (b ∷ bs) (c ∷ cs) like all = (unfolded_too script cps b c like.0 all.0, plain_like script cps bs cs like.1 all.1)
+plain_like script cps [] (c ∷ cs) like all = absurd like
+plain_like script cps (b ∷ bs) [] like all = absurd like
 
 module _ (script : ScriptView) (cps : List CheckpointView) where
   pub record Carried (more before others : List Block) : Type 0 where

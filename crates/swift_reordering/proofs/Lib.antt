@@ -24,3 +24,4 @@ pub mod Holding
 pub mod Diamonds
 pub mod Carrying
 pub mod Bringing
+pub mod SilentWalk

@@ -1,5 +1,6 @@
 -- A silent turn may run before or after a block of another task (our own).
 use Rattle.std.specs.Prelude.{◌≡◌, ◌≢◌, ◌⊎◌, ℕ, ◌+◌, true, Some, List, [], ◌∷◌, ◌++◌, length, Contains}
+use Rattle.std.specs.List.{AllByRecursion}
 use Rattle.swift_types.specs.declared.env.Env.{Env}
 use Rattle.swift_script.specs.Scripts.{ScriptView, root_count, executor_invariants}
 use Rattle.swift_interpreter.specs.Turn.{all_hold}
@@ -11,6 +12,7 @@ use Rattle.swift_history.specs.Histories.{Block, begun, ran, at_first, after_blo
 use Rattle.swift_history.specs.Orderly.{AllAllowed, IsOrderly}
 use Rattle.swift_laws.specs.Laws.{ActorsHaveExecutors}
 use Rattle.swift_digest.specs.Futures.{LeadAlike}
+use Rattle.swift_digest.specs.Explored.{IsNotFolded}
 use Rattle.swift_reordering.specs.Fused.{RunsNext, BeginLate}
 use Rattle.swift_reordering.specs.FusedSteps.{HasRoom, HasExit}
 use Rattle.swift_reordering.specs.Blurred.{stage_at}
@@ -62,6 +64,7 @@ pub record GoesFirst (script : ScriptView) (checkpoints : List CheckpointView) (
   pub orderly : AllAllowed (IsOrderly script) ((before ++ begun t n env ∷ []) ++ ran e r ∷ []) others
   pub late : BeginLate script ((before ++ begun t n env ∷ []) ++ ran e r ∷ []) others
   pub next : (u : ℕ) → u ≢ t → RunsNext u rest → RunsNext u others
+  pub plain : AllByRecursion IsNotFolded rest → AllByRecursion IsNotFolded others
   -- and each turn ends as it did
   pub exits : (k : ℕ) (q : RecordView) → Contains rest (ran k q) → HasExit (ran e r ∷ others) k q.exit
 
