@@ -109,6 +109,7 @@ each_fused script report orderly on folds room =
       other = other;
       legal = record { legal = legal_too; orderly = is.course.orderly };
       folds = folds;
+      checkpoints = refl;
       endings = refl;
       fields = refl;
       done = is.done;

@@ -166,3 +166,56 @@ module _ (script : ScriptView) (cps : List CheckpointView) where
         let less = f.many in
         let end = walk o.others x.kept (omega (arith, many, less, few)) x.is_kept o.goes in
         (end.0, end.1, lead_on script cps (h ++ rest) (mid ++ f.others) end.0 lead (lead_on script cps (mid ++ f.others) (x.kept ++ o.others) end.0 o.lead end.2))
+
+    may_one : (h : List Block) (b : Block) (bs : List Block) → GoesToEnd h (b ∷ bs) → IsFusedStep script h (b ∷ []) → MayStep script cps h (b ∷ [])
+    may_one h b bs g is = record { fused = is; stands = (g.stand.0, tt); orderly = (g.may.0, tt) }
+
+    -- a step of one block
+    go_one : (fuel : ℕ) (h : List Block) (b : Block) (bs : List Block) → Kept h → GoesToEnd h (b ∷ bs) → IsFusedStep script h (b ∷ []) → length bs ≤ fuel
+        → ((step : List Block) → MayStep script cps h step → (k : List Block) × Kept k × LeadAlike script cps (h ++ step) k)
+        → ((bs k : List Block) → length bs ≤ fuel → Kept k → GoesToEnd k bs → Ends (k ++ bs)) → Ends (h ++ b ∷ bs)
+    go_one fuel h b bs kept g is few steps walk =
+        subst Ends (append_assoc h (b ∷ []) bs) (go_step fuel h (b ∷ []) bs kept (may_one h b bs g is) (all_push script cps h [] b (course h kept).stand g.stand.0) (front h b bs g) few steps walk)
+
+    -- a turn that looks away begins and runs
+    go_two : (fuel : ℕ) (h : List Block) (t n : ℕ) (env : Env) (bs : List Block) → Kept h → GoesToEnd h (begun t n env ∷ bs) → job_looks_away script ((at h).jobs t) ≡ true → RunsNext t bs → length bs ≤ fuel
+        → ((step : List Block) → MayStep script cps h step → (k : List Block) × Kept k × LeadAlike script cps (h ++ step) k)
+        → ((bs k : List Block) → length bs ≤ fuel → Kept k → GoesToEnd k bs → Ends (k ++ bs)) → Ends (h ++ begun t n env ∷ bs)
+    go_two fuel h t n env (ran e r ∷ bs) kept g away runs few steps walk =
+        let c : Block = begun t n env in
+        let d : Block = ran e r in
+        let may : MayStep script cps h (c ∷ d ∷ []) = record { fused = (away, runs); stands = (g.stand.0, (g.stand.1.0, tt)); orderly = (g.may.0, (g.may.1.0, tt)) } in
+        let one = front h c (d ∷ bs) g in
+        let both = front (h ++ c ∷ []) d bs one in
+        let is : (h ++ c ∷ []) ++ d ∷ [] ≡ h ++ c ∷ d ∷ [] = append_assoc h (c ∷ []) (d ∷ []) in
+        let stand = all_push script cps (h ++ c ∷ []) [] d (all_push script cps h [] c (course h kept).stand g.stand.0) g.stand.1.0 in
+        subst Ends (append_assoc h (c ∷ d ∷ []) bs)
+        (go_step fuel h (c ∷ d ∷ []) bs kept may (subst (AllStand script cps []) is stand) (subst (λ (xs : List Block). GoesToEnd xs bs) is both) (omega (arith, few)) steps walk)
+    go_two fuel h t n env [] kept g away runs few steps walk = absurd runs
+    go_two fuel h t n env (added x ∷ bs) kept g away runs few steps walk = absurd runs
+    go_two fuel h t n env (begun x y z ∷ bs) kept g away runs few steps walk = absurd runs
+    go_two fuel h t n env (folded x y ∷ bs) kept g away runs few steps walk = absurd runs
+
+    go_any : (fuel : ℕ) (h : List Block) (b : Block) (bs : List Block) → Kept h → GoesToEnd h (b ∷ bs) → length bs ≤ fuel
+        → ((step : List Block) → MayStep script cps h step → (k : List Block) × Kept k × LeadAlike script cps (h ++ step) k)
+        → ((bs k : List Block) → length bs ≤ fuel → Kept k → GoesToEnd k bs → Ends (k ++ bs)) → Ends (h ++ b ∷ bs)
+    go_any fuel h (added r) bs kept g few steps walk = go_one fuel h (added r) bs kept g tt few steps walk
+    go_any fuel h (ran e r) bs kept g few steps walk = go_one fuel h (ran e r) bs kept g tt few steps walk
+    go_any fuel h (folded e f) bs kept g few steps walk = absurd g.plain.0
+    go_any fuel h (begun t n env) bs kept g few steps walk = elim (cases_Bool (job_looks_away script ((at h).jobs t))) [
+      | inl away ↦ go_two fuel h t n env bs kept g away (g.late.0 away) few steps walk
+      | inr looks ↦ go_one fuel h (begun t n env) bs kept g looks few steps walk
+    ]
+
+    -- to the end
+    pub walk : (fuel : ℕ) (rest h : List Block) → length rest ≤ fuel → Kept h → GoesToEnd h rest → Ends (h ++ rest)
+    walk fuel [] h few kept g = (
+      h,
+      kept,
+      subst (λ (xs : List Block). LeadAlike script cps xs h) (sym (append-nil h)) (record { standing = record { digest = refl; held = refl; jobs = λ u. refl }; fields = λ e. refl; unused = λ e none. none }),
+    )
+    walk zero (b ∷ rest) h few kept g = absurd (omega (arith, few))
+    walk (suc fuel) (b ∷ rest) h few kept g = elim (next h kept) [
+      | inl steps ↦ go_any fuel h b rest kept g (omega (arith, few)) steps (λ bs k less has goes. walk fuel bs k less has goes)
+      | inr x ↦ go_silent fuel h (b ∷ rest) kept g few x (λ bs k less has goes. walk fuel bs k less has goes)
+    ]

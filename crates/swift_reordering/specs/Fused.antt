@@ -47,6 +47,7 @@ pub record IsFused (script : ScriptView) (report : ReportView) (orderly : IsOrde
   pub other : ReportView
   pub legal : IsOrderlyLegal script other
   pub folds : FoldsNone other
+  pub checkpoints : other.checkpoints ≡ report.checkpoints
   pub endings : other.endings ≡ report.endings
   pub fields : other.fields ≡ report.fields
   pub done : done_by orderly.legal.blocks ≡ done_by legal.legal.blocks
