@@ -25,3 +25,4 @@ pub mod Diamonds
 pub mod Carrying
 pub mod Bringing
 pub mod SilentWalk
+pub mod SilentEnds

@@ -85,13 +85,13 @@ module _ (script : ScriptView) (cps : List CheckpointView) where
   ]
 
   -- what goes to the end after one history goes to the end after another that it leads alike
-  record Other (h k rest : List Block) : Type 0 where
-    others : List Block
-    goes : GoesToEnd k others
-    many : length others ≡ length rest
-    lead : LeadAlike script cps (h ++ rest) (k ++ others)
+  pub record Other (h k rest : List Block) : Type 0 where
+    pub others : List Block
+    pub goes : GoesToEnd k others
+    pub many : length others ≡ length rest
+    pub lead : LeadAlike script cps (h ++ rest) (k ++ others)
 
-  other_end : (h k rest : List Block) → AllStand script cps [] h → AllStand script cps [] k → LeadAlike script cps h k → GoesToEnd h rest → Other h k rest
+  pub other_end : (h k rest : List Block) → AllStand script cps [] h → AllStand script cps [] k → LeadAlike script cps h k → GoesToEnd h rest → Other h k rest
   other_end h k rest all also lead g =
       let o = carry script cps rest h k all also lead g.stand g.may g.late in
       let same = o.lead.standing.digest in

@@ -5,3 +5,4 @@ pub mod FusedSteps
 pub mod Waiting
 pub mod Silent
 pub mod SilentTurns
+pub mod SilentSearch

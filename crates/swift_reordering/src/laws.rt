@@ -3,6 +3,7 @@
 ghost use Rattle.swift_reordering.specs.Away.{InstructionsTell};
 ghost use Rattle.swift_reordering.specs.Fused.{EachIsFused};
 ghost use Rattle.swift_reordering.specs.FusedSteps.{ClosedHasEachExit, ClosedHasEachOutcome};
+ghost use Rattle.swift_reordering.specs.SilentSearch.{ClosedSilentlyHasEachOutcome};
 ghost use Rattle.swift_reordering.specs.SilentTurns.{SilentTurnsCommute, SilentTurnsMayGoFirst};
 ghost use Rattle.swift_reordering.specs.Waiting.{BeginsMayWait};
 
@@ -41,4 +42,10 @@ pub fn silent_turns_commute()
 /// Such a turn may go before all that stands before it in a history in order, where there is room (our own).
 pub fn silent_turns_may_go_first()
     ensures { SilentTurnsMayGoFirst }
+{}
+
+/// A list of histories from each of which either each step or one silent turn leads alike to one of them has the outcome of each legal
+/// report in order without folded turns, where room never binds and the invariants hold at the start (our own).
+pub fn silently_closed_histories_have_each_outcome()
+    ensures { ClosedSilentlyHasEachOutcome }
 {}
