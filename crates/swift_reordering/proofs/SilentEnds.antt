@@ -1,33 +1,29 @@
 -- A search that takes silent turns alone has the outcome of each report.
-use Rattle.std.proofs.Common.{◌≡◌, ◌⊎◌, ℕ, ℤ, ◌+◌, ◌*◌, ◌<◌, ◌≤◌, List, [], ◌∷◌, ◌++◌, length, refl, sym, ◌∙◌, ap, subst, subst₂, Bool, true, false, inl, inr, append-nil, arith}
-use Rattle.std.specs.Prelude.{Option, Some, None, is_some, slice_get, Contains}
+use Rattle.std.proofs.Common.{◌≡◌, ◌⊎◌, ℕ, ℤ, List, [], ◌∷◌, ◌++◌, length, sym, ◌∙◌, ap, subst, true, inl, inr, append-nil, arith}
+use Rattle.std.specs.Prelude.{is_some, slice_get, Contains}
 use Rattle.std.specs.List.{AllByRecursion}
-use Rattle.std.proofs.lemmas.Bool.{false≢true}
 use Rattle.std.proofs.lemmas.Option.{slice_get_cases}
-use Rattle.swift_types.specs.declared.limits.TheConstants.{TASKS, MADE}
-use Rattle.swift_script.specs.Scripts.{ScriptView, root_count, executor_count, executor_invariants}
+use Rattle.swift_script.specs.Scripts.{ScriptView, root_count, executor_invariants}
 use Rattle.swift_interpreter.specs.Turn.{all_hold}
 use Rattle.swift_journal.specs.Checkpoints.{CheckpointView}
 use Rattle.swift_events.specs.declared.event.Event.{Event}
 use Rattle.swift_events.specs.Events.{tasks_of}
 use Rattle.swift_events.specs.declared.life.Origin.{Origin}
 use Rattle.swift_types.specs.declared.outcome.Ending.{Ending}
-use Rattle.swift_events.specs.Lives.{life_of}
 use Rattle.swift_history.specs.Checks.{is_under_way}
 use Rattle.swift_history.specs.Histories.{Block, at_first, after_blocks, checkpoint_at, folded_in, folded_of, AllStand, ReportView, IsLegal}
-use Rattle.swift_history.specs.Orderly.{IsOrderlyLegal}
 use Rattle.swift_laws.specs.Laws.{ActorsHaveExecutors}
 use Rattle.swift_laws.proofs.HistoriesCounted.{AreCounted, unbegun}
 use Rattle.swift_laws.proofs.HistoriesTurns.{all_keep, first_counted}
 use Rattle.swift_laws.proofs.OpenReports.{any_sound}
 use Rattle.swift_digest.specs.Futures.{LeadAlike}
-use Rattle.swift_digest.specs.Explored.{IsNotFolded, IsOutcome, FoldsNone, StartsFresh, state_of}
+use Rattle.swift_digest.specs.Explored.{IsNotFolded, IsOutcome, StartsFresh, state_of}
 use Rattle.swift_digest.proofs.Outcomes.{NoneFolded, made, none_in, not_folded, outcome_too, lead_on}
-use Rattle.swift_digest.proofs.SameStands.{all_push, same_futures}
+use Rattle.swift_digest.proofs.SameStands.{all_push}
 use Rattle.swift_reordering.specs.Blurred.{stage_at}
-use Rattle.swift_reordering.specs.Fused.{IsFused, RoomNeverBinds}
+use Rattle.swift_reordering.specs.Fused.{IsFused}
 use Rattle.swift_reordering.specs.FusedSteps.{MayStep, HasRoom}
-use Rattle.swift_reordering.specs.SilentSearch.{GoesSilently, AreClosedSilently, ClosedSilentlyHasEachOutcome}
+use Rattle.swift_reordering.specs.SilentSearch.{AreClosedSilently, ClosedSilentlyHasEachOutcome}
 use Rattle.swift_reordering.proofs.Walks.{IsCourse}
 use Rattle.swift_reordering.proofs.Reports.{each_fused}
 use Rattle.swift_reordering.proofs.SilentWalk.{IsFinished, GoesToEnd, StepsSilently, other_end, walk}

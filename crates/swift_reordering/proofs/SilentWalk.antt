@@ -1,22 +1,20 @@
 -- A search that takes a silent turn alone where there is one comes to the end of each history.
-use Rattle.std.proofs.Common.{◌≡◌, ◌≢◌, ◌⊎◌, ℕ, zero, suc, ◌+◌, ◌*◌, ◌≤◌, List, [], ◌∷◌, ◌++◌, length, refl, sym, ◌∙◌, ap, subst, subst₂, Bool, true, false, inl, inr, append_assoc, append-nil, arith}
-use Rattle.std.specs.Prelude.{Option, Some, None}
+use Rattle.std.proofs.Common.{◌≡◌, ◌≢◌, ◌⊎◌, ℕ, zero, suc, ◌≤◌, List, [], ◌∷◌, ◌++◌, length, refl, sym, ◌∙◌, ap, subst, true, false, inl, inr, append_assoc, append-nil, arith}
+use Rattle.std.specs.Prelude.{Some}
 use Rattle.std.specs.List.{AllByRecursion}
 use Rattle.std.proofs.lemmas.Bool.{cases_Bool, cases_eq, false≢true}
 use Rattle.swift_types.specs.declared.env.Env.{Env}
-use Rattle.swift_types.specs.declared.limits.TheConstants.{TASKS, MADE}
-use Rattle.swift_script.specs.Scripts.{ScriptView, root_count, executor_count, executor_invariants}
+use Rattle.swift_script.specs.Scripts.{ScriptView, root_count, executor_invariants}
 use Rattle.swift_interpreter.specs.Turn.{all_hold}
 use Rattle.swift_journal.specs.Records.{RecordView}
 use Rattle.swift_journal.specs.Checkpoints.{CheckpointView}
 use Rattle.swift_events.specs.declared.life.Life.{Life}
 use Rattle.swift_events.specs.declared.life.JobStage.TheVariants.{Given}
-use Rattle.swift_events.specs.Lives.{life_of}
 use Rattle.swift_history.specs.Checks.{is_begun, is_under_way}
-use Rattle.swift_history.specs.Histories.{Block, added, begun, ran, folded, Standing, at_first, after_blocks, checkpoint_at, Stands, AllStand}
+use Rattle.swift_history.specs.Histories.{Block, added, begun, ran, folded, Standing, at_first, after_blocks, checkpoint_at, AllStand}
 use Rattle.swift_history.specs.Orderly.{AllAllowed, IsOrderly}
 use Rattle.swift_laws.specs.Laws.{ActorsHaveExecutors}
-use Rattle.swift_digest.specs.Futures.{LeadAlike, AreLike}
+use Rattle.swift_digest.specs.Futures.{LeadAlike}
 use Rattle.swift_digest.specs.Explored.{IsNotFolded}
 use Rattle.swift_digest.proofs.Outcomes.{lead_on}
 use Rattle.swift_digest.proofs.SameLogs.{same_life, same_tasks}
@@ -26,8 +24,8 @@ use Rattle.swift_reordering.specs.Blurred.{stage_at}
 use Rattle.swift_reordering.specs.Fused.{RunsNext, BeginLate}
 use Rattle.swift_reordering.specs.FusedSteps.{IsFusedStep, MayStep, HasRoom}
 use Rattle.swift_reordering.specs.Waiting.{IsOfOther}
-use Rattle.swift_reordering.specs.SilentTurns.{IsSilentTurn, OwnNext, GoesFirst}
-use Rattle.swift_reordering.proofs.Walks.{IsCourse, course_push}
+use Rattle.swift_reordering.specs.SilentTurns.{IsSilentTurn, OwnNext}
+use Rattle.swift_reordering.proofs.Walks.{IsCourse}
 use Rattle.swift_reordering.proofs.Others.{KeepsJob}
 use Rattle.swift_reordering.proofs.Keeping.{block_keeps_job}
 use Rattle.swift_reordering.proofs.Carrying.{carry, plain_like, late_rest}
