@@ -4,7 +4,7 @@ use Rattle.std.specs.Prelude.{is_some, slice_get, Contains}
 use Rattle.std.specs.List.{AllByRecursion}
 use Rattle.std.proofs.lemmas.Option.{slice_get_cases}
 use Rattle.swift_script.specs.Scripts.{ScriptView, root_count, executor_invariants}
-use Rattle.swift_interpreter.specs.Turn.{all_hold}
+use Rattle.swift_interpreter.specs.Turn.{ExitView, all_hold}
 use Rattle.swift_journal.specs.Checkpoints.{CheckpointView}
 use Rattle.swift_events.specs.declared.event.Event.{Event}
 use Rattle.swift_events.specs.Events.{tasks_of}
@@ -26,7 +26,7 @@ use Rattle.swift_reordering.specs.FusedSteps.{MayStep, HasRoom}
 use Rattle.swift_reordering.specs.SilentSearch.{AreClosedSilently, ClosedSilentlyHasEachOutcome}
 use Rattle.swift_reordering.proofs.Walks.{IsCourse}
 use Rattle.swift_reordering.proofs.Reports.{each_fused}
-use Rattle.swift_reordering.proofs.SilentWalk.{IsFinished, GoesToEnd, StepsSilently, other_end, walk}
+use Rattle.swift_reordering.proofs.SilentWalk.{IsFinished, GoesToEnd, StepKept, StepsSilently, other_end, walk}
 
 -- at the end of a report no turn is under way
 finished : (script : ScriptView) (report : ReportView) (legal : IsLegal script report) → IsFinished script report.checkpoints legal.blocks
@@ -60,13 +60,17 @@ module _ (script : ScriptView) (histories : List (List Block)) (report : ReportV
   abbrev Kept : List Block → Type 0
   Kept h = Contains histories h
 
+  -- how turns end is not asked
+  abbrev Tried : ℕ → ExitView → Type 0
+  Tried e exit = Unit {0}
+
   course : (h : List Block) → Kept h → IsCourse script cps h
   course h has = record { stand = closed.stand cps h fresh has; orderly = closed.orderly h has }
 
-  next : (h : List Block) → Kept h → ((step : List Block) → MayStep script cps h step → (k : List Block) × Kept k × LeadAlike script cps (h ++ step) k) ⊎ StepsSilently script cps Kept h
+  next : (h : List Block) → Kept h → ((step : List Block) → MayStep script cps h step → StepKept script cps Kept Tried h step) ⊎ StepsSilently script cps Kept Tried h
   next h has = elim (closed.next cps h fresh has) [
-    | inl steps ↦ inl steps
-    | inr x ↦ inr (record { t = x.t; n = x.n; env = x.env; e = x.e; r = x.r; silent = x.silent; may = x.orderly; away = x.away; kept = x.kept; is_kept = x.is_kept; lead = x.lead })
+    | inl steps ↦ inl (λ step may. (let k = steps step may in record { kept = k.0; is_kept = k.1; lead = k.2; tried = λ e r there. tt }))
+    | inr x ↦ inr (record { t = x.t; n = x.n; env = x.env; e = x.e; r = x.r; silent = x.silent; may = x.orderly; away = x.away; kept = x.kept; is_kept = x.is_kept; lead = x.lead; tried = tt })
   ]
 
   -- from the first history on
@@ -74,8 +78,8 @@ module _ (script : ScriptView) (histories : List (List Block)) (report : ReportV
   reached goes =
       let first = closed.first cps fresh in
       let o = other_end script cps [] first.0 legal.blocks tt (course first.0 first.1).stand first.2 goes in
-      let end = walk script cps on hold Kept course next (length o.others) o.others first.0 (omega arith) first.1 o.goes in
-      (end.0, end.1, lead_on script cps legal.blocks (first.0 ++ o.others) end.0 o.lead end.2)
+      let end = walk script cps on hold Kept Tried course next (length o.others) o.others first.0 (omega arith) first.1 o.goes in
+      (end.kept, end.is_kept, lead_on script cps legal.blocks (first.0 ++ o.others) end.kept o.lead end.lead)
 
 pub silently_closed : ClosedSilentlyHasEachOutcome
 silently_closed script histories report on closed hold orderly folds room =
