@@ -3,7 +3,7 @@
 ghost use Rattle.swift_reordering.specs.Away.{InstructionsTell};
 ghost use Rattle.swift_reordering.specs.Fused.{EachIsFused};
 ghost use Rattle.swift_reordering.specs.FusedSteps.{ClosedHasEachExit, ClosedHasEachOutcome};
-ghost use Rattle.swift_reordering.specs.SilentSearch.{ClosedSilentlyHasEachOutcome};
+ghost use Rattle.swift_reordering.specs.SilentSearch.{ClosedSilentlyHasEachExit, ClosedSilentlyHasEachOutcome};
 ghost use Rattle.swift_reordering.specs.SilentTurns.{SilentTurnsCommute, SilentTurnsMayGoFirst};
 ghost use Rattle.swift_reordering.specs.Waiting.{BeginsMayWait};
 
@@ -48,4 +48,9 @@ pub fn silent_turns_may_go_first()
 /// report in order without folded turns, where room never binds and the invariants hold at the start (our own).
 pub fn silently_closed_histories_have_each_outcome()
     ensures { ClosedSilentlyHasEachOutcome }
+{}
+
+/// Each turn of such a report ends as a turn does of a step that was tried (our own).
+pub fn silently_closed_histories_have_each_exit()
+    ensures { ClosedSilentlyHasEachExit }
 {}
