@@ -1,6 +1,6 @@
 -- A search that takes silent turns alone has the outcome of each report.
-use Rattle.std.proofs.Common.{◌≡◌, ◌⊎◌, ℕ, ℤ, List, [], ◌∷◌, ◌++◌, length, sym, ◌∙◌, ap, subst, true, inl, inr, append-nil, arith, Bool, refl, subst₂}
-use Rattle.std.specs.Prelude.{is_some, slice_get, Contains, Some}
+use Rattle.std.proofs.Common.{◌≡◌, ◌⊎◌, ℕ, ℤ, List, [], ◌∷◌, ◌++◌, length, sym, ◌∙◌, ap, subst, true, inl, inr, append-nil, arith, Bool, refl}
+use Rattle.std.specs.Prelude.{is_some, slice_get, Contains}
 use Rattle.std.specs.List.{AllByRecursion, cons_option}
 use Rattle.std.proofs.lemmas.Option.{slice_get_cases}
 use Rattle.swift_script.specs.Scripts.{ScriptView, root_count, executor_invariants}
@@ -26,7 +26,7 @@ use Rattle.swift_digest.proofs.SameStands.{all_push}
 use Rattle.swift_reordering.specs.Blurred.{stage_at}
 use Rattle.swift_reordering.specs.Fused.{IsFused, RoomNeverBinds, no_env, done_in, done_by}
 use Rattle.swift_reordering.specs.FusedSteps.{MayStep, HasRoom, HasExit}
-use Rattle.swift_reordering.specs.SilentSearch.{GoesSilently, GoesOnIn, AreClosedSilently, InvariantsStart, ClosedSilentlyHasEachOutcome, ClosedSilentlyHasEachExit}
+use Rattle.swift_reordering.specs.SilentSearch.{AreClosedSilently, InvariantsStart, ClosedSilentlyHasEachOutcome, ClosedSilentlyHasEachExit}
 use Rattle.swift_reordering.proofs.Walks.{IsCourse}
 use Rattle.swift_reordering.proofs.Reports.{each_fused}
 use Rattle.swift_reordering.proofs.SilentWalk.{IsFinished, GoesToEnd, StepKept, StepsSilently, other_end, walk}
