@@ -1,0 +1,173 @@
+-- Digests that are one but for which turns under way have begun, and in which environments.
+use Rattle.std.proofs.Common.{◌≡◌, ℕ, ◌+◌, List, [], ◌∷◌, ◌++◌, refl, sym, ◌∙◌, ap, ap₂, subst, Bool, true, false, append-nil, arith}
+use Rattle.std.specs.Prelude.{Option, Some, None, ◌==◌, ◌||◌, ◌&&◌, ◌-◌, ◌^◌, nat_lt, if◌then◌else◌}
+use Rattle.std.proofs.lemmas.Bool.{eqb-true}
+use Rattle.swift_types.specs.declared.env.Env.{Env}
+use Rattle.swift_types.specs.declared.outcome.Resume.{Resume}
+use Rattle.swift_escalation.specs.declared.waits.PriorityEvent.{PriorityEvent as Link}
+use Rattle.swift_events.specs.declared.event.Event.{Event}
+use Rattle.swift_events.specs.declared.event.Event.TheVariants.{Begin}
+use Rattle.swift_events.specs.declared.life.Life.{Life}
+use Rattle.swift_events.specs.declared.life.LastJob.{LastJob}
+use Rattle.swift_events.specs.declared.life.JobStage.{JobStage}
+use Rattle.swift_events.specs.declared.life.JobStage.TheVariants.{Given, Begun, Applied, Waits, Asks, Closes}
+use Rattle.swift_events.specs.Events.{later, tasks_of}
+use Rattle.swift_events.specs.Lives.{life_of, lived, stage_in}
+use Rattle.swift_events.specs.Relations.{opened_by, is_closed, is_cancelled, links_of}
+use Rattle.swift_history.specs.Checks.{is_under_way, is_current, was_given}
+use Rattle.swift_history.specs.TurnEnds.{task}
+use Rattle.swift_digest.specs.Digests.{Card, GroupCard, Digest, digest_of, noted, card_noted, group_noted}
+use Rattle.swift_digest.proofs.Cards.{digest_of-push}
+use Rattle.swift_digest.proofs.Answers.{life_of_is}
+use Rattle.swift_reordering.specs.Blurred.{blurred_stage, blurred_life, blurred, AreNear}
+use Rattle.swift_reordering.proofs.Sights.{waited, IsSight, seen_on, seen_tasks, seen_life, seen_origin, seen_ending, seen_opened, seen_closed, seen_cancelled, seen_links}
+use Rattle.swift_digest.proofs.Links.{AreWithin}
+use Rattle.std.specs.List.{cons_option}
+
+-- where a turn that has begun counts as one that was given, enough is seen
+
+abbrev pub blurs : ℕ → Life → Life
+blurs u l = blurred_life l
+
+blurred_twice : (s : Option JobStage) → blurred_stage s ≡ blurred_stage (blurred_stage s)
+blurred_twice None = refl
+blurred_twice (Some (Begun env)) = refl
+blurred_twice (Some Given) = refl
+blurred_twice (Some Applied) = refl
+blurred_twice (Some (Waits t)) = refl
+blurred_twice (Some (Asks g)) = refl
+blurred_twice (Some (Closes g)) = refl
+
+later_blurred : (x s : Option JobStage) → blurred_stage (later x s) ≡ blurred_stage (later x (blurred_stage s))
+later_blurred None s = blurred_twice s
+later_blurred (Some x) s = refl
+
+waits_blurred : (s : Option JobStage) → waited (blurred_stage s) ≡ waited s
+waits_blurred None = refl
+waits_blurred (Some (Begun env)) = refl
+waits_blurred (Some Given) = refl
+waits_blurred (Some Applied) = refl
+waits_blurred (Some (Waits t)) = refl
+waits_blurred (Some (Asks g)) = refl
+waits_blurred (Some (Closes g)) = refl
+
+pub blurs_sight : IsSight blurs
+blurs_sight = record {
+  again = λ u l. ap (λ (s : Option JobStage). record l { stage = s }) (blurred_twice l.stage);
+  on = λ u l e. ap (λ (s : Option JobStage). record (lived l e) { stage = s }) (later_blurred (stage_in e) l.stage);
+  origin = λ u l. refl;
+  ending = λ u l. refl;
+  waits = λ u l. waits_blurred l.stage;
+}
+
+pub near_on : (a b es fs : List Event) → AreNear a b → es ≡ fs → AreNear (a ++ es) (b ++ fs)
+near_on = seen_on blurs blurs_sight
+
+module _ (a b : List Event) (same : AreNear a b) where
+  pub near_tasks : (roots : ℕ) → tasks_of roots a ≡ tasks_of roots b
+  near_tasks = seen_tasks blurs blurs_sight a b same
+
+  pub near_origin : (t : ℕ) → (life_of t a).origin ≡ (life_of t b).origin
+  near_origin = seen_origin blurs blurs_sight a b same
+
+  pub near_ending : (t : ℕ) → (life_of t a).ending ≡ (life_of t b).ending
+  near_ending = seen_ending blurs blurs_sight a b same
+
+  pub near_given : (t : ℕ) → (life_of t a).given ≡ (life_of t b).given
+  near_given t = ap (λ (l : Life). l.given) (seen_life blurs blurs_sight a b same t)
+
+  pub near_stage : (t : ℕ) → blurred_stage (life_of t a).stage ≡ blurred_stage (life_of t b).stage
+  near_stage t = ap (λ (l : Life). l.stage) (seen_life blurs blurs_sight a b same t)
+
+  pub near_opened : (t : ℕ) → opened_by t a ≡ opened_by t b
+  near_opened = seen_opened blurs blurs_sight a b same
+
+  pub near_closed : (o g : ℕ) → is_closed o g a ≡ is_closed o g b
+  near_closed = seen_closed blurs blurs_sight a b same
+
+  pub near_cancelled : (t : ℕ) → is_cancelled t a ≡ is_cancelled t b
+  near_cancelled = seen_cancelled blurs blurs_sight a b same
+
+  pub near_links : AreWithin (links_of a) (links_of b)
+  near_links = seen_links blurs blurs_sight a b same
+
+-- a begin is not seen
+
+abbrev none_said : Option Link
+none_said = None
+
+or_none : (b : Bool) → (b || false) ≡ b
+or_none true = refl
+or_none false = refl
+
+none_more : (n : ℕ) → n + 0 ≡ n
+none_more n = omega arith
+
+no_link : (b : Bool) → cons_option (if b then none_said else none_said) [] ≡ []
+no_link true = refl
+no_link false = refl
+
+under_blurred : (s : Option JobStage) → is_under_way s ≡ true → blurred_stage s ≡ Some Given
+under_blurred None under = absurd (cc under)
+under_blurred (Some (Begun env)) under = refl
+under_blurred (Some Given) under = refl
+under_blurred (Some Applied) under = absurd (cc under)
+under_blurred (Some (Waits t)) under = absurd (cc under)
+under_blurred (Some (Asks g)) under = absurd (cc under)
+under_blurred (Some (Closes g)) under = absurd (cc under)
+
+life_begun : (l : Life) (t n : ℕ) (env : Env) → is_under_way l.stage ≡ true → blurred_life (lived l (Begin (task t) n env)) ≡ blurred_life l
+life_begun l t n env under = ap (λ (s : Option JobStage). record l { stage = s }) (sym (under_blurred l.stage under))
+
+life_if : (b : Bool) (l : Life) (t n : ℕ) (env : Env) → (b ≡ true → is_under_way l.stage ≡ true) → blurred_life (if b then lived l (Begin (task t) n env) else l) ≡ blurred_life l
+life_if true l t n env under = life_begun l t n env (under refl)
+life_if false l t n env under = refl
+
+card_begun : (c : Card) (u t n : ℕ) (env : Env) → ((t == u) ≡ true → is_under_way c.life.stage ≡ true)
+    → record (card_noted u c (Begin (task t) n env)) { life = blurred_life (card_noted u c (Begin (task t) n env)).life } ≡ record c { life = blurred_life c.life }
+card_begun c u t n env under = λ k. record {
+  life = life_if (t == u) c.life t n env under k;
+  links = (ap (λ (l : List Link). c.links ++ l) (no_link (t == u)) ∙ append-nil c.links) k;
+  own = append-nil c.own k;
+  waiters = append-nil c.waiters k;
+  named = or_none c.named k;
+  opened = none_more c.opened k;
+}
+
+group_begun : (c : GroupCard) (o g t n : ℕ) (env : Env) → group_noted o g c (Begin (task t) n env) ≡ c
+group_begun c o g t n env = λ k. record {
+  children = append-nil c.children k;
+  ended = append-nil c.ended k;
+  asked = none_more c.asked k;
+  closed = or_none c.closed k;
+  named = or_none c.named k;
+}
+
+digest_begun : (d : Digest) (t n : ℕ) (env : Env) → is_under_way (d.cards t).life.stage ≡ true → blurred (noted d (Begin (task t) n env)) ≡ blurred d
+digest_begun d t n env under = λ k. record {
+  made = none_more d.made k;
+  cards = λ u. card_begun (d.cards u) u t n env (λ same. subst (λ (v : ℕ). is_under_way (d.cards v).life.stage ≡ true) (eqb-true t u same) under) k;
+  groups = λ o g. group_begun (d.groups o g) o g t n env k;
+}
+
+pub near_begin : (log : List Event) (t n : ℕ) (env : Env) → is_under_way (life_of t log).stage ≡ true → AreNear (log ++ Begin (task t) n env ∷ []) log
+near_begin log t n env under =
+    ap blurred (digest_of-push log (Begin (task t) n env)) ∙ digest_begun (digest_of log) t n env (ap (λ (l : Life). is_under_way l.stage) (sym (life_of_is t log)) ∙ under)
+
+-- whether a turn is under way, and current, is seen
+
+under_way_blurred : (s : Option JobStage) → is_under_way s ≡ is_under_way (blurred_stage s)
+under_way_blurred None = refl
+under_way_blurred (Some (Begun env)) = refl
+under_way_blurred (Some Given) = refl
+under_way_blurred (Some Applied) = refl
+under_way_blurred (Some (Waits t)) = refl
+under_way_blurred (Some (Asks g)) = refl
+under_way_blurred (Some (Closes g)) = refl
+
+pub near_under : (a b : List Event) → AreNear a b → (t : ℕ) → is_under_way (life_of t a).stage ≡ is_under_way (life_of t b).stage
+near_under a b same t = under_way_blurred (life_of t a).stage ∙ ap is_under_way (near_stage a b same t) ∙ sym (under_way_blurred (life_of t b).stage)
+
+pub near_current : (a b : List Event) → AreNear a b → (t n : ℕ) (resume : Resume) → is_current (life_of t a) n resume ≡ is_current (life_of t b) n resume
+near_current a b same t n resume =
+    ap₂ (λ (g : Option LastJob) (x : Bool). was_given g n resume && (nat_lt n (2 ^ 32 - 1) && x)) (near_given a b same t) (near_under a b same t)

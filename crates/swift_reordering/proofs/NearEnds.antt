@@ -1,0 +1,31 @@
+-- The end of a turn on two logs that differ only in which turns under way have begun, and in which environments.
+use Rattle.std.proofs.Common.{◌≡◌, ◌⊎◌, ℕ, List, ◌++◌}
+use Rattle.std.specs.Prelude.{Option}
+use Rattle.std.specs.List.{AllByRecursion}
+use Rattle.swift_types.specs.declared.priority.Priority.{Priority}
+use Rattle.swift_script.specs.Scripts.{ScriptView}
+use Rattle.swift_interpreter.specs.Turn.{EffectView, ExitView}
+use Rattle.swift_turn.specs.Body.{Advanced}
+use Rattle.swift_events.specs.declared.event.Event.{Event}
+use Rattle.swift_history.specs.TurnEnds.{WaitingTaskView, TurnEnd, turn_end}
+use Rattle.swift_digest.specs.Digests.{ChildrenAreNew}
+use Rattle.swift_reordering.specs.Blurred.{AreNear}
+use Rattle.swift_reordering.proofs.Near.{blurs, blurs_sight}
+use Rattle.swift_reordering.proofs.SeenEnds as seen
+
+abbrev pub AreJoint : List Event → List Event → List Event → List Event → Type 0
+AreJoint = seen.AreJoint blurs blurs_sight
+
+pub joint_first : (a b : List Event) → AreNear a b → AreJoint a b a b
+joint_first = seen.joint_first blurs blurs_sight
+
+pub joint_on : (first other a b es fs : List Event) → AreJoint first other a b → es ≡ fs → AreJoint first other (a ++ es) (b ++ fs)
+joint_on = seen.joint_on blurs blurs_sight
+
+abbrev pub EndNear : List Event → List Event → TurnEnd → TurnEnd → Type 0
+EndNear = seen.EndSeen blurs blurs_sight
+
+pub near_end : (a b : List Event) → AreNear a b → (script : ScriptView) (held : List (Option WaitingTaskView)) (t n : ℕ) (own other : Priority) (effects : List EffectView) (exit : ExitView) (adv : Advanced)
+    → (own ≡ other) ⊎ AllByRecursion seen.TakesNone effects → ChildrenAreNew (turn_end script a held t n own effects exit adv).log → ChildrenAreNew (turn_end script b held t n other effects exit adv).log
+    → EndNear a b (turn_end script a held t n own effects exit adv) (turn_end script b held t n other effects exit adv)
+near_end = seen.seen_end blurs blurs_sight

@@ -1,0 +1,131 @@
+-- A turn changes nothing of the job of another task that has one: neither how far it is, nor what it is.
+use Rattle.std.proofs.Common.{◌≡◌, ◌≢◌, ℕ, List, [], ◌∷◌, ◌++◌, refl, sym, ◌∙◌, ap, subst, Bool, true, inl, inr, append_assoc, append-nil}
+use Rattle.std.specs.Prelude.{Option, Some, None, ◌==◌, if◌then◌else◌}
+use Rattle.std.specs.List.{AllByRecursion}
+use Rattle.std.proofs.lemmas.Bool.{cases_eq, ne_eqb, false≢true}
+use Rattle.swift_types.specs.declared.env.Env.{Env}
+use Rattle.swift_types.specs.declared.priority.Priority.{Priority}
+use Rattle.swift_script.specs.Scripts.{ScriptView, root_count, root_priority}
+use Rattle.swift_interpreter.specs.Frames.{FrameView}
+use Rattle.swift_interpreter.specs.Turn.{EffectView, ExitView}
+use Rattle.swift_turn.specs.Body.{Advanced, advanced}
+use Rattle.swift_events.specs.declared.event.Event.{Event}
+use Rattle.swift_events.specs.declared.event.Event.TheVariants.{Root, Begin, Apply, Free, Open, Child, Skip, CancelTask, CancelGroup, Wait, Next, Close, End, Give}
+use Rattle.swift_events.specs.declared.life.Life.{Life}
+use Rattle.swift_events.specs.declared.life.LastJob.{LastJob}
+use Rattle.swift_events.specs.declared.life.JobStage.{JobStage}
+use Rattle.swift_events.specs.Events.{later, task_of}
+use Rattle.swift_events.specs.Lives.{life_of, stage_in, given_in}
+use Rattle.swift_events.proofs.LogLemmas.{life_of-push_same, life_of-push_other}
+use Rattle.swift_history.specs.Checks.{is_under_way}
+use Rattle.swift_history.specs.TurnEnds.{JobFacts, TurnEnd, task, gives, root_job, exit_events, log_after, turn_end}
+use Rattle.swift_history.specs.Histories.{added, Standing, after_block, with_jobs, taken, begun_priority, left_as, turn_applied, TurnStands}
+use Rattle.swift_laws.proofs.HistoriesCounted.{AreCounted}
+use Rattle.swift_laws.proofs.HistoriesTurns.{Resting, applied_is, current_is, turn_follows}
+use Rattle.swift_laws.proofs.HistoriesWritten.{IsWritten, keeps_effects, keeps_exit}
+use Rattle.swift_reordering.specs.Blurred.{stage_at}
+
+-- what events of other tasks, or that say nothing of a job, leave of it
+
+abbrev given_at : List Event → ℕ → Option LastJob
+given_at log u = (life_of u log).given
+
+-- how far the job of task `u` is, and which one it is
+pub record SameJob (first : List Event) (u : ℕ) (log : List Event) : Type 0 where
+  pub stage : stage_at log u ≡ stage_at first u
+  pub given : given_at log u ≡ given_at first u
+
+abbrev SaysNoJob : Event → Type 0
+SaysNoJob e = (stage_in e ≡ None) × (given_in e ≡ None)
+
+job_other : (first : List Event) (u : ℕ) (log : List Event) (e : Event) → task_of e ≢ u → SameJob first u log → SameJob first u (log ++ e ∷ [])
+job_other first u log e ne same = (let is = life_of-push_other u log e ne in record { stage = ap (λ (l : Life). l.stage) is ∙ same.stage; given = ap (λ (l : Life). l.given) is ∙ same.given })
+
+job_quiet : (first : List Event) (u : ℕ) (log : List Event) (e : Event) → SaysNoJob e → SameJob first u log → SameJob first u (log ++ e ∷ [])
+job_quiet first u log e quiet same = elim (cases_eq (task_of e) u) [
+  | inl one ↦ (let is = life_of-push_same u log e one in record {
+    stage = ap (λ (l : Life). l.stage) is ∙ ap (λ (x : Option JobStage). later x (stage_at log u)) quiet.0 ∙ same.stage;
+    given = ap (λ (l : Life). l.given) is ∙ ap (λ (x : Option LastJob). later x (given_at log u)) quiet.1 ∙ same.given;
+  })
+  | inr ne ↦ job_other first u log e ne same
+]
+
+-- what a turn of task `t` writes before it gives jobs
+written_job : (roots t u : ℕ) (first log : List Event) (e : Event) → t ≢ u → IsWritten roots t log e → SameJob first u log → SameJob first u (log ++ e ∷ [])
+written_job roots t u first log (Free made by p detached) ne w same = job_quiet first u log (Free made by p detached) (refl, refl) same
+written_job roots t u first log (Child made o g p) ne w same = job_quiet first u log (Child made o g p) (refl, refl) same
+written_job roots t u first log (Open o g) ne w same = job_quiet first u log (Open o g) (refl, refl) same
+written_job roots t u first log (Skip o g) ne w same = job_quiet first u log (Skip o g) (refl, refl) same
+written_job roots t u first log (CancelTask v) ne w same = job_quiet first u log (CancelTask v) (refl, refl) same
+written_job roots t u first log (CancelGroup o g) ne w same = job_quiet first u log (CancelGroup o g) (refl, refl) same
+written_job roots t u first log (End v ending) ne w same = job_quiet first u log (End v ending) (refl, refl) same
+written_job roots t u first log (Wait v awaited) ne w same = job_other first u log (Wait v awaited) (λ is. ne (sym w ∙ is)) same
+written_job roots t u first log (Next o g) ne w same = job_other first u log (Next o g) (λ is. ne (sym w ∙ is)) same
+written_job roots t u first log (Close o g) ne w same = job_other first u log (Close o g) (λ is. ne (sym w ∙ is)) same
+written_job roots t u first log (Root v p) ne w same = absurd w
+written_job roots t u first log (Begin v n env) ne w same = absurd w
+written_job roots t u first log (Apply v n) ne w same = absurd w
+written_job roots t u first log (Give v n resume) ne w same = absurd w
+
+abbrev IsNotOf : ℕ → JobFacts → Type 0
+IsNotOf u j = j.task ≢ u
+
+gives_job : (js : List JobFacts) (first : List Event) (u : ℕ) (log : List Event) → AllByRecursion (IsNotOf u) js → SameJob first u log → SameJob first u (log ++ gives js)
+gives_job [] first u log all same = subst (SameJob first u) (sym (append-nil log)) same
+gives_job (j ∷ js) first u log all same =
+    let e : Event = Give (task j.task) j.number j.resume in
+    subst (SameJob first u) (append_assoc log (e ∷ []) (gives js)) (gives_job js first u (log ++ e ∷ []) all.1 (job_other first u log e all.0 same))
+
+with_others : (js : List JobFacts) (f : ℕ → Option JobFacts) (u : ℕ) → AllByRecursion (IsNotOf u) js → with_jobs js f u ≡ f u
+with_others [] f u all = refl
+with_others (j ∷ js) f u all =
+    with_others js (λ w. if w == j.task then Some j else f w) u all.1 ∙ ap (λ (b : Bool). if b then Some j else f u) (ne_eqb u j.task (λ is. all.0 (sym is)))
+
+-- no job of a task whose turn is under way is given
+none_of : (js : List JobFacts) (u : ℕ) (log : List Event) → is_under_way (stage_at log u) ≡ true → AllByRecursion (Resting log) js → AllByRecursion (IsNotOf u) js
+none_of [] u log under all = tt
+none_of (j ∷ js) u log under all =
+    ((λ is. false≢true (sym all.0 ∙ ap (λ (k : ℕ). is_under_way (stage_at log k)) is ∙ under)), none_of js u log under all.1)
+
+-- the job of a task, as it was
+pub record KeepsJob (s z : Standing) (u : ℕ) : Type 0 where
+  pub same : SameJob s.log u z.log
+  pub job : z.jobs u ≡ s.jobs u
+
+module _ (script : ScriptView) (s : Standing) (counted : AreCounted (root_count script) s.log s.held) where
+  -- a turn leaves the job of another task, where that is under way
+  pub turn_keeps_job : (e t n : ℕ) (effects : List EffectView) (exit : ExitView) (after : Option FrameView) (job : JobFacts) (env : Env) (frame : FrameView) → TurnStands script s e t n effects exit job env frame
+      → (u : ℕ) → t ≢ u → is_under_way (stage_at s.log u) ≡ true → KeepsJob s (turn_applied script s t n effects exit after) u
+  turn_keeps_job e t n effects exit after job env frame stands u ne under =
+      let roots : ℕ = root_count script in
+      let own : Priority = begun_priority (stage_at s.log t) in
+      let adv : Advanced = advanced script (left_as frame effects after) stands.runs.0 job.frames.outer exit in
+      let x : TurnEnd = turn_end script s.log s.held t n own effects exit adv in
+      let first : List Event = s.log ++ Apply (task t) n ∷ [] in
+      let done : List Event = log_after roots t own first effects in
+      let written : List Event = done ++ exit_events t done exit adv.step in
+      let is = current_is (life_of t s.log) n job.resume stands.current in
+      let follows = turn_follows script s.held t n own s.log effects exit adv is.0 is.1 counted in
+      let at_first : SameJob s.log u first = job_other s.log u s.log (Apply (task t) n) ne (record { stage = refl; given = refl }) in
+      let keep = λ (l : List Event) (w : Event) (is_written : IsWritten roots t l w) (same : SameJob s.log u l). written_job roots t u s.log l w ne is_written same in
+      let at_done : SameJob s.log u done = keeps_effects (SameJob s.log u) roots t own keep first effects at_first in
+      let at_written : SameJob s.log u written = keeps_exit (SameJob s.log u) roots t own keep done exit adv.step at_done in
+      let none : AllByRecursion (IsNotOf u) x.jobs = none_of x.jobs u written (ap is_under_way at_written.stage ∙ under) follows.1.resting in
+      subst (λ (z : Standing). KeepsJob s z u) (sym (applied_is script s t n job frame stands.runs.0 effects exit after stands.given stands.runs.1)) (record {
+        same = gives_job x.jobs s.log u written none at_written;
+        job = with_others x.jobs (taken t s.jobs) u none ∙ ap (λ (b : Bool). if b then None else s.jobs u) (ne_eqb u t (λ is. ne (sym is)));
+      })
+
+  -- and so does a root
+  pub root_keeps_job : (r u : ℕ) → r ≢ u → KeepsJob s (after_block script s (added r)) u
+  root_keeps_job r u ne =
+      let e : Event = Root (task r) (root_priority script r) in
+      record {
+        same = subst (SameJob s.log u) (append_assoc s.log (e ∷ []) (gives (root_job script r ∷ [])))
+            (gives_job (root_job script r ∷ []) s.log u (s.log ++ e ∷ []) (ne, tt) (job_other s.log u s.log e ne (record { stage = refl; given = refl })));
+        job = with_others (root_job script r ∷ []) s.jobs u (ne, tt);
+      }
+
+-- a begin leaves the jobs of other tasks
+pub begin_keeps_job : (s : Standing) (t n : ℕ) (env : Env) (u : ℕ) → t ≢ u → SameJob s.log u (s.log ++ Begin (task t) n env ∷ [])
+begin_keeps_job s t n env u ne = job_other s.log u s.log (Begin (task t) n env) ne (record { stage = refl; given = refl })

@@ -1,0 +1,194 @@
+-- Where a silent turn leads: only the job of its own task changes.
+use Rattle.std.proofs.Common.{◌≡◌, ◌≢◌, ℕ, ℤ, ◌+◌, List, [], ◌∷◌, ◌++◌, length, refl, sym, ◌∙◌, ap, ap₂, subst, Bool, true, false, append-nil}
+use Rattle.std.specs.Prelude.{Option, Some, None, ◌==◌, nat_lt, if◌then◌else◌}
+use Rattle.std.specs.List.{cons_option}
+use Rattle.std.proofs.lemmas.Bool.{eq-eqb, eqb-true, ne_eqb, false≢true}
+use Rattle.swift_types.specs.declared.env.Env.{Env}
+use Rattle.swift_types.specs.declared.limits.TheConstants.{FRAMES}
+use Rattle.swift_types.specs.declared.outcome.Fault.TheVariants.{Depth}
+use Rattle.swift_types.specs.declared.outcome.Resume.{Resume}
+use Rattle.swift_types.specs.declared.outcome.Resume.TheVariants.{Start, Go, Value, Fault as Raise}
+use Rattle.swift_types.specs.declared.priority.Priority.{Priority}
+use Rattle.swift_script.specs.Scripts.{ScriptView, executor_invariants}
+use Rattle.swift_interpreter.specs.Frames.{FrameView}
+use Rattle.swift_interpreter.specs.Turn.{InvocationView, EffectView, ExitView, calling, waiting, asking_next, closing, yielding, returning, failing, Played, all_hold}
+use Rattle.swift_turn.specs.Body.{TaskView, Advanced, advanced, called, invariants_at}
+use Rattle.swift_journal.specs.Records.{RecordView}
+use Rattle.swift_journal.specs.Replay.{turn_of, replay}
+use Rattle.swift_journal.specs.Checkpoints.{CheckpointView}
+use Rattle.swift_events.specs.declared.event.Event.{Event}
+use Rattle.swift_events.specs.declared.event.Event.TheVariants.{Begin, Apply, Give}
+use Rattle.swift_events.specs.declared.life.Life.{Life}
+use Rattle.swift_events.specs.declared.life.JobStage.TheVariants.{Given, Begun, Applied}
+use Rattle.swift_events.specs.Lives.{life_of}
+use Rattle.swift_events.proofs.LogLemmas.{life_of-push_same}
+use Rattle.swift_history.specs.TurnEnds.{JobFacts, WaitingTaskView, TurnEnd, task, gives, resume_at, turn_end}
+use Rattle.swift_history.specs.Histories.{Block, begun, ran, Standing, at_first, after_block, after_blocks, with_jobs, taken, begun_priority, left_as, fields_of}
+use Rattle.swift_laws.proofs.HistoriesTurns.{after_push, applied_is}
+use Rattle.swift_digest.proofs.SameStands.{fields_push}
+use Rattle.swift_reordering.specs.Blurred.{stage_at}
+use Rattle.swift_reordering.specs.SilentTurns.{IsSilentTurn}
+use Rattle.swift_reordering.specs.Silent.{goes_on_alone}
+use Rattle.swift_reordering.proofs.Sights.{waited, AreSeen}
+use Rattle.swift_reordering.proofs.Beside.{besides, seen_local}
+use Rattle.swift_reordering.proofs.SilentPlay.{SamePlay, silent_turn}
+
+-- the end of a turn that goes on alone
+
+abbrev pub job_after : ℕ → ℕ → TaskView → Resume → JobFacts
+job_after t n v resume = record { task = t; number = n + 1; resume = resume_at (n + 1) resume; frames = v }
+
+abbrev pub alone_end : List Event → List (Option WaitingTaskView) → ℕ → ℕ → TaskView → Resume → TurnEnd
+alone_end log held t n v resume = record {
+  log = (log ++ Apply (task t) n ∷ []) ++ gives (job_after t n v resume ∷ []);
+  held = held;
+  jobs = job_after t n v resume ∷ [];
+}
+
+-- what an exit that goes on alone comes to
+pub record GoesOnAlone (script : ScriptView) (p : FrameView) (callers : List FrameView) (outer : List (ℕ × ℤ)) (exit : ExitView) : Type 0 where
+  pub view : TaskView
+  pub resume : Resume
+  pub end_is : (log : List Event) (held : List (Option WaitingTaskView)) (t n : ℕ) (own : Priority) → turn_end script log held t n own [] exit (advanced script p callers outer exit) ≡ alone_end log held t n view resume
+
+plain_end : (log : List Event) (held : List (Option WaitingTaskView)) (t n : ℕ) (v : TaskView) (resume : Resume)
+    → ◌≡◌ {A = TurnEnd} (record { log = ((log ++ Apply (task t) n ∷ []) ++ []) ++ gives (job_after t n v resume ∷ []); held = held ++ []; jobs = job_after t n v resume ∷ [] }) (alone_end log held t n v resume)
+plain_end log held t n v resume = ap₂ (λ (l : List Event) (h : List (Option WaitingTaskView)). record { log = l ++ gives (job_after t n v resume ∷ []); held = h; jobs = job_after t n v resume ∷ [] })
+    (append-nil (log ++ Apply (task t) n ∷ [])) (append-nil held)
+
+called_alone : (script : ScriptView) (p : FrameView) (callers : List FrameView) (outer : List (ℕ × ℤ)) (c : InvocationView) (b : Bool) → nat_lt (length (p ∷ callers)) FRAMES ≡ b → GoesOnAlone script p callers outer (calling c)
+called_alone script p callers outer c true is = record {
+  view = (called script p callers outer c).task;
+  resume = Start;
+  end_is = λ log held t n own. rw is (plain_end log held t n _ _);
+}
+called_alone script p callers outer c false is = record {
+  view = (called script p callers outer c).task;
+  resume = Raise Depth;
+  end_is = λ log held t n own. rw is (plain_end log held t n _ _);
+}
+
+pub goes_alone : (script : ScriptView) (p : FrameView) (callers : List FrameView) (outer : List (ℕ × ℤ)) (exit : ExitView) → goes_on_alone callers exit ≡ true → GoesOnAlone script p callers outer exit
+goes_alone script p callers outer (calling c) is = called_alone script p callers outer c (nat_lt (length (p ∷ callers)) FRAMES) refl
+goes_alone script p callers outer yielding is = record { view = _; resume = _; end_is = λ log held t n own. plain_end log held t n (record { frames = p ∷ callers; outer = outer }) Go }
+goes_alone script p (q ∷ callers) outer (returning v) is = record { view = (advanced script p (q ∷ callers) outer (returning v)).task; resume = Value v; end_is = λ log held t n own. plain_end log held t n _ _ }
+goes_alone script p (q ∷ callers) outer (failing f) is = record { view = (advanced script p (q ∷ callers) outer (failing f)).task; resume = Raise f; end_is = λ log held t n own. plain_end log held t n _ _ }
+goes_alone script p [] outer (returning v) is = absurd (false≢true is)
+goes_alone script p [] outer (failing f) is = absurd (false≢true is)
+goes_alone script p callers outer (waiting x) is = absurd (false≢true is)
+goes_alone script p callers outer (asking_next g) is = absurd (false≢true is)
+goes_alone script p callers outer (closing g f) is = absurd (false≢true is)
+
+-- where one job is in place of another
+pub record AfterAlone (s z : Standing) (t n : ℕ) (env : Env) (view : TaskView) (resume : Resume) : Type 0 where
+  pub log : z.log ≡ ((s.log ++ Begin (task t) n env ∷ []) ++ Apply (task t) n ∷ []) ++ gives (job_after t n view resume ∷ [])
+  pub held : z.held ≡ s.held
+  pub jobs : z.jobs ≡ with_jobs (job_after t n view resume ∷ []) (taken t s.jobs)
+
+module _ (s z : Standing) (t n : ℕ) (env : Env) (view : TaskView) (resume : Resume) (alone : AfterAlone s z t n env view resume) where
+  abbrev one : List Event
+  one = s.log ++ Begin (task t) n env ∷ []
+
+  abbrev two : List Event
+  two = one ++ Apply (task t) n ∷ []
+
+  -- the log says nothing else
+  pub alone_seen : waited (stage_at s.log t) ≡ None → AreSeen (besides t) z.log s.log
+  alone_seen none =
+      let at_one : stage_at one t ≡ Some (Begun env) = ap (λ (l : Life). l.stage) (life_of-push_same t s.log (Begin (task t) n env) refl) in
+      let at_two : stage_at two t ≡ Some Applied = ap (λ (l : Life). l.stage) (life_of-push_same t one (Apply (task t) n) refl) in
+      subst (λ (l : List Event). AreSeen (besides t) l s.log) (sym alone.log)
+      (seen_local t two (Give (task t) (n + 1) (resume_at (n + 1) resume)) refl (ap waited at_two)
+      ∙ seen_local t one (Apply (task t) n) refl (ap waited at_one)
+      ∙ seen_local t s.log (Begin (task t) n env) refl none)
+
+  -- the life of the task
+  pub alone_life : life_of t z.log ≡ record (life_of t s.log) { given = Some (record { number = n + 1; resume = resume_at (n + 1) resume }); stage = Some Given }
+  alone_life =
+      ap (life_of t) alone.log ∙ life_of-push_same t two (Give (task t) (n + 1) (resume_at (n + 1) resume)) refl
+      ∙ ap (λ (l : Life). record l { given = Some (record { number = n + 1; resume = resume_at (n + 1) resume }); stage = Some Given })
+      (life_of-push_same t one (Apply (task t) n) refl ∙ ap (λ (l : Life). record l { stage = Some Applied }) (life_of-push_same t s.log (Begin (task t) n env) refl))
+
+  -- jobs of others
+  pub alone_jobs : (u : ℕ) → u ≢ t → z.jobs u ≡ s.jobs u
+  alone_jobs u ne = ap (λ (f : ℕ → Option JobFacts). f u) alone.jobs ∙ ap (λ (b : Bool). if b then Some (job_after t n view resume) else (if b then None else s.jobs u)) (ne_eqb u t ne)
+
+  pub alone_job : z.jobs t ≡ Some (job_after t n view resume)
+  alone_job = ap (λ (f : ℕ → Option JobFacts). f t) alone.jobs ∙ ap (λ (b : Bool). if b then Some (job_after t n view resume) else (if b then None else s.jobs t)) (eq-eqb t t refl)
+
+module _ (script : ScriptView) (cps : List CheckpointView) where
+  -- each invariant holds of the fields
+  abbrev pub InvariantsHold : List Block → ℕ → Type 0
+  InvariantsHold bs e = all_hold (executor_invariants script e) (fields_of script cps e bs) ≡ true
+
+  module _ (before : List Block) (t n : ℕ) (env : Env) (e : ℕ) (r : RecordView) (silent : IsSilentTurn script cps before t n env e r) (hold : InvariantsHold before e) where
+    abbrev s : Standing
+    s = after_blocks script (at_first script) before
+
+    abbrev mid : Standing
+    mid = after_blocks script (at_first script) (before ++ begun t n env ∷ [])
+
+    abbrev f : List (List ℤ)
+    f = fields_of script cps e (before ++ begun t n env ∷ [])
+
+    fields_mid : (k : ℕ) → fields_of script cps k (before ++ begun t n env ∷ []) ≡ fields_of script cps k before
+    fields_mid k = fields_push script cps k before (begun t n env)
+
+    hold_mid : all_hold (executor_invariants script e) f ≡ true
+    hold_mid = ap (all_hold (executor_invariants script e)) (fields_mid e) ∙ hold
+
+    hold_frame : (fields : List (List ℤ)) → all_hold (executor_invariants script e) fields ≡ true → all_hold (invariants_at script r.frame) fields ≡ true
+    hold_frame fields is = ap (λ (k : ℕ). all_hold (executor_invariants script k) fields) silent.runs.stands.on ∙ is
+
+    -- the turn on its own fields, and on others
+    pub played : (g : List (List ℤ)) (other : Env) → all_hold (executor_invariants script e) g ≡ true → r.env.room ≡ other.room
+        → SamePlay r.outer r.env other f g (turn_of script f r) (turn_of script g (record r { env = other }))
+    played g other holds room = silent_turn script r.frame r.outer f g r.resume r.env other silent.quiet room (hold_frame f hold_mid) (hold_frame g holds)
+
+    pub no_effects : r.effects ≡ []
+    no_effects = (let p = played f r.env hold_mid refl in silent.runs.lawful.effects ∙ ap (λ (k : Played). k.state.effects) p.one ∙ p.none)
+
+    same_fields : (turn_of script f r).state.fields ≡ f
+    same_fields = (let p = played f r.env hold_mid refl in ap (λ (k : Played). k.state.fields) p.one)
+
+    abbrev frame_left : FrameView
+    frame_left = left_as r.frame r.effects r.after
+
+    abbrev pub on_alone : GoesOnAlone script (left_as r.frame r.effects r.after) silent.runs.stands.runs.0 silent.runs.job.frames.outer r.exit
+    on_alone = goes_alone script (left_as r.frame r.effects r.after) silent.runs.stands.runs.0 silent.runs.job.frames.outer r.exit silent.alone
+
+    to_mid : mid ≡ after_block script s (begun t n env)
+    to_mid = after_push script (at_first script) before (begun t n env)
+
+    abbrev after : List Block
+    after = (before ++ begun t n env ∷ []) ++ ran e r ∷ []
+
+    pub silent_after : AfterAlone s (after_blocks script (at_first script) after) t n env on_alone.view on_alone.resume
+    silent_after =
+        let callers : List FrameView = silent.runs.stands.runs.0 in
+        let adv : Advanced = advanced script (left_as r.frame r.effects r.after) callers silent.runs.job.frames.outer r.exit in
+        let own : Priority = begun_priority (stage_at mid.log r.task) in
+        let end_of : ℕ → ℕ → List EffectView → TurnEnd = λ u m es. turn_end script mid.log mid.held u m own es r.exit adv in
+        let is = after_push script (at_first script) (before ++ begun t n env ∷ []) (ran e r)
+        ∙ applied_is script mid r.task r.number silent.runs.job r.frame callers r.effects r.exit r.after silent.runs.stands.given silent.runs.stands.runs.1 in
+        let end : end_of r.task r.number r.effects ≡ alone_end mid.log mid.held t n on_alone.view on_alone.resume =
+        ap₂ (λ (u m : ℕ). end_of u m r.effects) silent.own silent.number ∙ ap (end_of t n) no_effects ∙ on_alone.end_is mid.log mid.held t n own in
+        let x : TurnEnd = end_of r.task r.number r.effects in
+        let jobs : (after_blocks script (at_first script) after).jobs ≡ with_jobs (alone_end mid.log mid.held t n on_alone.view on_alone.resume).jobs (taken t mid.jobs) =
+        ap (λ (a : Standing). a.jobs) is ∙ ap₂ (λ (js : List JobFacts) (u : ℕ). with_jobs js (taken u mid.jobs)) (ap (λ (y : TurnEnd). y.jobs) end) silent.own in
+        record {
+          log = ap (λ (a : Standing). a.log) is ∙ ap (λ (y : TurnEnd). y.log) end ∙ ap (λ (a : Standing). (a.log ++ Apply (task t) n ∷ []) ++ gives (job_after t n on_alone.view on_alone.resume ∷ [])) to_mid;
+          held = ap (λ (a : Standing). a.held) is ∙ ap (λ (y : TurnEnd). y.held) end ∙ ap (λ (a : Standing). a.held) to_mid;
+          jobs = jobs ∙ ap (λ (a : Standing). with_jobs (job_after t n on_alone.view on_alone.resume ∷ []) (taken t a.jobs)) to_mid;
+        }
+
+    -- the fields stay
+    fields_if : (b : Bool) (h : List (List ℤ)) → (b ≡ true → h ≡ f) → replay script h (cons_option (if b then Some r else None) []) ≡ h
+    fields_if true h is = ap (λ (x : List (List ℤ)). (turn_of script x r).state.fields) (is refl) ∙ same_fields ∙ sym (is refl)
+    fields_if false h is = refl
+
+    pub silent_fields : (k : ℕ) → fields_of script cps k after ≡ fields_of script cps k before
+    silent_fields k =
+        fields_push script cps k (before ++ begun t n env ∷ []) (ran e r)
+        ∙ fields_if (e == k) (fields_of script cps k (before ++ begun t n env ∷ [])) (λ same. ap (λ (x : ℕ). fields_of script cps x (before ++ begun t n env ∷ [])) (sym (eqb-true e k same)))
+        ∙ fields_mid k

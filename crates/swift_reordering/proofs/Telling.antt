@@ -1,0 +1,121 @@
+-- A method whose instructions look away looks away.
+use Rattle.std.proofs.Common.{◌≡◌, ℕ, zero, suc, List, [], ◌∷◌, refl, sym, ◌∙◌, ap, Bool, true, false}
+use Rattle.std.specs.Prelude.{Option, Some, None, All, Contains, ◌&&◌, slice_get}
+use Rattle.std.proofs.lemmas.Bool.{false≢true}
+use Rattle.std.proofs.lemmas.Option.{same_Some, none-some}
+use Rattle.std.proofs.lemmas.List.Elements.{All-contains}
+use Rattle.script_code.specs.Tree.{Term, Operation, Code, followed}
+use Rattle.script_code.specs.Tree as code
+use Rattle.script_code.specs.Instructions.{does, tests, first, first_by, first_if, FollowsCode}
+use Rattle.script_code.specs.declared.instruction.Act.{Act}
+use Rattle.script_code.specs.declared.instruction.Act.TheVariants as acts
+use Rattle.script_code.specs.declared.instruction.Instruction.{Instruction}
+use Rattle.swift_reordering.proofs.Priorities.{cons_here, cons_more}
+use Rattle.swift_reordering.specs.Away.{term_looks_away, operation_looks_away, code_looks_away, action_looks_away, instruction_looks_away, InstructionsTell}
+
+-- what an instruction does looks away or not, whatever its followers stand for
+same_action : (at other : ℕ → Code) (a : Act) (next last : ℕ) → action_looks_away (first_by at a next last) ≡ action_looks_away (first_by other a next last)
+same_action at other acts.End next last = refl
+same_action at other (acts.Test e) next last = refl
+same_action at other (acts.SetVariable x e) next last = refl
+same_action at other (acts.SetField p e) next last = refl
+same_action at other (acts.Return e) next last = refl
+same_action at other (acts.Throw e) next last = refl
+same_action at other acts.Check next last = refl
+same_action at other acts.Yield next last = refl
+same_action at other (acts.Wait w) next last = refl
+same_action at other (acts.Receive place e) next last = refl
+same_action at other (acts.Spawn c p h) next last = refl
+same_action at other (acts.Detach c p h) next last = refl
+same_action at other (acts.Add g unless c p) next last = refl
+same_action at other (acts.Cancel c) next last = refl
+same_action at other (acts.Open h) next last = refl
+same_action at other acts.Close next last = refl
+same_action at other (acts.Bind l e) next last = refl
+same_action at other acts.Unbind next last = refl
+same_action at other acts.Assume next last = refl
+same_action at other acts.Isolated next last = refl
+
+-- where it does something, that goes on at a number
+goes_on_at : (at : ℕ → Code) (a : Act) (next last : ℕ) (d : Operation) (rest : Code) → does d rest ≡ first_by at a next last → (k : ℕ) × (at k ≡ rest)
+goes_on_at at acts.End next last d rest is = absurd (cc is)
+goes_on_at at (acts.Test e) next last d rest is = absurd (cc is)
+goes_on_at at a next last d rest is = (next, cc is)
+
+goes_on_if : (at : ℕ → Code) (o : Option Instruction) (d : Operation) (rest : Code) → does d rest ≡ first_if at o → (k : ℕ) × (at k ≡ rest)
+goes_on_if at None d rest is = absurd (cc is)
+goes_on_if at (Some line) d rest is = goes_on_at at line.act line.next line.other d rest is
+
+-- where it tests, it goes on at two
+tests_at : (at : ℕ → Code) (a : Act) (next last : ℕ) (t : Term) (held failed : Code) → tests t held failed ≡ first_by at a next last → ((k : ℕ) × (at k ≡ held)) × ((k : ℕ) × (at k ≡ failed))
+tests_at at (acts.Test e) next last t held failed is = ((next, cc is), (last, cc is))
+tests_at at a next last t held failed is = absurd (cc is)
+
+tests_if : (at : ℕ → Code) (o : Option Instruction) (t : Term) (held failed : Code) → tests t held failed ≡ first_if at o → ((k : ℕ) × (at k ≡ held)) × ((k : ℕ) × (at k ≡ failed))
+tests_if at None t held failed is = absurd (cc is)
+tests_if at (Some line) t held failed is = tests_at at line.act line.next line.other t held failed is
+
+contains_at : {A : Type 0} (xs : List A) (k : ℕ) (x : A) → slice_get xs k ≡ Some x → Contains xs x
+contains_at [] k x is = absurd (none-some x is)
+contains_at (y ∷ ys) zero x is = cons_here y ys x (same_Some y x is)
+contains_at (y ∷ ys) (suc k) x is = cons_more y ys x (contains_at ys k x is)
+
+all_true : (a b : Bool) → a ≡ true → b ≡ true → (a && b) ≡ true
+all_true true b one two = two
+all_true false b one two = absurd (false≢true one)
+
+module _ (instructions : List Instruction) (body : Code) (at : ℕ → Code) (follows : FollowsCode instructions body at) (all : All (λ line. instruction_looks_away line ≡ true) instructions) where
+  line_if : (o : Option Instruction) (k : ℕ) → slice_get instructions k ≡ o → action_looks_away (first_if at o) ≡ true
+  line_if None k is = refl
+  line_if (Some line) k is = same_action at (λ n. code.end) line.act line.next line.other ∙ All-contains (λ x. instruction_looks_away x ≡ true) instructions line all (contains_at instructions k line is)
+
+  line_away : (k : ℕ) → action_looks_away (first (at k)) ≡ true
+  line_away k = ap action_looks_away (follows.each k) ∙ line_if (slice_get instructions k) k refl
+
+  -- what statements begin with, and where they go on
+
+  after_act : (d : Operation) (rest : Code) (k : ℕ) → at k ≡ code.act d rest → (operation_looks_away d ≡ true) × ((n : ℕ) × (at n ≡ rest))
+  after_act d rest k is = (
+    ap (λ (c : Code). action_looks_away (first c)) (sym is) ∙ line_away k,
+    goes_on_if at (slice_get instructions k) d rest (ap first (sym is) ∙ follows.each k),
+  )
+
+  after_test : (c : Code) (t : Term) (held failed : Code) (k : ℕ) → at k ≡ c → first c ≡ tests t held failed → (term_looks_away t ≡ true) × ((n : ℕ) × (at n ≡ held)) × ((n : ℕ) × (at n ≡ failed))
+  after_test c t held failed k is begins =
+      let both = tests_if at (slice_get instructions k) t held failed (sym begins ∙ ap first (sym is) ∙ follows.each k) in
+      (ap action_looks_away (sym begins) ∙ ap (λ (x : Code). action_looks_away (first x)) (sym is) ∙ line_away k, both.0, both.1)
+
+  -- what follows statements stands somewhere
+  end_at : (c after : Code) (k : ℕ) → at k ≡ followed c after → (n : ℕ) × (at n ≡ after)
+  end_at code.end after k is = (k, is)
+  end_at (code.act d rest) after k is = (let a = after_act d (followed rest after) k is in end_at rest after a.1.0 a.1.1)
+  end_at (code.choice t x y rest) after k is =
+      let a = after_test (followed (code.choice t x y rest) after) t (followed x (followed rest after)) (followed y (followed rest after)) k is refl in
+      let b = end_at x (followed rest after) a.1.0 a.1.1 in
+      end_at rest after b.0 b.1
+  end_at (code.loop t x rest) after k is =
+      let a = after_test (followed (code.loop t x rest) after) t (followed x (followed (code.loop t x rest) after)) (followed rest after) k is refl in
+      end_at rest after a.2.0 a.2.1
+
+  part_away : (c after : Code) (k : ℕ) → at k ≡ followed c after → code_looks_away c ≡ true
+  part_away code.end after k is = refl
+  part_away (code.act d rest) after k is = (let a = after_act d (followed rest after) k is in all_true _ _ a.0 (part_away rest after a.1.0 a.1.1))
+  part_away (code.choice t x y rest) after k is =
+      let a = after_test (followed (code.choice t x y rest) after) t (followed x (followed rest after)) (followed y (followed rest after)) k is refl in
+      let b = end_at x (followed rest after) a.1.0 a.1.1 in
+      all_true _ _ a.0 (all_true _ _ (part_away x (followed rest after) a.1.0 a.1.1) (all_true _ _ (part_away y (followed rest after) a.2.0 a.2.1) (part_away rest after b.0 b.1)))
+  part_away (code.loop t x rest) after k is =
+      let a = after_test (followed (code.loop t x rest) after) t (followed x (followed (code.loop t x rest) after)) (followed rest after) k is refl in
+      all_true _ _ a.0 (all_true _ _ (part_away x (followed (code.loop t x rest) after) a.1.0 a.1.1) (part_away rest after a.2.0 a.2.1))
+
+  ends_so : (c : Code) → followed c code.end ≡ c
+  ends_so code.end = refl
+  ends_so (code.act d rest) = ap (code.act d) (ends_so rest)
+  ends_so (code.choice t x y rest) = ap (code.choice t x y) (ends_so rest)
+  ends_so (code.loop t x rest) = ap (code.loop t x) (ends_so rest)
+
+  body_away : code_looks_away body ≡ true
+  body_away = part_away body code.end 0 (follows.start ∙ sym (ends_so body))
+
+pub instructions_tell : InstructionsTell
+instructions_tell instructions body at follows all = body_away instructions body at follows all

@@ -1,0 +1,56 @@
+//! What holds of histories whose turns begin late. A call costs nothing; its contract is the law.
+
+ghost use Rattle.swift_reordering.specs.Away.{InstructionsTell};
+ghost use Rattle.swift_reordering.specs.Fused.{EachIsFused};
+ghost use Rattle.swift_reordering.specs.FusedSteps.{ClosedHasEachExit, ClosedHasEachOutcome};
+ghost use Rattle.swift_reordering.specs.SilentSearch.{ClosedSilentlyHasEachExit, ClosedSilentlyHasEachOutcome};
+ghost use Rattle.swift_reordering.specs.SilentTurns.{SilentTurnsCommute, SilentTurnsMayGoFirst};
+ghost use Rattle.swift_reordering.specs.Waiting.{BeginsMayWait};
+
+/// A report in order has another with the same endings, fields and turns, in which each turn that looks away begins right before it runs,
+/// where no executor has folded turns and room never binds (our own).
+pub fn each_report_is_fused()
+    ensures { EachIsFused }
+{}
+
+/// A list of histories that is closed under steps in which a turn that looks away begins and runs at once has the outcome of each legal
+/// report in order without folded turns, where there is room in each of them (our own).
+pub fn closed_histories_have_each_outcome()
+    ensures { ClosedHasEachOutcome }
+{}
+
+/// Each turn of such a report ends as a turn does of a step after one of them (our own).
+pub fn closed_histories_have_each_exit()
+    ensures { ClosedHasEachExit }
+{}
+
+/// The begin of a turn that looks away may wait for a block of another task (our own).
+pub fn begins_may_wait()
+    ensures { BeginsMayWait }
+{}
+
+/// A method looks away where each of its instructions does (our own).
+pub fn instructions_tell()
+    ensures { InstructionsTell }
+{}
+
+/// A turn that touches nothing but its own task, which goes on at once, may run before or after a block of another task (our own).
+pub fn silent_turns_commute()
+    ensures { SilentTurnsCommute }
+{}
+
+/// Such a turn may go before all that stands before it in a history in order, where there is room (our own).
+pub fn silent_turns_may_go_first()
+    ensures { SilentTurnsMayGoFirst }
+{}
+
+/// A list of histories from each of which either each step or one silent turn leads alike to one of them has the outcome of each legal
+/// report in order without folded turns, where room never binds and the invariants hold at the start (our own).
+pub fn silently_closed_histories_have_each_outcome()
+    ensures { ClosedSilentlyHasEachOutcome }
+{}
+
+/// Each turn of such a report ends as a turn does of a step that was tried (our own).
+pub fn silently_closed_histories_have_each_exit()
+    ensures { ClosedSilentlyHasEachExit }
+{}
