@@ -41,7 +41,7 @@ def takes(command):
 def told(text):
     """The same, as `--help` of a program or a command lists it."""
     found = {}
-    for name, value, line in re.findall(r"(?m)^ +(?:-\w, )?--(\w+)(?: <(\w+)>)? +(.*)$", text):
+    for name, value, line in re.findall(r"(?m)^ +(?:-\w, )?--([\w-]+)(?: <(\w+)>)? +(.*)$", text):
         words = re.search(r" \[possible values: (.*?)\]", line)
         shown = re.sub(r" \[(?:default|possible values): .*?\]", "", line)
         found[name] = (value, tuple(words[1].split(", ")) if words else (), shown)
