@@ -10,7 +10,8 @@ allocations the first and the last 100 are refused, and of the others each 7th, 
 word `each`, every one. Where an allocation is refused before the case is read, the program has to stop with status 1 and nothing written.
 
 The examples are those of examples/nuchapay with all of their output (crates/nuchapay/out/nuchapay). Where an allocation is refused, the
-program has to print what the example has, or to say that there is no memory, with status 2, 3 or 4 and nothing on standard output.
+program has to print what the example has, or to say that there is no memory, with status 2, 3, 4 or 5 and nothing on standard output, or
+as `check --format json` says it.
 Status 0 where no run differs.
 """
 import concurrent.futures
@@ -28,6 +29,8 @@ SECOND = "nuchapay"
 SECONDS = 60
 # What is said of a run in which nothing was written.
 UNREAD = "nothing was written"
+# The refusal of a script for which there is no memory, as `check --format json` says it.
+NO_MEMORY = b'"code":"S14"'
 # Of how many allocations each is refused; of more, so many at both ends, and one in so many between, of many one in more.
 ALL, ENDS, STEP, MANY, LONG_STEP = 300, 100, 7, 2000, 41
 
@@ -104,6 +107,11 @@ class Case:
         return refused, unread, wrong
 
 
+def is_told(done):
+    """Whether a run says that there is no memory: on standard error alone, or as the refusal of a script in JSON."""
+    return (done.stdout == b"" and b"memory" in done.stderr) or NO_MEMORY in done.stdout
+
+
 class Command(Case):
     """An example of nuchapay."""
 
@@ -118,7 +126,7 @@ class Command(Case):
         if (done.stdout, done.stderr) == self.wanted and done.returncode == self.status:
             return None
         # It may give up, and has to say why.
-        if is_refused and done.returncode in (2, 3, 4) and done.stdout == b"" and b"memory" in done.stderr:
+        if is_refused and done.returncode in (2, 3, 4, 5) and is_told(done):
             return None
         return f"status {done.returncode}, and it says {done.stderr!r}"
 

@@ -23,27 +23,44 @@ pub fn say_scheduled(
 ) -> u8 {
     match chosen_run(rt, text, schedule) {
         Ok(ChosenRun::Run(run)) => {
-            if let Ok(Some(said)) = chosen_text(rt.alloc(), &run) {
-                let _ = eprintln!(rt; "nuchapay: {said}");
-            }
             let heading = Heading {
                 name: path,
                 workers: 1,
                 source: text,
             };
-            say_form(rt, heading, &run, form)
+            match chosen_text(rt.alloc(), &run) {
+                Ok(said) => say_after(rt, heading, &run, form, said),
+                Err(fault) => tell(rt, Err(ToolFault::from(fault))),
+            }
         }
         Ok(ChosenRun::None(why)) => say_no_run(rt, schedule, why),
         Err(fault) => tell(rt, Err(fault)),
     }
 }
 
-// Says why there is no run by a schedule. The status to end with.
-fn say_no_run(rt: &HostRuntime, schedule: ScheduleChoice<'_>, why: NoRun) -> u8 {
-    if let Ok(said) = no_run_text(rt.alloc(), schedule, why) {
+// Says what was chosen of a run's schedule, where something was, and then this of the run. The status to end with.
+fn say_after(
+    rt: &HostRuntime,
+    heading: Heading<'_>,
+    run: &ScheduledRun,
+    form: RunForm<'_>,
+    chosen: Option<String>,
+) -> u8 {
+    if let Some(said) = chosen {
         let _ = eprintln!(rt; "nuchapay: {said}");
     }
-    2
+    say_form(rt, heading, run, form)
+}
+
+// Says why there is no run by a schedule. The status to end with.
+fn say_no_run(rt: &HostRuntime, schedule: ScheduleChoice<'_>, why: NoRun) -> u8 {
+    match no_run_text(rt.alloc(), schedule, why) {
+        Ok(said) => {
+            let _ = eprintln!(rt; "nuchapay: {said}");
+            2
+        }
+        Err(fault) => tell(rt, Err(ToolFault::from(fault))),
+    }
 }
 
 // Says this of a run. The status to end with.
