@@ -30,7 +30,7 @@ use swift_locals::Bindings;
 use swift_script::Script;
 use swift_types::limits::{FRAMES, STEPS};
 use swift_types::{ActorId, Ending, Env, Fault, MethodId, Resume};
-use swift_undo::{Undo, play_kept};
+use swift_undo::{InvariantRows, Undo, play_kept};
 
 /// A task: its script, its frames, the bindings that stand in it, and the turn that is under way (SE-0304). A turn is
 /// entered with the fields of the actors of its executor, polled once, and left; then `advance` says what comes next.
@@ -214,7 +214,7 @@ fn answer(
 fn play(
     alloc: Global,
     script: &Script,
-    rows: &[u32],
+    rows: &InvariantRows,
     outer: &Bindings,
     turn: &mut TurnState,
     before: &mut Frame,
@@ -461,7 +461,7 @@ impl Body {
         let played = play(
             inside.alloc,
             &inside.script,
-            &[],
+            &InvariantRows::none(inside.alloc),
             &inside.outer,
             &mut inside.turn,
             &mut inside.undo.frame,
@@ -480,7 +480,7 @@ impl Body {
     pub(crate) fn play_in_place(
         &mut self,
         cx: &mut Context<'_>,
-        rows: &[u32],
+        rows: &InvariantRows,
         fields: &mut Vec<Vec<i64>>,
         saved: &mut SavedRows,
         resume: Resume,
