@@ -15,6 +15,7 @@ use std::marker::Model;
 use swift_interpreter::{Effect, Exit, Frame, SavedRows};
 use swift_turn::{Body, play_turn_from};
 use swift_types::{Env, Resume};
+use swift_undo::InvariantRows;
 
 /// The fields of an executor's actors, a list for each: as the turn that was played last has left them, and as they were before it.
 /// Only the rows that it has set are there twice.
@@ -101,7 +102,7 @@ impl Fields {
         &mut self,
         body: &mut Body,
         cx: &mut Context<'_>,
-        rows: &[u32],
+        rows: &InvariantRows,
         resume: Resume,
         env: Env,
         before: &mut Frame,

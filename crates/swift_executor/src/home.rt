@@ -10,13 +10,13 @@ use std::marker::Model;
 use std::sync::Arc;
 use swift_script::Script;
 use swift_types::ExecId;
-use swift_undo::rows_of_invariants;
+use swift_undo::{InvariantRows, rows_of_invariants};
 
-/// An executor of a script, by its number, with the row of fields that each invariant of its actors reads.
+/// An executor of a script, by its number, with the rows of fields that the invariants of its actors read.
 pub struct Home {
     script: Arc<Script>,
     executor: ExecId,
-    rows: Vec<u32>,
+    rows: InvariantRows,
 }
 
 // By hand, so that it is not taken apart in each proof of a function that drops one.
@@ -46,7 +46,7 @@ impl Model for Home {
 
     ghost view = { λ h. record { script = arc_value h.script; executor = h.executor.0 } };
 
-    ghost invariant = { λ h. HaveRows h.rows.items (executor_invariants (arc_value h.script) h.executor.0) };
+    ghost invariant = { λ h. HaveRows h.rows (executor_invariants (arc_value h.script) h.executor.0) };
 }
 
 impl Home {
@@ -74,8 +74,8 @@ impl Home {
         self.executor
     }
 
-    /// The row that each invariant of its actors reads, in order, as `play_turn_from` of `swift_turn` takes them.
-    pub fn rows(&self) -> &[u32]
+    /// The rows that the invariants of its actors read, as `play_turn_from` of `swift_turn` takes them.
+    pub fn rows(&self) -> &InvariantRows
         ensures { HaveRows result.now (executor_invariants self.now.script self.now.executor) }
     {
         &self.rows

@@ -141,7 +141,7 @@ impl Inbox {
     /// memory, and constant time where no other thread is in the way.
     ///
     /// For a job that can run at the inbox's executor: its body is of that script and has not ended, its running frame is
-    /// of an actor of that executor, and the book of the inbox's site gave it, or none where that names none.
+    /// of an actor of that executor, and the book of the inbox's site gave it.
     pub fn put<R: Wait>(&self, rt: &R, pass: &mut Pass, job: TicketedJob) -> Result<(), TicketedJob>
         requires pass { IsPassOf self.now pass.old }
         requires job { CanRunAt self.now.site job }
@@ -152,7 +152,7 @@ impl Inbox {
         self.queue.push_as::<Puts, R>(rt, &mut pass.raw, job)
     }
 
-    /// Takes the oldest job out, which can run at the inbox's executor, with its ticket where a book gave it. Nothing where the
+    /// Takes the oldest job out, which can run at the inbox's executor, with its ticket. Nothing where the
     /// inbox was empty at some moment of the call. It takes no memory, and constant time where no other thread is in the way.
     pub fn take<R: Wait>(&self, rt: &R, taker: &mut Taker) -> Option<TicketedJob>
         requires taker { IsTakerOf self.now taker.old }

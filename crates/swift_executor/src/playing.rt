@@ -24,6 +24,7 @@ use swift_journal::{Checkpoint, Journal, Record};
 use swift_turn::Body;
 use swift_types::limits::FOLD;
 use swift_types::{Env, Resume};
+use swift_undo::InvariantRows;
 
 // A copy of these rows.
 fn copy_of(alloc: Global, from: &[Vec<i64>]) -> Result<Vec<Vec<i64>>, AllocError>
@@ -42,7 +43,7 @@ fn copy_of(alloc: Global, from: &[Vec<i64>]) -> Result<Vec<Vec<i64>>, AllocError
 fn play_body(
     body: &mut Body,
     cx: &mut Context<'_>,
-    rows: &[u32],
+    rows: &InvariantRows,
     resume: Resume,
     env: Env,
     played: &mut PlayedTurn,
@@ -71,7 +72,7 @@ fn play_body(
 pub fn play_job(
     place: &mut Option<Job<Body>>,
     cx: &mut Context<'_>,
-    rows: &[u32],
+    rows: &InvariantRows,
     env: Env,
     played: &mut PlayedTurn,
 ) -> Result<(), AllocError>

@@ -14,6 +14,7 @@ use futures::task::Context;
 use std::alloc::{AllocError, Global};
 use swift_journal::laws::invariants_stay;
 use swift_journal::{Checkpoint, Journal};
+use swift_undo::InvariantRows;
 
 // Writes the record of a turn that was played, and makes room for folding the journal where it is then full. Out of
 // memory the journal and the checkpoint are as before.
@@ -49,7 +50,7 @@ pub(crate) fn prepare(
 fn play_chosen(
     chosen: &mut Chosen,
     cx: &mut Context<'_>,
-    rows: &[u32],
+    rows: &InvariantRows,
     played: &mut PlayedTurn,
 ) -> Result<(), AllocError>
     requires job { HasJob chosen.old.job (λ j. IsRunning j.body × MaySpare rows.now played.old.fields.before j.body) }

@@ -1,6 +1,6 @@
 -- Saved rows, one more or one less.
-use Rattle.std.proofs.Common.{◌≡◌, ℕ, zero, suc, ◌+◌, ◌-◌, ◌<◌, ◌≤◌, ℤ, Bool, true, if◌then◌else◌, List, [], ◌∷◌, ◌==◌, length, take, set, get_or, refl, sym, ap, subst, ◌∙◌, add-one, inl, inr, arith}
-use Rattle.std.proofs.lemmas.List.{get_or-set_other, length-set, reverse-append, set-set, set_comm, set-get_or, take_more_set, map-set}
+use Rattle.std.proofs.Common.{◌≡◌, ℕ, zero, suc, ◌+◌, ◌-◌, ◌<◌, ◌≤◌, ℤ, Bool, true, if◌then◌else◌, List, [], ◌∷◌, ◌==◌, length, reverse, take, set, get_or, refl, sym, ap, subst, ◌∙◌, add-one, inl, inr, arith}
+use Rattle.std.proofs.lemmas.List.{get_or-map, get_or-reverse, get_or-set_other, get_or-take, length-reverse, length-set, length-take-le, reverse-append, set-set, set_comm, set-get_or, take_more_set, map-set}
 use Rattle.std.proofs.lemmas.Bool.{cases_eq, cond-false, eq-eqb, ne_eqb}
 use Rattle.std.proofs.Math.Seq.{take-suc}
 use Rattle.std.specs.Global.{Vec}
@@ -76,3 +76,15 @@ row_restored (p ∷ older) fields actor lt =
 
 pub oldest_is : (saved : List (ℕ × List ℤ)) (fields : List (List ℤ)) (actor : ℕ) (row : List ℤ) → actor < length fields → get_or fields actor [] ≡ row → oldest saved actor row ≡ get_or (restored saved fields) actor []
 oldest_is saved fields actor row lt is = ap (oldest saved actor) (sym is) ∙ row_restored saved fields actor lt
+
+-- the actor of the row in a place, the newest first
+pub actor_at : (rows : List SavedRow) (used place : ℕ) (x : SavedRow) → used ≤ length rows → place < used → x ≡ get_or rows (used - 1 - place) x → (get_or (newest_first (take used rows)) place (0, [])).0 ≡ x.actor
+actor_at rows used place x within at is =
+    let some : length (take used rows) ≡ used = length-take-le used rows within in
+    let lt : place < length (reverse (take used rows)) = subst (λ (n : ℕ). place < n) (sym (length-reverse (take used rows) ∙ some)) at in
+    let first : place < length (take used rows) = subst (λ (n : ℕ). place < n) (sym some) at in
+    ap (λ (p : ℕ × List ℤ). p.0) (get_or-map row_of (reverse (take used rows)) place x (0, []) lt)
+    ∙ ap (λ (r : SavedRow). r.actor) (get_or-reverse (take used rows) place x first
+    ∙ ap (λ (n : ℕ). get_or (take used rows) (n - 1 - place) x) some
+    ∙ get_or-take used rows (used - 1 - place) x (omega (arith, at))
+    ∙ sym is)

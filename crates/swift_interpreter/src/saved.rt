@@ -54,6 +54,22 @@ impl SavedRows {
         self.used = 0;
     }
 
+    /// How many rows are saved.
+    pub fn len(&self) -> usize
+        ensures { result ≡ length self.now }
+    {
+        self.used
+    }
+
+    /// The actor whose row stands in this place, the newest at 0.
+    #[tactic(auto, using(crate::proofs::SavedLists::actor_at))]
+    pub fn actor(&self, place: usize) -> u32
+        requires { place < length self.now }
+        ensures { result ≡ (get_or self.now place (0, [])).0 }
+    {
+        self.rows[self.used - 1 - place].actor
+    }
+
     /// Whether an actor's row is saved. Its cost is the number of rows.
     #[inline(always)]
     pub fn has(&self, actor: u32) -> bool

@@ -14,9 +14,9 @@ use Rattle.swift_history.specs.Jobs.{job_facts}
 abbrev pub ticket_view : Option ScriptView → JobFacts → BookKnown
 ticket_view script j = record { script = script; accounts = []; tickets = fresh j ∷ []; maker = None }
 
--- A ticket is that of a job, or there is none.
+-- A ticket is that of this job.
 abbrev pub IsTicketOf : JobView BodyView → List Known → Type 0
-IsTicketOf j [] = Unit {0}
+IsTicketOf j [] = ⊥
 IsTicketOf j (known ∷ []) = (script : Option ScriptView) × (known.view ≡ ticket_view script (job_facts j))
 IsTicketOf j (known ∷ l ∷ others) = ⊥
 
@@ -29,7 +29,7 @@ book_at lock (known ∷ others) = Some lock
 abbrev pub book_of : BadgeView Known → Option TableId
 book_of b = book_at b.lock b.knows
 
--- a job, and the book that gave it, by its lock; none where no book did
+-- a job, and the book that gave it, by its lock
 pub record TicketedJobView : Type 0 where
   pub job : JobView BodyView
   pub book : Option TableId

@@ -1,6 +1,6 @@
 //! Which book it is.
 
-ghost use Rattle.std.specs.Prelude.{◌≡◌, None};
+ghost use Rattle.std.specs.Prelude.{◌≡◌};
 ghost use Rattle.swift_shared_book.specs.Tickets.{book_of};
 
 use crate::lock::Badge;
@@ -35,12 +35,5 @@ impl BookName {
         BookName {
             badge: Snapshot::of(badge),
         }
-    }
-
-    /// No book.
-    pub fn none() -> BookName
-        ensures { result ≡ None }
-    {
-        BookName::of(&Badge::blank())
     }
 }

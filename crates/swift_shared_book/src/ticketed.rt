@@ -1,6 +1,6 @@
 //! A job with its ticket.
 
-ghost use Rattle.std.specs.Prelude.{◌≡◌, Option, Some, None, IsSome, [], ◌∷◌};
+ghost use Rattle.std.specs.Prelude.{◌≡◌, Option, Some, [], ◌∷◌};
 ghost use Rattle.swift_course.specs.declared.known.Known.{Known as KnownIs};
 ghost use Rattle.swift_script.specs.Scripts.{ScriptView};
 ghost use Rattle.swift_shared_book.specs.Tickets.{IsTicketOf, ticket_view};
@@ -13,8 +13,7 @@ use swift_job::Job;
 use swift_turn::Body;
 
 /// A job on its way to an executor, with its ticket: the right to run its turn, once, which the lock of a book gives with the job
-/// (our own). The ticket has no bytes, and can't be copied. By its type it is the ticket of this job. A job that no book gave has
-/// none.
+/// (our own). The ticket has no bytes, and can't be copied. By its type it is the ticket of this job.
 ///
 /// In a clause it is the job, and the book that gave it, by the book's lock. Where it is dropped, the job is spent.
 pub struct TicketedJob {
@@ -53,16 +52,6 @@ impl TicketedJob {
         TicketedJob { job, ticket }
     }
 
-    /// A job that no book gave.
-    pub fn without_book(job: Job<Body>) -> TicketedJob
-        ensures { result ≡ record { job = job; book = None } }
-    {
-        TicketedJob {
-            job,
-            ticket: Badge::blank(),
-        }
-    }
-
     /// The job.
     pub fn job(&self) -> &Job<Body>
         ensures { result.now ≡ self.now.job }
@@ -78,9 +67,8 @@ impl TicketedJob {
         job
     }
 
-    /// The job and its ticket, where a book gave it.
+    /// The job and its ticket.
     pub fn into_parts(self) -> (Job<Body>, Badge<BookImage, Known>)
-        requires { IsSome self.book }
         ensures job { result.0 ≡ self.job }
         ensures lock { self.book ≡ Some result.1.lock }
         ensures ticket { (known : KnownIs) × (script : Option ScriptView) × (result.1.knows ≡ known ∷ []) × (known.view ≡ ticket_view script (job_facts self.job)) }

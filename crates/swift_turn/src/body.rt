@@ -30,7 +30,7 @@ use swift_locals::Bindings;
 use swift_script::Script;
 use swift_types::limits::{FRAMES, STEPS};
 use swift_types::{ActorId, Ending, Env, Fault, MethodId, Resume};
-use swift_undo::{Undo, play_kept};
+use swift_undo::{InvariantRows, Undo, play_kept};
 
 /// A task: its script, its frames, the bindings that stand in it, and the turn that is under way (SE-0304). A turn is
 /// entered with the fields of the actors of its executor, polled once, and left; then `advance` says what comes next.
@@ -214,7 +214,7 @@ fn answer(
 fn play(
     alloc: Global,
     script: &Script,
-    rows: &[u32],
+    rows: &InvariantRows,
     outer: &Bindings,
     turn: &mut TurnState,
     before: &mut Frame,
@@ -309,7 +309,7 @@ impl Body {
 
     /// Leaves the turn that was polled: the fields after it, its effects in order, and how it ended. Where the poll ran
     /// out of memory, the fields are those that were entered, and the body is as it was before it was entered. For a turn that was
-    /// polled (`is_polled`).
+    /// polled and not left.
     pub fn leave(&mut self) -> Result<TurnOutcome, (Vec<Vec<i64>>, AllocError)>
         requires { IsPolled self.old.phase }
         ensures ok { IfOk result (λ r. Hands self.old.phase (rows_of r.fields.items) (effect_views r.effects.items) (exit_view r.exit)) }
@@ -337,7 +337,7 @@ impl Body {
     /// memory for a call that begins a frame alone, so it runs out of memory nowhere else, and the body is then as it
     /// was. Where a task has 64 frames, a call begins none, and the same frame gets the fault `depth`. A turn that is
     /// under way stays so: one that was entered will run the frame that is then on top, and one that was polled can still
-    /// be left. For a task that has not ended, and an exit that can be followed (`can_advance`).
+    /// be left. For a task that has not ended, and an exit whose call, if it is one, is of a method of the script.
     pub fn advance(&mut self, exit: &Exit) -> Result<Step, AllocError>
         requires running { IsRunning self.old }
         requires call { CanAdvance self.old.script (exit_view exit.now) }
@@ -381,29 +381,11 @@ impl Body {
         self.inside.running
     }
 
-    /// Whether `leave` can be called: a turn was entered and polled, and was not left.
-    pub fn is_polled(&self) -> bool
-        ensures { IsTrue result ↔ IsPolled self.now.phase }
-    {
-        matches!(self.inside.phase, Phase::Played(_) | Phase::OutOfMemory)
-    }
-
     /// Whether `put_back` can take this frame: it is of a method of the script.
     pub fn can_put_back(&self, frame: &Frame) -> bool
         ensures { IsTrue result ↔ (frame.now.method.0 < method_count self.now.script) }
     {
         (frame.method.0 as usize) < self.inside.script.method_count()
-    }
-
-    /// Whether `advance` can follow this exit: a call is of a method of the script.
-    pub fn can_advance(&self, exit: &Exit) -> bool
-        ensures { IsTrue result ↔ CanAdvance self.now.script (exit_view exit.now) }
-    {
-        match exit {
-            Exit::Call(invocation) => (invocation.method.0 as usize)
-                < self.inside.script.method_count(),
-            _ => true,
-        }
     }
 
     /// The actor of the frame that runs. For a task that has not ended (`is_running`).
@@ -479,7 +461,7 @@ impl Body {
         let played = play(
             inside.alloc,
             &inside.script,
-            &[],
+            &InvariantRows::none(inside.alloc),
             &inside.outer,
             &mut inside.turn,
             &mut inside.undo.frame,
@@ -498,7 +480,7 @@ impl Body {
     pub(crate) fn play_in_place(
         &mut self,
         cx: &mut Context<'_>,
-        rows: &[u32],
+        rows: &InvariantRows,
         fields: &mut Vec<Vec<i64>>,
         saved: &mut SavedRows,
         resume: Resume,

@@ -18,6 +18,7 @@ use futures::task::Context;
 use std::alloc::AllocError;
 use swift_interpreter::{Effect, Exit, Frame, SavedRows};
 use swift_types::{Env, Resume};
+use swift_undo::InvariantRows;
 
 /// Plays a whole turn on fields in place, in buffers of the caller's that are used again from turn to turn: `fields` become
 /// those after the turn, `before` the frame as it was, and `effects` what it did, in order; what the last two had before
@@ -29,13 +30,13 @@ use swift_types::{Env, Resume};
 /// `saved` becomes the rows that the turn has set, as they were before it, also after an error; what it had before counts for nothing.
 ///
 /// After an error the body is as it was, but that no turn is under way, the fields are as before, and the rest means nothing. Its
-/// cost is the turn's steps, the sizes of the frame's variables and own bindings, the rows of fields that it sets, and for each invariant
-/// of its executor's actors a look at these rows. It takes memory only for what the turn makes, for the rows of fields that it sets, and where a buffer
-/// is too small.
+/// cost is the turn's steps, the sizes of the frame's variables and own bindings, the rows of fields that it sets, and the invariants that it
+/// tests: it does not look at the others. It takes memory only for what the turn makes, for the rows of fields that it sets, and where a
+/// buffer is too small.
 pub fn play_turn_from(
     body: &mut Body,
     cx: &mut Context<'_>,
-    rows: &[u32],
+    rows: &InvariantRows,
     fields: &mut Vec<Vec<i64>>,
     saved: &mut SavedRows,
     resume: Resume,
@@ -73,7 +74,7 @@ pub fn play_turn_from(
 /// ended (`is_running`): the kept turn of the frame that runs. No waker is made, and one that lies in the slot of the body's source
 /// stays there. The body then stands for what that turn leaves. Out of memory, the fields come back, and the body is as it was, but that a
 /// turn which was entered before may be given up. Its cost is the turn's steps, the sizes of the frame's variables and own bindings, the
-/// fields of the actors that it sets, and a look at each invariant of its executor's actors. It takes memory for what it makes, and where
+/// fields of the actors that it sets, and the invariants of its executor's actors. It takes memory for what it makes, and where
 /// what it keeps to undo it is more than that of any turn before.
 pub fn replay_turn(
     body: &mut Body,

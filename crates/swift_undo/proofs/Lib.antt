@@ -2,3 +2,4 @@ pub mod Keeping
 pub mod KeptTurns
 pub mod Spared
 pub mod ReadRows
+pub mod AllAreTested

@@ -1,18 +1,15 @@
 -- Invariants whose rows have not changed still hold.
 use Rattle.std.proofs.Common.{◌≡◌, ℕ, zero, suc, ◌+◌, ◌<◌, ℤ, Bool, true, false, if◌then◌else◌, Option, Some, None, List, [], ◌∷◌, ◌==◌, length, drop, set, get_or, refl, sym, ap, subst, ◌∙◌, inl, inr, arith}
-use Rattle.std.specs.Prelude.{neg_ℤ, slice_get}
+use Rattle.std.specs.Prelude.{neg_ℤ}
 use Rattle.std.proofs.lemmas.Bool.{cases_eq, cond-false, ne_eqb, eq-eqb, eqb-true}
-use Rattle.std.proofs.lemmas.List.{get_or-set_other, drop_more, drop-drop}
-use Rattle.std.proofs.Math.Seq.{drop-nil}
+use Rattle.std.proofs.lemmas.List.{get_or-set_other}
 use Rattle.std.proofs.lemmas.Option.{unwrap_or-slice_get}
-use Rattle.script_code.specs.Tree.{Term, number, variable, field, local, priority, cancelled, opposite, denial, binary, term_of, terms_of}
+use Rattle.script_code.specs.Tree.{Term, number, variable, field, local, priority, cancelled, opposite, denial, binary}
 use Rattle.script_code.specs.Value.{ev, and_then, within, flag, is_zero, is_met, number_at, joined, only_fields, holds}
-use Rattle.script_code.specs.declared.formula.Formula.{Formula}
 use Rattle.swift_interpreter.specs.Saved.{restored, is_saved}
-use Rattle.swift_interpreter.specs.Turn.{all_hold}
 use Rattle.swift_undo.specs.Laws.{AllHold}
 use Rattle.swift_undo.specs.Rows.{reads_only, AreSpared, HaveRows}
-use Rattle.swift_undo.specs.RowsInside.{is_tested, other_rows, OthersHold}
+use Rattle.swift_undo.specs.RowsInside.{OthersHold}
 
 -- a row that was not saved is as before
 row_stays : (saved : List (ℕ × List ℤ)) (fields : List (List ℤ)) (row : ℕ) → is_saved saved row ≡ false → get_or (restored saved fields) row [] ≡ get_or fields row []
@@ -65,39 +62,3 @@ spared [] ts fields have all = tt
 spared (row ∷ rows) [] fields have all = tt
 spared (row ∷ rows) (t ∷ ts) fields have all =
     ((have.0, all t (0, (omega arith), refl)), spared rows ts fields have.1 (λ u is. all u (suc is.0, (omega (arith, is.1)), is.2)))
-
--- the first of the invariants that are left
-pub others_here : (xs : List Formula) (i : ℕ) (x : Formula) (rows : List ℕ) (saved : List (ℕ × List ℤ)) (fields : List (List ℤ)) → i < length xs → x ≡ get_or xs i x
-    → OthersHold (terms_of (drop i xs)) rows saved fields → OthersHold (term_of x ∷ terms_of (drop (i + 1) xs)) rows saved fields
-others_here xs i x rows saved fields within is hold =
-    subst (λ (ys : List Formula). OthersHold (terms_of ys) rows saved fields) (drop_more xs i x within ∙ ap (λ (y : Formula). y ∷ drop (i + 1) xs) (sym is)) hold
-
-other_is : (rows : List ℕ) → other_rows rows ≡ drop 1 rows
-other_is [] = refl
-other_is (row ∷ rows) = refl
-
-other_rows-drop : (rows : List ℕ) (i : ℕ) → other_rows (drop i rows) ≡ drop (i + 1) rows
-other_rows-drop rows i = other_is (drop i rows) ∙ drop-drop 1 i rows
-
--- and those after it
-pub others_after : (xs : List Formula) (i : ℕ) (x : Formula) (rows : List ℕ) (saved : List (ℕ × List ℤ)) (fields : List (List ℤ)) → i < length xs → x ≡ get_or xs i x
-    → OthersHold (terms_of (drop i xs)) (drop i rows) saved fields → OthersHold (terms_of (drop (i + 1) xs)) (drop (i + 1) rows) saved fields
-others_after xs i x rows saved fields within is hold =
-    let here = others_here xs i x (drop i rows) saved fields within is hold in
-    subst (λ (left : List ℕ). OthersHold (terms_of (drop (i + 1) xs)) left saved fields) (other_rows-drop rows i) here.1
-
--- whether all that are left hold, by the first of them
-pub all_from : (xs : List Formula) (i : ℕ) (x : Formula) (fields : List (List ℤ)) → i < length xs → x ≡ get_or xs i x
-    → all_hold (terms_of (drop i xs)) fields ≡ (if holds (Some (term_of x)) fields then all_hold (terms_of (drop (i + 1) xs)) fields else false)
-all_from xs i x fields within is = ap (λ (ys : List Formula). all_hold (terms_of ys) fields) (drop_more xs i x within ∙ ap (λ (y : Formula). y ∷ drop (i + 1) xs) (sym is))
-
--- a row that stands at a place is saved, or none stands there
-pub tested_row : (rows : List ℕ) (i row : ℕ) (saved : List (ℕ × List ℤ)) → slice_get rows i ≡ Some row → is_tested (drop i rows) saved ≡ is_saved saved row
-tested_row [] i row saved is = absurd (cc)
-tested_row (r ∷ rs) zero row saved is = ap (is_saved saved) (cc)
-tested_row (r ∷ rs) (suc i) row saved is = tested_row rs i row saved is
-
-pub tested_past : (rows : List ℕ) (i : ℕ) (saved : List (ℕ × List ℤ)) → slice_get rows i ≡ None → is_tested (drop i rows) saved ≡ true
-tested_past [] i saved is = ap (λ (left : List ℕ). is_tested left saved) (drop-nil i)
-tested_past (r ∷ rs) zero saved is = absurd (cc)
-tested_past (r ∷ rs) (suc i) saved is = tested_past rs i saved is

@@ -1,19 +1,18 @@
 //! A whole turn, and what is kept of it.
 
-ghost use Rattle.std.specs.Prelude.{◌≡◌, ℕ, true, false, drop, IfOk, OnErr, OnOk, Some};
+ghost use Rattle.std.specs.Prelude.{◌≡◌, ℕ, IfOk, OnErr, OnOk};
 ghost use Rattle.swift_interpreter.specs.Frames.{frame_view};
 ghost use Rattle.swift_interpreter.specs.Saved.{restored};
-ghost use Rattle.swift_interpreter.specs.Turn.{all_hold as all_hold_in, kept, undoes as undoes_turn};
+ghost use Rattle.swift_interpreter.specs.Turn.{kept, undoes as undoes_turn};
 ghost use Rattle.swift_interpreter.specs.TurnStates.{beginning, exit_view, given_of, played_of, state_of};
 ghost use Rattle.script_code.specs.Instructions.{FollowsCode};
 ghost use Rattle.script_code.specs.Seen.{rows_of};
-ghost use Rattle.script_code.specs.Tree.{Code, term_of, terms_of};
-ghost use Rattle.script_code.specs.Value.{holds as it_holds};
+ghost use Rattle.script_code.specs.Tree.{Code, terms_of};
 ghost use Rattle.swift_undo.specs.Rows.{AreSpared};
-ghost use Rattle.swift_undo.specs.RowsInside.{OthersHold, is_tested};
 
+use crate::rows::InvariantRows;
+use crate::tested::all_hold;
 use crate::undo::{begin_turn, leave_undone, undo_turn};
-use script_code::{Formula, holds};
 use std::alloc::{AllocError, Global};
 use swift_interpreter::{Exit, Frame, SavedRows, TurnInput, TurnState, leave_frame, play_whole};
 use swift_types::{Fault, Resume};
@@ -34,12 +33,12 @@ use swift_types::{Fault, Resume};
 ///
 /// Where memory runs out, the frame and the fields are as before.
 ///
-/// It costs the steps, a copy of the frame (two where the turn is undone), a copy of each row of fields that it changes, the
-/// invariants that it tests, and for each other one a look at the rows that were set. It takes memory only where a list grows.
+/// It costs the steps, a copy of the frame (two where the turn is undone), a copy of each row of fields that it changes, and the
+/// invariants that it tests: it does not look at the others. It takes memory only where a list grows.
 pub fn play_kept(
     alloc: Global,
     given: TurnInput<'_>,
-    rows: &[u32],
+    rows: &InvariantRows,
     turn: &mut TurnState,
     before: &mut Frame,
     saved: &mut SavedRows,
@@ -69,44 +68,6 @@ pub fn play_kept(
         return leave_undone(before, saved, turn, room, Exit::Fault(Fault::Invariant));
     }
     Ok(leave_frame(turn, exit))
-}
-
-// Whether each of the invariants holds, as each does that is not tested.
-fn all_hold(
-    alloc: Global,
-    invariants: &[Formula],
-    rows: &[u32],
-    saved: &SavedRows,
-    fields: &[Vec<i64>],
-) -> bool
-    requires { OthersHold (terms_of invariants.now) rows.now saved.now (rows_of fields.now) }
-    ensures { result ≡ all_hold_in (terms_of invariants.now) (rows_of fields.now) }
-{
-    for (place, invariant) in invariants.iter().enumerate() {
-        let tested = must_test(rows, place, saved);
-        if !still_holds(alloc, invariant, tested, fields) {
-            return false;
-        }
-    }
-    true
-}
-
-// Whether the invariant at a place is tested: its row was saved, or none stands beside it.
-fn must_test(rows: &[u32], place: usize, saved: &SavedRows) -> bool
-    ensures { result ≡ is_tested (drop place rows.now) saved.now }
-{
-    match rows.get(place) {
-        Some(row) => saved.has(*row),
-        None => true,
-    }
-}
-
-// Whether an invariant holds, as it does if it is not tested.
-fn still_holds(alloc: Global, invariant: &Formula, tested: bool, fields: &[Vec<i64>]) -> bool
-    requires { tested ≡ false → it_holds (Some (term_of invariant.now)) (rows_of fields.now) ≡ true }
-    ensures { result ≡ it_holds (Some (term_of invariant.now)) (rows_of fields.now) }
-{
-    !tested || holds(alloc, Some(invariant), fields)
 }
 
 // Whether an exit undoes its turn.

@@ -4,8 +4,9 @@
 mod kept;
 pub mod laws;
 mod rows;
+mod tested;
 mod undo;
 
 pub use kept::play_kept;
-pub use rows::rows_of_invariants;
+pub use rows::{InvariantRows, rows_of_invariants};
 pub use undo::Undo;

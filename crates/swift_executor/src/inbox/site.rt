@@ -1,14 +1,12 @@
 //! Where jobs are sent.
 
-ghost use Rattle.std.specs.Prelude.{◌≡◌, ◌↔◌, IsTrue, None};
+ghost use Rattle.std.specs.Prelude.{◌≡◌};
 ghost use Rattle.std.specs.Arc.{arc_value};
-ghost use Rattle.swift_turn.specs.Body.{IsRunning};
-ghost use Rattle.swift_executor.specs.Site.{CanRunAt};
 
 use std::marker::Model;
 use std::sync::Arc;
 use swift_script::Script;
-use swift_shared_book::{BookName, TicketedJob};
+use swift_shared_book::BookName;
 use swift_types::ExecId;
 
 /// One executor of a script: where jobs are sent (SE-0392). It also says which book gives its jobs, if any does (our own),
@@ -34,13 +32,6 @@ impl Model for ExecutorSite {
 }
 
 impl ExecutorSite {
-    /// The executor of this number, of this script, for jobs that no book gave.
-    pub fn new(script: Arc<Script>, executor: ExecId) -> ExecutorSite
-        ensures { result ≡ record { script = arc_value script; executor = executor.0; book = None } }
-    {
-        ExecutorSite::of_book(script, executor, BookName::none())
-    }
-
     /// The executor of this number, of this script, for jobs that this book gave.
     pub fn of_book(script: Arc<Script>, executor: ExecId, book: BookName) -> ExecutorSite
         ensures { result ≡ record { script = arc_value script; executor = executor.0; book = book } }
@@ -64,17 +55,5 @@ impl ExecutorSite {
         ensures { result.0 ≡ self.now.executor }
     {
         self.executor
-    }
-
-    /// Whether a job can run at this executor: the frame that runs is of one of its actors.
-    ///
-    /// For a job of this script whose task has not ended, and which this site's book gave, or none where the site has none.
-    pub fn can_run(&self, job: &TicketedJob) -> bool
-        requires script { job.now.job.body.script ≡ self.now.script }
-        requires running { IsRunning job.now.job.body }
-        requires book { job.now.book ≡ self.now.book }
-        ensures { IsTrue result ↔ CanRunAt self.now job.now }
-    {
-        self.script.actor_executor(job.job().body().actor()) == self.executor
     }
 }
