@@ -33,6 +33,7 @@ out in `out` is asked nowhere: a line that begins with `wrong: ` is in no right 
 """
 import concurrent.futures
 import functools
+import itertools
 import os
 import re
 import subprocess
@@ -59,6 +60,11 @@ def read_file(*names):
 def parsed(text):
     """The cases of a file, in order, each as its first line and the rest."""
     return [case.partition(b"\n")[::2] for case in (b"\n" + text.removesuffix(b"\n")).split(b"\n== ")[1:]]
+
+
+def answers(text):
+    """What has to be written for each case, by a file of it: a title, and the rest."""
+    return [answer.partition(b"\n")[::2] for answer in re.split(rb"(?m)^== ", text)[1:]]
 
 
 def areas():
@@ -220,11 +226,11 @@ class Programs:
         try:
             ended = Ended(words, text, env=dict(os.environ, LD_PRELOAD=self.device, **told), pass_fds=[tell])
             os.close(tell)
-            count = os.read(calls, 64)
+            count = len(os.read(calls, 65536))
         finally:
             os.close(calls)
         answer = ended.said.rstrip(b"\n") if ended.said else b"true" if ended.status == 0 else b"false"
-        return b"%s, %d bytes in %s calls\n%s\n" % (answer, len(ended.printed), count, ended.printed)
+        return b"%s, %d bytes in %d calls\n%s\n" % (answer, len(ended.printed), count, ended.printed)
 
     def write_input(self, text):
         text = expand(text)
@@ -257,27 +263,21 @@ def written(programs, case):
     return title, programs.write(kind.decode(), text)
 
 
-def text_of(title, text):
-    return b"== " + title + b"\n" + text
-
-
-def differs(area, found, wanted):
-    """Tells where what is written differs from what has to be."""
-    lines = zip(found.split(b"\n"), wanted.split(b"\n"))
-    place, (one, other) = next(((place, pair) for place, pair in enumerate(lines) if pair[0] != pair[1]), (0, (b"more lines", b"fewer")))
-    print(f"{area}: {wanted.partition(chr(10).encode())[0].decode()}: line {place}: {one.decode(errors='replace')!r} and not {other.decode(errors='replace')!r}")
+def tell(area, title, found, wanted):
+    """Tells where what is written for a case differs from what has to be."""
+    pairs = enumerate(itertools.zip_longest(found.splitlines(), wanted.splitlines(), fillvalue=b"nothing"), 1)
+    place, (one, other) = next(((place, pair) for place, pair in pairs if pair[0] != pair[1]), (1, (found[-20:], wanted[-20:])))
+    print(f"{area}: {title.decode()}: line {place}: {one.decode(errors='replace')!r} and not {other.decode(errors='replace')!r}")
 
 
 def is_right(programs, workers, area):
     """Whether what is written for an area is what has to be."""
     cases = parsed(read_file(FOLDER, area, "in"))
-    wanted = read_file(FOLDER, area, "out")
     wrong = 0
-    for (title, text), answer in zip(workers.map(functools.partial(written, programs), cases), parsed(wanted), strict=True):
-        made, right = text_of(title, text), text_of(answer[0], answer[1] + b"\n" if answer[1] or text else b"")
-        if made != right:
+    for made, wanted in zip(workers.map(functools.partial(written, programs), cases), answers(read_file(FOLDER, area, "out")), strict=True):
+        if made != wanted:
             wrong += 1
-            differs(area, made, right)
+            tell(area, made[0], made[1] if made[0] == wanted[0] else b"another title", wanted[1])
     print(f"{area}: {len(cases)} cases, {wrong} otherwise than they have to be", flush=True)
     return not wrong
 

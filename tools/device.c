@@ -1,10 +1,9 @@
 /* Loaded before a program (LD_PRELOAD), it makes a device of its standard output: of DEVICE_STEP bytes a call at most are taken, and of
-   DEVICE_ROOM bytes in all; then a write fails where DEVICE_FAILS is 1, and else takes none. At the end it writes to the descriptor
-   DEVICE_TELL how many calls there were. With DEVICE_GIVES standard input gives so many spaces, one a call, and then fails. */
+   DEVICE_ROOM bytes in all; then a write fails where DEVICE_FAILS is 1, and else takes none. For each call it writes a byte to the
+   descriptor DEVICE_TELL. With DEVICE_GIVES standard input gives so many spaces, one a call, and then fails. */
 #define _GNU_SOURCE
 #include <dlfcn.h>
 #include <errno.h>
-#include <stdio.h>
 #include <stdlib.h>
 #include <unistd.h>
 
@@ -13,7 +12,7 @@ typedef ssize_t reads(int, void *, size_t);
 
 static writes *real_write;
 static reads *real_read;
-static long step, room, fails, tell, gives, calls;
+static long step, room, fails, tell, gives;
 
 static long number_in(const char *name)
 {
@@ -32,13 +31,6 @@ __attribute__((constructor)) static void begin(void)
     gives = number_in("DEVICE_GIVES");
 }
 
-__attribute__((destructor)) static void end(void)
-{
-    if (tell >= 0) {
-        dprintf(tell, "%ld", calls);
-    }
-}
-
 static size_t least(size_t first, size_t second)
 {
     return first < second ? first : second;
@@ -49,7 +41,9 @@ ssize_t write(int to, const void *bytes, size_t count)
     if (to != STDOUT_FILENO || step < 0) {
         return real_write(to, bytes, count);
     }
-    calls += 1;
+    if (real_write(tell, "1", 1) != 1) {
+        abort();
+    }
     if (room == 0 && fails == 1) {
         errno = EPIPE;
         return -1;

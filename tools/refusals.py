@@ -13,7 +13,7 @@ and nothing written.
 Then the cases of scripts (tools/cases.py) whose first lines the file cases/refused has, of the kinds `read`, `run` and `quiet`. Where an
 allocation is refused, swiftrun or nuchapay has to write what the case has, or to say that there is no memory, in one of these words:
 
-    S14 no memory, N2 no memory, no memory for the words
+    S14 no memory, N2 no memory, no memory for the words, out of memory
 
 and nothing on standard output. So have the examples of examples/nuchapay with all of their output, with status 2, 3, 4 or 5, or as `check
 --format json` says it. Status 0 where no run differs.
@@ -37,7 +37,9 @@ UNREAD = "nothing was written"
 # The refusal of a script for which there is no memory, as `check --format json` says it.
 NO_MEMORY = b'"code":"S14"'
 # What a program says that has no memory for a script, for a run, or for its words.
-SAYS = (b"line 0: S14 no memory", b"N2 no memory", b"no memory for the words")
+SAYS = (b"%s: line 0: S14 no memory\n", b"%s: N2 no memory\n", b"%s: no memory for the words\n")
+# The same, as the kit's reader of words has it.
+NO_WORDS = b"error: out of memory\n"
 # Of how many allocations each is refused; of more, so many at both ends, and one in so many between, of many one in more.
 ALL, ENDS, STEP, MANY, LONG_STEP = 300, 100, 7, 2000, 41
 
@@ -154,7 +156,8 @@ class ScriptCase(Case):
         if done.stdout + done.stderr + status == self.wanted:
             return None
         name = os.path.basename(self.words[0]).encode()
-        if is_refused and done.returncode in (2, 3, 4) and not done.stdout and done.stderr in [name + b": " + said + b"\n" for said in SAYS]:
+        told = [NO_WORDS, *(said % name for said in SAYS)]
+        if is_refused and done.returncode in (2, 3, 4) and not done.stdout and done.stderr in told:
             return None
         return f"status {done.returncode}, and it says {done.stderr!r}"
 
@@ -167,8 +170,8 @@ def refuse_scripts(is_each, library, workers):
     """Refuses the allocations of cases of scripts. Whether no run differs."""
     known = {}
     for area in cases.areas():
-        asked, wanted = (cases.parsed(cases.read_file(cases.FOLDER, area, name)) for name in ("in", "out"))
-        known.update((first, (text, answer[1] + b"\n")) for (first, text), answer in zip(asked, wanted, strict=True))
+        asked, wanted = cases.parsed(cases.read_file(cases.FOLDER, area, "in")), cases.answers(cases.read_file(cases.FOLDER, area, "out"))
+        known.update((first, (text, answer)) for (first, text), (_title, answer) in zip(asked, wanted, strict=True))
     firsts = cases.read_file(cases.FOLDER, "refused").splitlines()
     refused, differ = 0, 0
     for first in firsts:
@@ -233,4 +236,5 @@ def main():
         sys.exit(1)
 
 
-main()
+if __name__ == "__main__":
+    main()
