@@ -9,6 +9,8 @@ mod door;
 mod jobs;
 // What executors leave.
 mod leavings;
+// What is of one book.
+mod owned;
 // What polls turns.
 mod poller;
 // The script of a case.
@@ -19,5 +21,6 @@ pub use door::Door;
 pub(crate) use door::can_run;
 pub use jobs::Jobs;
 pub use leavings::{Leavings, Left};
+pub use owned::{BookOf, OwnBooked, OwnJob};
 pub use poller::Poller;
 pub use setting::Setting;

@@ -10,28 +10,20 @@ pub(crate) mod callee;
 pub(crate) mod case;
 // What is left of executors.
 pub(crate) mod end;
-// A thread that is held.
-mod hold;
-// What is of one book.
-mod owned;
 // What the calls of a case work on.
 mod stage;
 // What calls answered.
 pub(crate) mod tell;
-// Two threads.
-mod threads;
 
 ghost use Rattle.std.specs.Prelude.{◌≡◌, Some};
 
-use crate::desks::{Booked, Setting};
+use crate::desks::{BookOf, Booked, Setting};
 use crate::executors::case::{CasePlan, plan_of, play_on};
-use crate::executors::owned::BookOf;
 use crate::executors::stage::CaseStage;
 use std::alloc::AllocGlobal;
 use std::marker::Brand;
 use std::random::RandomSource;
 use std::sync::Wait;
-use std::thread::Threads;
 use test_support::{CaseFault, Said};
 
 /// For how many bytes that a case says there is room at first.
@@ -88,15 +80,4 @@ where
     let mut stage: CaseStage<K> = CaseStage::new(alloc, setting, booked)?;
     stage.open_all(alloc, plan.workers, plan.room)?;
     play_on(rt, stage, plan.calls, out)
-}
-
-/// Has two threads make a call each on an executor, of which one is held at the moment of the title, and writes what they answered.
-pub fn held<R>(rt: &R, title: &str, out: &mut Said) -> Result<(), CaseFault>
-where
-    R: Threads + Wait + Sync + RandomSource + AllocGlobal,
-{
-    let Some(moment) = title.strip_prefix("at ") else {
-        return Err(CaseFault::Form);
-    };
-    threads::play(rt, moment, out)
 }

@@ -27,10 +27,6 @@
 //!   Desks are numbered from 0: first the one that each executor is made with, in the order of executors, and then those that were
 //!   split. Calls in braces use other desks than the call behind them. MOMENT is the name of a moment of the gate. In answers `t3.1`
 //!   is turn 1 of task 3.
-//! - `held`, with the title `at MOMENT` and no text: two threads on one executor with the job of task 0 in its inbox, a worker that
-//!   visits it, and one that sends the job of task 1. At `Pushed` and `Counted` the thread that sends is held, at each other moment
-//!   the one that visits. The call that is not held begins when the other is held. A thread looks 1,000,000 times for the other, and
-//!   else says `too long`. Then another worker visits the executor, until nothing is left.
 //! - `queue`, `inbox` and `inbox_threads`: a line for each call; what calls a part has stands at the head of its file. A line
 //!   `FIRST to LAST: CALL`, or `FIRST to LAST by STEP: CALL`, makes a call of a queue for each number, up or down, which stands in place of
 //!   `#`, and the number below it in place of `@`; of its answers one that is the same as the one before is not written again.
@@ -101,7 +97,6 @@ where
     let (alloc, text) = (rt.alloc(), case.text);
     match case.kind {
         "executors" => executors::calls(rt, text, out),
-        "held" => executors::held(rt, case.title, out),
         "queue" => play_queue(alloc, text, out),
         "inbox" => play_inbox(rt, alloc, text, out),
         "inbox_threads" => play_threads(rt, alloc, text, out),

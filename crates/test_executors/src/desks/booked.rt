@@ -5,6 +5,7 @@ ghost use Rattle.std.specs.Arc.{arc_value};
 ghost use Rattle.swift_executor.specs.Inbox.{new_pass, new_taker};
 
 use crate::desks::door::Door;
+use crate::desks::owned::BookOf;
 use std::alloc::{AllocError, Global};
 use std::marker::Model;
 use std::sync::{Arc, Wait};
@@ -87,9 +88,14 @@ impl Booked {
 
     /// The next executor of the script, made for `workers` workers and with this room, and its first desk. 0 workers are made 1, and
     /// so is a room of 0. A refusal is `Memory`, after which no executor can be opened, or `Form`, where the script has no more.
-    pub fn open(&mut self, alloc: Global, workers: u32, room: usize) -> Result<Door, CaseFault>
-        ensures door { IfOk result (λ door. door ≡ self.old) }
-        ensures same { self.new ≡ self.old }
+    pub fn open<K: BookOf>(
+        &mut self,
+        alloc: Global,
+        workers: u32,
+        room: usize,
+    ) -> Result<Door<K>, CaseFault>
+        requires { Some self.old ≡ K.lock }
+        ensures { self.new ≡ self.old }
     {
         if self.executors >= self.script.executor_count() {
             return Err(CaseFault::Form);

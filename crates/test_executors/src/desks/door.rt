@@ -1,48 +1,52 @@
 //! An executor, with a right to use it.
 
-ghost use Rattle.std.specs.Prelude.{IsTrue, ◌≡◌, Some, IfErr, IfOk, IfSome};
+ghost use Rattle.std.specs.Prelude.{IsTrue, ◌≡◌, Some, IfSome};
 ghost use Rattle.std.specs.Arc.{arc_value};
 ghost use Rattle.swift_executor.specs.Site.{CanRunAt};
 ghost use Rattle.swift_executor.specs.Exec.{IsBookOf, IsDeskOf};
 
+use crate::desks::owned::{BookOf, OwnJob};
 use crate::desks::poller::Poller;
 use std::alloc::AllocError;
-use std::marker::Model;
+use std::marker::{Model, PhantomData};
 use std::sync::{Arc, Wait};
 use swift_executor::inbox::ExecutorSite;
 use swift_executor::{Desk, Exec, ExecFault, Gate, LookOutcome, Onlooker, VisitOutcome};
 use swift_shared_book::{BookLock, TicketedJob, TicketedJobs};
 use swift_word::BeforeCount;
 
-/// An executor, with one of its desks and its book. In a clause it is the lock of its book.
-pub struct Door {
-    pub(crate) exec: Arc<Exec>,
-    pub(crate) desk: Desk,
-    pub(crate) book: Arc<BookLock>,
+/// An executor, with one of its desks and its book, which is known by the type.
+pub struct Door<K: BookOf> {
+    exec: Arc<Exec>,
+    desk: Desk,
+    book: Arc<BookLock>,
+    of: PhantomData<K>,
 }
 
-impl Drop for Door {
+impl<K: BookOf> Drop for Door<K> {
     fn drop(self) {
-        let Door { exec, desk, book } = self;
+        let Door {
+            exec,
+            desk,
+            book,
+            of: _,
+        } = self;
         drop(desk);
         drop(exec);
         drop(book);
     }
 }
 
-impl Model for Door {
+impl<K: BookOf> Model for Door<K> {
+    ghost use Rattle.std.specs.Prelude.{◌≡◌, Some};
     ghost use Rattle.std.specs.Arc.{arc_value};
-    ghost use Rattle.std.specs.Coded.{codes};
-    ghost use Rattle.atomic_table.specs.Seated.{TableId};
     ghost use Rattle.swift_executor.specs.Exec.{IsBookOf, IsDeskOf};
 
-    ghost Value = { TableId };
+    ghost Value = { Unit {0} };
 
-    ghost coded = { Prim.hlevel codes };
+    ghost view = { λ _. tt };
 
-    ghost view = { λ d. (arc_value d.book).id };
-
-    ghost invariant = { λ d. IsDeskOf (arc_value d.exec) d.desk × IsBookOf (arc_value d.exec) (arc_value d.book) };
+    ghost invariant = { λ d. IsDeskOf (arc_value d.exec) d.desk × IsBookOf (arc_value d.exec) (arc_value d.book) × (Some (arc_value d.book).id ≡ K.lock) };
 }
 
 /// Whether a job of its book can run at an executor: its body is of that script and has not ended, and its running frame is of an actor of
@@ -57,32 +61,32 @@ pub(crate) fn can_run(site: &ExecutorSite, job: &TicketedJob) -> bool
         && script.actor_executor(body.actor()) == site.executor()
 }
 
-impl Door {
+impl<K: BookOf> Door<K> {
     /// An executor, with a desk of it, and its book.
-    pub fn new(exec: Arc<Exec>, desk: Desk, book: Arc<BookLock>) -> Door
+    pub fn new(exec: Arc<Exec>, desk: Desk, book: Arc<BookLock>) -> Door<K>
         requires desk { IsDeskOf (arc_value exec) desk }
         requires book { IsBookOf (arc_value exec) (arc_value book) }
-        ensures { result ≡ (arc_value book).id }
+        requires lock { Some (arc_value book).id ≡ K.lock }
     {
-        Door { exec, desk, book }
-    }
-
-    /// The book.
-    pub fn book(&self) -> &BookLock
-        ensures { result.now.id ≡ self.now }
-    {
-        &self.book
+        Door {
+            exec,
+            desk,
+            book,
+            of: PhantomData,
+        }
     }
 
     /// Another desk of the same executor.
-    pub fn split(&mut self) -> Result<Door, AllocError>
-        ensures door { IfOk result (λ door. door ≡ self.old) }
-        ensures same { self.new ≡ self.old }
-    {
+    pub fn split(&mut self) -> Result<Door<K>, AllocError> {
         let exec = Arc::clone(&self.exec)?;
         let book = Arc::clone(&self.book)?;
         let desk = self.desk.split(&exec);
-        Ok(Door { exec, desk, book })
+        Ok(Door {
+            exec,
+            desk,
+            book,
+            of: PhantomData,
+        })
     }
 
     /// How many jobs may still be sent by it.
@@ -90,23 +94,20 @@ impl Door {
         self.desk.allowance()
     }
 
-    /// Sends a job of its book. It comes back where it can't run there, and then with no fault, or was refused.
+    /// Sends a job. It comes back where it can't run there, and then with no fault, or was refused.
     pub fn enqueue<R: Wait, G: Gate>(
         &mut self,
         rt: &R,
-        job: TicketedJob,
+        job: OwnJob<K>,
         gate: &G,
-    ) -> Result<BeforeCount, (TicketedJob, Option<ExecFault>)>
-        requires { job.book ≡ Some self.old }
-        ensures back { IfErr result (λ e. e.0 ≡ job) }
-        ensures same { self.new ≡ self.old }
-    {
+    ) -> Result<BeforeCount, (OwnJob<K>, Option<ExecFault>)> {
+        let job = job.into_job();
         if !can_run(self.exec.site(), &job) {
-            return Err((job, None));
+            return Err((OwnJob::new(job), None));
         }
         match self.exec.enqueue(rt, &mut self.desk, job, gate) {
             Ok(was) => Ok(was),
-            Err((job, fault)) => Err((job, Some(fault))),
+            Err((job, fault)) => Err((OwnJob::new(job), Some(fault))),
         }
     }
 
@@ -119,9 +120,8 @@ impl Door {
         jobs: &mut TicketedJobs,
         gate: &G,
     ) -> Result<VisitOutcome, ExecFault>
-        requires { jobs.old.book ≡ self.old }
-        ensures jobs { jobs.new.book ≡ jobs.old.book }
-        ensures same { self.new ≡ self.old }
+        requires { Some jobs.old.book ≡ K.lock }
+        ensures { jobs.new.book ≡ jobs.old.book }
     {
         let mut cx = poller.solo.begin();
         let desk = &mut self.desk;
@@ -133,20 +133,32 @@ impl Door {
     }
 
     /// Shows the executor to an onlooker.
-    pub fn look<R: Wait, L: Onlooker>(&mut self, rt: &R, onlooker: &mut L) -> LookOutcome
-        ensures { self.new ≡ self.old }
-    {
+    pub fn look<R: Wait, L: Onlooker>(&mut self, rt: &R, onlooker: &mut L) -> LookOutcome {
         self.exec.look(rt, &mut self.desk, &self.book, onlooker)
     }
 
-    // The executor and the desk, where no other desk of it is left.
-    pub(crate) fn into_exec(self) -> Option<(Exec, Desk)>
+    /// Takes the jobs out of a list, the oldest first, and puts them behind these. Where there is no memory for the place of one, it is
+    /// spent.
+    pub fn take_all(&self, mut jobs: TicketedJobs, list: &mut Vec<OwnJob<K>>)
+        requires { Some jobs.book ≡ K.lock }
+    {
+        'taking: for _ in 0..jobs.len() {
+            let Some(job) = jobs.take_first(&self.book) else {
+                return;
+            };
+            let _ = list.push(OwnJob::new(job));
+        }
+    }
+
+    /// The executor and the desk, where no other desk of it is left.
+    pub fn into_exec(self) -> Option<(Exec, Desk)>
         ensures { IfSome result (λ r. IsDeskOf r.0 r.1) }
     {
         let Door {
             exec,
             desk,
             book: _,
+            of: _,
         } = self;
         let exec = Arc::into_inner(exec)?;
         Some((exec, desk))

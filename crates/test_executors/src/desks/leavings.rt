@@ -4,6 +4,7 @@ ghost use Rattle.std.specs.Prelude.{◌≡◌, None};
 
 use crate::desks::door::Door;
 use crate::desks::jobs::Jobs;
+use crate::desks::owned::BookOf;
 use crate::desks::setting::Setting;
 use std::alloc::{AllocError, Global};
 use std::sync::Wait;
@@ -61,7 +62,7 @@ impl Leavings {
     }
 
     /// Closes an executor with the last of its desks. None where it has another, or a desk holds it.
-    pub fn close<R: Wait>(&mut self, rt: &R, door: Door) -> Option<Left> {
+    pub fn close<K: BookOf, R: Wait>(&mut self, rt: &R, door: Door<K>) -> Option<Left> {
         let (exec, desk) = door.into_exec()?;
         let Closed {
             pending,

@@ -1,7 +1,6 @@
 //! What is left of executors.
 
-use crate::desks::{Door, Leavings, Left};
-use crate::executors::owned::BookOf;
+use crate::desks::{BookOf, Door, Leavings, Left};
 use crate::executors::stage::CaseStage;
 use crate::executors::tell::tell_place;
 use std::alloc::{AllocGlobal, Global};
@@ -18,8 +17,7 @@ where
     let mut leavings = Leavings::new(rt.alloc(), doors.len())?;
     let mut number = 0u32;
     for door in doors {
-        let door = door.into_inner().into_door();
-        if close_one(rt, door, number, &mut leavings, out)? {
+        if close_one(rt, door.into_inner(), number, &mut leavings, out)? {
             number = number.saturating_add(1);
         }
     }
@@ -27,14 +25,15 @@ where
 }
 
 // Closes an executor with the last of its desks, and writes its line. Whether it was the last.
-fn close_one<R>(
+fn close_one<K, R>(
     rt: &R,
-    door: Door,
+    door: Door<K>,
     number: u32,
     leavings: &mut Leavings,
     out: &mut Said,
 ) -> Result<bool, CaseFault>
 where
+    K: BookOf,
     R: Wait + AllocGlobal,
 {
     let Some(left) = leavings.close(rt, door) else {

@@ -2,11 +2,10 @@
 
 ghost use Rattle.std.specs.Prelude.{◌≡◌, Some};
 
-use crate::desks::{Booked, Poller, Setting};
+use crate::desks::{BookOf, Booked, Door, OwnBooked, OwnJob, Poller, Setting};
 use crate::executors::call::{CaseCall, Verb};
 use crate::executors::callee::Callee;
 use crate::executors::end::close_all;
-use crate::executors::owned::{BookOf, OwnBooked, OwnDoor, OwnJob};
 use crate::executors::tell::{tell_back, tell_ending, tell_visit};
 use crate::executors::{DOORS, JOBS};
 use std::alloc::{AllocGlobal, Global};
@@ -22,7 +21,7 @@ pub struct CaseStage<K: BookOf> {
     pub(crate) setting: Setting,
     booked: Mutex<OwnBooked<K>>,
     jobs: Mutex<Vec<OwnJob<K>>>,
-    pub(crate) doors: Vec<Mutex<OwnDoor<K>>>,
+    pub(crate) doors: Vec<Mutex<Door<K>>>,
 }
 
 impl<K: BookOf> CaseStage<K> {

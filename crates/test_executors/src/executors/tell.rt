@@ -1,5 +1,6 @@
 //! What calls answered.
 
+use crate::desks::{BookOf, OwnJob};
 use std::alloc::{AllocError, Global};
 use swift_executor::{ExecFault, VisitOutcome};
 use swift_job::Job;
@@ -32,15 +33,10 @@ fn tell_turn(word: &str, task: u32, number: u32, out: &mut Said) {
     out.number(".", i64::from(number))
 }
 
-/// A job, or what has one.
-pub trait HasJob {
-    fn job(&self) -> &Job<Body>;
-}
-
 /// What came of a visit, and the jobs that it made.
-pub fn tell_visit<J: HasJob>(
+pub fn tell_visit<K: BookOf>(
     ran: Result<VisitOutcome, ExecFault>,
-    jobs: &[J],
+    jobs: &[OwnJob<K>],
     out: &mut Said,
 ) -> Result<(), CaseFault> {
     tell_ran(ran, out)?;

@@ -2,17 +2,15 @@
 
 ghost use Rattle.std.specs.Prelude.{◌≡◌, Some};
 
-use crate::desks::{Booked, Door, Poller};
-use crate::executors::tell::HasJob;
-use std::alloc::{AllocError, Global};
+use crate::desks::booked::Booked;
+use crate::desks::door::Door;
+use std::alloc::Global;
 use std::marker::{Brand, Model, PhantomData};
 use std::sync::Wait;
-use swift_executor::{ExecFault, Gate, LookOutcome, Onlooker, VisitOutcome};
 use swift_job::Job;
 use swift_shared_book::{TicketedJob, TicketedJobs};
 use swift_turn::Body;
 use swift_types::{Ending, TaskId};
-use swift_word::BeforeCount;
 use test_support::CaseFault;
 
 /// The book of a case, by a type. Proofs alone see it: of a value under a lock only its type is known, and so it is known that the
@@ -74,18 +72,17 @@ impl<K: BookOf> OwnJob<K> {
         self.job.job().number()
     }
 
-    // The job with its ticket.
-    fn into_job(self) -> TicketedJob
+    /// The job.
+    pub fn job(&self) -> &Job<Body> {
+        self.job.job()
+    }
+
+    /// The job with its ticket.
+    pub fn into_job(self) -> TicketedJob
         ensures { result.book ≡ K.lock }
     {
         let OwnJob { job, of: _ } = self;
         job
-    }
-}
-
-impl<K: BookOf> HasJob for OwnJob<K> {
-    fn job(&self) -> &Job<Body> {
-        self.job.job()
     }
 }
 
@@ -124,17 +121,8 @@ impl<K: BookOf> OwnBooked<K> {
     }
 
     /// The next executor (`Booked::open`).
-    pub fn open(
-        &mut self,
-        alloc: Global,
-        workers: u32,
-        room: usize,
-    ) -> Result<OwnDoor<K>, CaseFault> {
-        let door = self.booked.open(alloc, workers, room)?;
-        Ok(OwnDoor {
-            door,
-            of: PhantomData,
-        })
+    pub fn open(&mut self, alloc: Global, workers: u32, room: usize) -> Result<Door<K>, CaseFault> {
+        self.booked.open(alloc, workers, room)
     }
 
     /// No jobs of this book.
@@ -168,96 +156,5 @@ impl<K: BookOf> OwnBooked<K> {
     /// How a task has ended.
     pub fn ending<R: Wait>(&mut self, rt: &R, task: u32) -> Option<Ending> {
         self.booked.ending(rt, task)
-    }
-}
-
-/// A desk of an executor of this book.
-pub struct OwnDoor<K: BookOf> {
-    door: Door,
-    of: PhantomData<K>,
-}
-
-impl<K: BookOf> Drop for OwnDoor<K> {
-    fn drop(self) {
-        let OwnDoor { door, of: _ } = self;
-        drop(door);
-    }
-}
-
-impl<K: BookOf> Model for OwnDoor<K> {
-    ghost use Rattle.std.specs.Prelude.{◌≡◌, Some};
-
-    ghost Value = { Unit {0} };
-
-    ghost view = { λ _. tt };
-
-    ghost invariant = { λ d. Some d.door ≡ K.lock };
-}
-
-impl<K: BookOf> OwnDoor<K> {
-    /// Another desk of the same executor.
-    pub fn split(&mut self) -> Result<OwnDoor<K>, AllocError> {
-        let door = self.door.split()?;
-        Ok(OwnDoor {
-            door,
-            of: PhantomData,
-        })
-    }
-
-    /// How many jobs may still be sent by it.
-    pub fn allowance(&self) -> u64 {
-        self.door.allowance()
-    }
-
-    /// Sends a job (`Door::enqueue`).
-    pub fn enqueue<R: Wait, G: Gate>(
-        &mut self,
-        rt: &R,
-        job: OwnJob<K>,
-        gate: &G,
-    ) -> Result<BeforeCount, (OwnJob<K>, Option<ExecFault>)> {
-        match self.door.enqueue(rt, job.into_job(), gate) {
-            Ok(was) => Ok(was),
-            Err((job, fault)) => Err((OwnJob::new(job), fault)),
-        }
-    }
-
-    /// A visit of a worker (`Door::run`).
-    pub fn run<R: Wait, G: Gate>(
-        &mut self,
-        rt: &R,
-        worker: u32,
-        poller: &Poller,
-        jobs: &mut TicketedJobs,
-        gate: &G,
-    ) -> Result<VisitOutcome, ExecFault>
-        requires { Some jobs.old.book ≡ K.lock }
-        ensures { jobs.new.book ≡ jobs.old.book }
-    {
-        self.door.run(rt, worker, poller, jobs, gate)
-    }
-
-    /// Shows the executor to an onlooker (`Door::look`).
-    pub fn look<R: Wait, L: Onlooker>(&mut self, rt: &R, onlooker: &mut L) -> LookOutcome {
-        self.door.look(rt, onlooker)
-    }
-
-    /// Takes the jobs out of a list, the oldest first, and puts them behind these. Where there is no memory for the place of one, it is
-    /// spent.
-    pub fn take_all(&self, mut jobs: TicketedJobs, list: &mut Vec<OwnJob<K>>)
-        requires { Some jobs.book ≡ K.lock }
-    {
-        'taking: for _ in 0..jobs.len() {
-            let Some(job) = jobs.take_first(self.door.book()) else {
-                return;
-            };
-            let _ = list.push(OwnJob::new(job));
-        }
-    }
-
-    /// The desk, by itself.
-    pub fn into_door(self) -> Door {
-        let OwnDoor { door, of: _ } = self;
-        door
     }
 }
