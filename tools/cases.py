@@ -28,8 +28,8 @@ failing     what it says of an input that gives one byte and then fails
 Of a case of the kind `ends`, with the title `KIND TITLE`, more than sixteen lines are written as the first eight and the last eight, and
 between them how many are left out, how many bytes the whole has, and their sum, modulo 2^64: 31 times that of the bytes before, and the byte.
 
-The printed form of a script is proved to be the same only where two texts spell the same script, so texts of it are compared. What is left
-out in `out` is asked nowhere: a line that begins with `wrong: ` is in no right output. Status 0 where all is as it has to be.
+Two texts spell the same script exactly where their printed forms are the same, by proof, so these are compared. A line that begins with
+`wrong: ` is in no right output. Status 0 where all is as it has to be.
 """
 import concurrent.futures
 import functools

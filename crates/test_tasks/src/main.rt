@@ -1,4 +1,4 @@
-//! Texts of scripts that are changed at each of their places, roots that wait, turns of tasks, and books of tasks.
+//! Texts of scripts that are changed at each of their places, turns of tasks, and books of tasks.
 //!
 //! The kinds of cases (test_support says what one is) are:
 //!
@@ -6,7 +6,7 @@
 //!   place. For both, how often each answer is given.
 //! - `replaced`: with each of 0x20 to 0x7E in each place, how often each answer is given. What is accepted is printed, and has to be read
 //!   again.
-//! - `roots`, `book` and `task`: a line for each call. A line `FIRST to LAST: CALL`, or `FIRST to LAST by STEP: CALL`, makes a call for each
+//! - `book` and `task`: a line for each call. A line `FIRST to LAST: CALL`, or `FIRST to LAST by STEP: CALL`, makes a call for each
 //!   number, up or down, which stands in place of `#`, and the number below it in place of `@`; of its answers one that is the same as the
 //!   one before is not written again. A call is the name of a method, and its arguments. Answers are `ok`, what the call answered, or the
 //!   text of its refusal.
@@ -78,8 +78,6 @@ mod book_case;
 mod done;
 // Jobs that were given, and jobs that were not.
 mod jobs;
-// Roots that wait for others.
-mod roots;
 // The script of a case.
 mod scripts;
 // Events and jobs as text.
@@ -92,13 +90,12 @@ mod texts;
 mod turns;
 
 use crate::book_case::play_book;
-use crate::roots::RootsPart;
 use crate::turns::play_turns;
 use std::alloc::AllocGlobal;
 use std::io;
 use std::io::Write;
 use std::random::RandomSource;
-use test_support::{Case, CaseFault, Form, Said, play, texts_of};
+use test_support::{Case, CaseFault, Said, texts_of};
 
 fn main(rt: HostRuntime) -> Result<(), CaseFault> {
     make_cases(&rt, &rt)
@@ -148,7 +145,6 @@ where
         "prefixes" => texts::prefixes(alloc, text.as_bytes(), out),
         "spoiled" => texts::spoiled(alloc, text.as_bytes(), out),
         "replaced" => texts::replaced(alloc, text.as_bytes(), out),
-        "roots" => play(alloc, &mut RootsPart, Form::Plain, text, out),
         "book" => play_book(alloc, text, out),
         "task" => play_turns(rt, text, out),
         _ => Err(CaseFault::Form),

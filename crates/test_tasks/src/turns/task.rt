@@ -45,7 +45,7 @@ impl Drop for Task {
 impl Model for Task {
     ghost use Rattle.std.specs.Prelude.{IsTrue};
     ghost use Rattle.swift_turn.specs.Body.{IsPolled};
-    ghost use Rattle.test_tasks.specs.Stages.{IsEntered};
+    ghost use Rattle.test_tasks.specs.StagesInside.{IsEntered};
 
     ghost Value = { Unit {0} };
 
