@@ -1,7 +1,8 @@
 SCRIPT = examples/account.actors
 PROGRAM = crates/swiftrun/out/swiftrun
 DAILY = crates/nuchapay/out/nuchapay
-CASES = crates/test_cases/out/test_cases
+TESTS = test_parts test_tasks test_executors test_runs
+TESTERS = $(foreach test,$(TESTS),crates/$(test)/out/$(test))
 SOURCES = $(shell find crates -name out -prune -o \( -name '*.rt' -o -name '*.antt' \) -print)
 
 # Runs scripts without a proof, with a program that is kept until a source changes: make try SCRIPTS="examples/account.actors -"
@@ -21,7 +22,7 @@ crates/$(1)/out/$(1): crates.txt $$(SOURCES)
 endef
 $(eval $(call program,swiftrun))
 $(eval $(call program,nuchapay,-- --version))
-$(eval $(call program,test_cases))
+$(foreach test,$(TESTS),$(eval $(call program,$(test))))
 
 # Runs a script with the proved program. Status 0 once that is built, whatever comes of the script.
 run: $(PROGRAM)
@@ -89,9 +90,9 @@ PREFIX = /usr/local
 install: $(PROGRAM) $(DAILY)
 	@tools/install.sh "$(DESTDIR)$(PREFIX)"
 
-# Runs cases of the test program, and examples of nuchapay, once for each allocation of a sample, with that one refused: make refusals
-# EACH=each (all of them).
-refusals: $(CASES) $(DAILY)
+# Runs cases of the test programs, cases of scripts, and examples of nuchapay, once for each allocation of a sample, with that one refused:
+# make refusals EACH=each (all of them).
+refusals: $(TESTERS) $(PROGRAM) $(DAILY)
 	@tools/refusals.py $(EACH)
 
 # Whether what the documents link to is there, and each crate of a line of crates.txt is named by a file of that line's crate.
@@ -113,12 +114,12 @@ tools:
 	@tools/run_page.py && echo "the statics of run_page are what its page's files give"
 	@cd tools && python3 -B -m unittest -q try_test editors_test completions_test run_page_test
 
-# Whether the input of test_cases and what it has to write are what the cases of its areas are joined to.
-cases:
-	@tools/cases.py
+# Runs both programs on the cases of scripts, and compares what they write with what has to be written: make cases AREAS="runs limits" (all).
+cases: $(PROGRAM) $(DAILY)
+	@tools/cases.py $(PROGRAM) $(DAILY) $(AREAS)
 
 # Measures, and asserts nothing: builds both programs, and prints tables.
-bench: $(PROGRAM) $(CASES)
+bench: $(PROGRAM) $(TESTERS)
 	@python3 bench/run.py
 
 .PHONY: try run nuchapay test prove planted mutants examples limits one_core page pages marks reports swift install refusals links believe counts cases tools bench

@@ -16,7 +16,8 @@ import scripts
 
 TOP = os.path.dirname(os.path.dirname(os.path.abspath(__file__)))
 PROGRAM = "crates/swiftrun/out/swiftrun"
-CASES = "crates/test_cases/out/test_cases"
+# Which test program has the cases of each part.
+TESTERS = {"queue": "test_executors", "locals": "test_parts", "groups": "test_parts", "waits": "test_parts"}
 # What the longest script may take to be read, on a quiet core of 3 GHz, whatever it says.
 READ_SECONDS, READ_KILOBYTES = 0.006, 8192
 
@@ -247,13 +248,17 @@ def reading(times):
     table(["case", "bytes", "seconds", f"of {READ_SECONDS}", "bytes/s", "KB", f"of {READ_KILOBYTES:,}"], rows)
 
 
+def tester(part):
+    return f"crates/{TESTERS[part]}/out/{TESTERS[part]}"
+
+
 def parts(times):
-    """Calls of test_cases on values with few entries and with many."""
+    """Calls of test programs on values with few entries and with many."""
     rows = []
     for part in scripts.PARTS:
-        seconds = []
+        seconds, program = [], tester(part)
         for entries in (scripts.FEW, scripts.MANY):
-            outcomes = best(times, [CASES], scripts.path(f"{part} {entries}"))
+            outcomes = best(times, [program], scripts.path(f"{part} {entries}"))
             seconds.append(min(outcome.seconds for outcome in outcomes) / scripts.CALLS)
         rows.append([part, *(f"{s * 1e6:.2f}" for s in seconds), f"{seconds[1] / seconds[0]:.2f}"])
     table(["part", f"us/call with {scripts.FEW}", f"with {scripts.MANY}", f"time, {scripts.MANY} to {scripts.FEW}"], rows)
@@ -261,7 +266,7 @@ def parts(times):
 
 def main():
     times = int(sys.argv[1]) if len(sys.argv) > 1 else 3
-    subprocess.run(["make", "--no-print-directory", PROGRAM, CASES], cwd=TOP, check=True, stdin=subprocess.DEVNULL, stdout=sys.stderr)
+    subprocess.run(["make", "--no-print-directory", PROGRAM, *sorted(set(map(tester, TESTERS)))], cwd=TOP, check=True, stdin=subprocess.DEVNULL, stdout=sys.stderr)
     scripts.write()
     program = swift_program()
     print(f"Best of {times}, of reading the best of {2 * times + 1}. Seconds are those of a whole process of `swiftrun`, above those of one that has nothing")

@@ -469,7 +469,7 @@ def ranges(count, *calls):
     return "".join(f"1 to {count}: {call}\n" for call in calls)
 
 
-# Of each part, the lines of a case of crates/test_cases with so many entries, and how many calls it makes for each.
+# Of each part, the lines of a case of a test program with so many entries, and how many calls it makes for each.
 PARTS = {
     "queue": (lambda n: f"{n}\n" + ranges(n, "put # low", "put_back low", "take"), 3),
     "locals": (lambda n: ranges(n, "bind 3 #", "read 3", "unbind"), 3),

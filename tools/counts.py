@@ -17,7 +17,8 @@ TOP = os.path.dirname(os.path.dirname(os.path.abspath(__file__)))
 # The page that has the table, and how the table begins.
 PAGE = os.path.join("docs", "PROVED.md")
 HEAD = "| What there is | How many |\n|---|---|\n"
-TESTS = "test_cases"
+# How the names of crates of tests begin.
+TESTS = "test_"
 
 
 def crates():
@@ -56,12 +57,13 @@ def table():
     """The table, as text."""
     names = crates()
     rust = {name: lines(name, "src", ".rt", "//") for name in names}
+    tests = sum(count for name, count in rust.items() if name.startswith(TESTS))
     specs = sum(lines(name, "specs", ".antt", "--") for name in names)
     proofs = sum(lines(name, "proofs", ".antt", "--") for name in names)
     bugs = sum(1 for name in names for _ in files(name, "mutants", ".edit"))
     rows = [
         ("crates", str(len(names))),
-        ("lines of Rust with contracts", f"{rounded(sum(rust.values()), 1000)}, {rounded(rust.get(TESTS, 0), 1000)} of them the test program's"),
+        ("lines of Rust with contracts", f"{rounded(sum(rust.values()), 1000)}, {rounded(tests, 1000)} of them the test programs'"),
         ("lines of definitions", rounded(specs, 1000)),
         ("lines of proofs", rounded(proofs, 1000)),
         ("edits that plant a bug which the prover has to refuse", f"{rounded(bugs, 100)}; each run of the gate tries {in_table()}"),

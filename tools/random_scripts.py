@@ -1,5 +1,5 @@
 #!/usr/bin/env python3
-"""Writes scripts whose tasks and fields don't depend on the order of turns, as cases of test_cases.
+"""Writes scripts whose tasks and fields don't depend on the order of turns, as cases of scripts (cases/random).
 
     tools/random_scripts.py COUNT SEED
 

@@ -1,18 +1,22 @@
 #!/usr/bin/env python3
-"""Runs cases of test_cases, and examples of nuchapay, once for each of their allocations, with that one refused, and compares what they write.
+"""Runs cases and examples once for each of their allocations, with that one refused, and compares what they write.
 
     tools/refusals.py [each]
 
-The program is the one that rt has built (crates/test_cases/out/test_cases). It is given one case at a time, of those whose first lines
-the file crates/test_cases/refused has, and has to write what the file stdout has for it, with status 0: it makes each call again that
-was refused memory. The n-th run refuses the n-th allocation (tools/refuse.c, built by $CC or cc). Of a case with more than 300
-allocations the first and the last 100 are refused, and of the others each 7th, or each 41st where there are more than 2,000; with the
-word `each`, every one. Where an allocation is refused before the case is read, the program has to stop with status 1 and nothing written.
+The cases are first those of the test programs (crates/test_NAME/out/test_NAME, as rt has built them). Such a program is given one case
+at a time, of those whose first lines the file `refused` of its crate has, and has to write what the file stdout has for it, with status
+0: it makes each call again that was refused memory. The n-th run refuses the n-th allocation (tools/refuse.c, built by $CC or cc). Of a
+case with more than 300 allocations the first and the last 100 are refused, and of the others each 7th, or each 41st where there are more
+than 2,000; with the word `each`, every one. Where an allocation is refused before the case is read, the program has to stop with status 1
+and nothing written.
 
-The examples are those of examples/nuchapay with all of their output (crates/nuchapay/out/nuchapay). Where an allocation is refused, the
-program has to print what the example has, or to say that there is no memory, with status 2, 3, 4 or 5 and nothing on standard output, or
-as `check --format json` says it.
-Status 0 where no run differs.
+Then the cases of scripts (tools/cases.py) whose first lines the file cases/refused has, of the kinds `read`, `run` and `quiet`. Where an
+allocation is refused, swiftrun or nuchapay has to write what the case has, or to say that there is no memory, in one of these words:
+
+    S14 no memory, N2 no memory, no memory for the words, out of memory
+
+and nothing on standard output. So have the examples of examples/nuchapay with all of their output, with status 2, 3, 4 or 5, or as `check
+--format json` says it. Status 0 where no run differs.
 """
 import concurrent.futures
 import os
@@ -21,16 +25,21 @@ import sys
 import tempfile
 
 sys.dont_write_bytecode = True
+import cases
 import examples
 
 TOP = examples.TOP
-NAME = "test_cases"
-SECOND = "nuchapay"
+NAMES = ("test_parts", "test_tasks", "test_executors", "test_runs")
+FIRST, SECOND = "swiftrun", "nuchapay"
 SECONDS = 60
 # What is said of a run in which nothing was written.
 UNREAD = "nothing was written"
 # The refusal of a script for which there is no memory, as `check --format json` says it.
 NO_MEMORY = b'"code":"S14"'
+# What a program says that has no memory for a script, for a run, or for its words.
+SAYS = (b"%s: line 0: S14 no memory\n", b"%s: N2 no memory\n", b"%s: no memory for the words\n")
+# The same, as the kit's reader of words has it.
+NO_WORDS = b"error: out of memory\n"
 # Of how many allocations each is refused; of more, so many at both ends, and one in so many between, of many one in more.
 ALL, ENDS, STEP, MANY, LONG_STEP = 300, 100, 7, 2000, 41
 
@@ -131,9 +140,54 @@ class Command(Case):
         return f"status {done.returncode}, and it says {done.stderr!r}"
 
 
+class ScriptCase(Case):
+    """A case of a script, run by a program for people."""
+
+    def __init__(self, library, kind, text, wanted):
+        words = {b"read": [SECOND, "print"], b"run": [FIRST], b"quiet": [FIRST, "--quiet"]}[kind]
+        self.words, self.folder = [built(words[0]), *words[1:]], None
+        self.library = library
+        self.given = cases.expand(text)
+        self.wanted = wanted
+        self.has_status = kind != b"read"
+
+    def fault(self, is_refused, done):
+        status = b"status %d\n" % done.returncode if self.has_status else b""
+        if done.stdout + done.stderr + status == self.wanted:
+            return None
+        name = os.path.basename(self.words[0]).encode()
+        told = [NO_WORDS, *(said % name for said in SAYS)]
+        if is_refused and done.returncode in (2, 3, 4) and not done.stdout and done.stderr in told:
+            return None
+        return f"status {done.returncode}, and it says {done.stderr!r}"
+
+
+def built(name):
+    return os.path.join(TOP, "crates", name, "out", name)
+
+
+def refuse_scripts(is_each, library, workers):
+    """Refuses the allocations of cases of scripts. Whether no run differs."""
+    known = {}
+    for area in cases.areas():
+        asked, wanted = cases.parsed(cases.read_file(cases.FOLDER, area, "in")), cases.answers(cases.read_file(cases.FOLDER, area, "out"))
+        known.update((first, (text, answer)) for (first, text), (_title, answer) in zip(asked, wanted, strict=True))
+    firsts = cases.read_file(cases.FOLDER, "refused").splitlines()
+    refused, differ = 0, 0
+    for first in firsts:
+        if first not in known:
+            sys.exit(f"cases has no case {first.decode()}")
+        counts = ScriptCase(library, first.partition(b" ")[0], *known[first]).refuse_in_turn(is_each, workers)
+        refused, differ = refused + counts[0], differ + len(counts[2])
+        for fault in counts[2][:5]:
+            print(f"{first.decode()}: {fault}")
+    print(f"{len(firsts)} cases of scripts, {refused} allocations refused in turn; {differ} runs differ")
+    return not differ
+
+
 def refuse_commands(is_each, library, workers):
     """Refuses the allocations of the examples of nuchapay. Whether no run differs."""
-    program = os.path.join(TOP, "crates", SECOND, "out", SECOND)
+    program = built(SECOND)
     count, refused, differ = 0, 0, 0
     for name in filter(examples.is_second, examples.names()):
         if examples.content(name, ".has") is not None or examples.content(name, ".to") is not None:
@@ -146,9 +200,9 @@ def refuse_commands(is_each, library, workers):
     return not differ
 
 
-def refuse_all(is_each, library, workers):
-    """Refuses the allocations of the cases. Whether no run differs."""
-    folder = os.path.join(TOP, "crates", NAME)
+def refuse_all(name, is_each, library, workers):
+    """Refuses the allocations of the cases of a test program. Whether no run differs."""
+    folder = os.path.join(TOP, "crates", name)
     with open(os.path.join(folder, "refused"), encoding="utf8") as file:
         firsts = [line for line in file.read().split("\n") if line]
     asked, wanted = cases_of(os.path.join(folder, "stdin")), cases_of(os.path.join(folder, "stdout"))
@@ -157,15 +211,15 @@ def refuse_all(is_each, library, workers):
     for line in firsts:
         first = line.removeprefix("each ")
         if first not in known:
-            sys.exit(f"{NAME} has no case {first}")
-        counts = Case(os.path.join(folder, "out", NAME), library, *known[first]).refuse_in_turn(is_each or line != first, workers)
+            sys.exit(f"{name} has no case {first}")
+        counts = Case(built(name), library, *known[first]).refuse_in_turn(is_each or line != first, workers)
         refused, unread, differ = refused + counts[0], unread + counts[1], differ + len(counts[2])
         if counts[0] <= counts[1]:
             differ += 1
             print(f"{first}: no allocation was refused once it was read")
         for fault in counts[2][:5]:
             print(f"{first}: {fault}")
-    print(f"{len(firsts)} cases, {refused} allocations refused in turn, {unread} of them before a case was read; {differ} runs differ")
+    print(f"{len(firsts)} cases of {name}, {refused} allocations refused in turn, {unread} of them before a case was read; {differ} runs differ")
     return not differ
 
 
@@ -173,14 +227,14 @@ def main():
     if sys.argv[1:] not in ([], ["each"]):
         sys.exit(__doc__)
     with tempfile.TemporaryDirectory() as folder:
-        library = os.path.join(folder, "refuse.so")
-        source = os.path.join(TOP, "tools", "refuse.c")
-        subprocess.run([os.environ.get("CC", "cc"), "-O2", "-Wall", "-Wextra", "-shared", "-fPIC", "-o", library, source], check=True)
+        library = cases.built(folder, "refuse")
         with concurrent.futures.ThreadPoolExecutor(os.cpu_count()) as workers:
-            is_well = refuse_all(len(sys.argv) > 1, library, workers)
-            is_well = refuse_commands(len(sys.argv) > 1, library, workers) and is_well
-    if not is_well:
+            is_each = len(sys.argv) > 1
+            are_well = [refuse_all(name, is_each, library, workers) for name in NAMES]
+            are_well += [refuse_scripts(is_each, library, workers), refuse_commands(is_each, library, workers)]
+    if not all(are_well):
         sys.exit(1)
 
 
-main()
+if __name__ == "__main__":
+    main()

@@ -16,6 +16,7 @@ import unittest
 sys.dont_write_bytecode = True
 sys.path.insert(0, os.path.dirname(os.path.abspath(__file__)))
 import believe
+import cases
 import counts
 import examples
 import marks
@@ -225,6 +226,59 @@ class Examples(Folder):
         self.assertEqual(self.faults("echo a", {}), ["other output"])
         self.assertEqual(self.faults("echo b >&2", {".err": "a\n"}), ["says 'b\\n'"])
         self.assertEqual(self.faults("echo a", {".has": "a\nb\n"}), ["lacks 'b'"])
+
+
+class Cases(Folder):
+    def programs(self, swiftrun="exit 0\n", nuchapay="cat\n"):
+        return cases.Programs(script(self.folder, "swiftrun", swiftrun), script(self.folder, "nuchapay", nuchapay), None)
+
+    def test_texts(self):
+        self.assertEqual(cases.expand(rb"a\x0A\3(b\#,\x2E\)c"), b"a\nb0,.b1,.b2,.c")
+        self.assertEqual(cases.rows_of(b"(\\$)\n1\n\n2"), [b"(1)", b"()", b"(2)"])
+        self.assertEqual(cases.parsed(b"No case.\n== read A\nx\n\n== run B\n"), [(b"read A", b"x\n"), (b"run B", b"")])
+
+    def test_ends(self):
+        short = b"".join(b"%d\n" % n for n in range(16))
+        self.assertEqual(cases.ends(short), short)
+        told = cases.ends(short + b"x\n").splitlines()
+        self.assertEqual((len(told), told[7], told[9]), (17, b"7", b"9"))
+        self.assertTrue(told[8].startswith(b".. 1 lines more, 40 bytes in all, sum "))
+
+    def test_what_is_read(self):
+        self.assertEqual(self.programs().write("read", b"a\n"), b"a\n")
+        self.assertIn(b"wrong: this is not read again", self.programs(nuchapay="cat\necho b\n").write("read", b"a\n"))
+        refused = self.programs(nuchapay="echo 'nuchapay: line 1: S2 unexpected token' >&2\nexit 3\n")
+        self.assertEqual(refused.write("read", b"a\n"), b"line 1: S2 unexpected token\n")
+        self.assertIn(b"wrong", self.programs(nuchapay="exit 4\n").write("read", b"a\n"))
+        self.assertEqual(self.programs().write("rows", b"<\\$>\n1\n2"), b"<1><2>")
+
+    def test_what_is_the_same(self):
+        programs = self.programs(nuchapay="tr -d ' '\n")
+        self.assertEqual(programs.write("same", b"a b\n--\nab"), b"same\n")
+        self.assertEqual(programs.write("same", b"a b\n--\nac"), b"other\n")
+        self.assertEqual(programs.write("distinct", b"\\$\na\nb"), b"2 rows are distinct\n")
+        self.assertIn(b"wrong: row 0 and row 2\n", programs.write("distinct", b"\\$\na\nb\n a"))
+
+    def test_what_is_run(self):
+        programs = self.programs(swiftrun="echo $#\necho 'swiftrun: why' >&2\nexit 1\n")
+        self.assertEqual(programs.write("run", b""), b"0\nswiftrun: why\nstatus 1\n")
+        self.assertEqual(programs.write("quiet", b""), b"1\nswiftrun: why\nstatus 1\n")
+        self.assertEqual(programs.write("agree", b"").count(b"false"), 3)
+        self.assertEqual(self.programs(swiftrun="echo 1\n").write("agree", b"").count(b"true"), 3)
+
+    def test_an_area(self):
+        cases.FOLDER = self.folder
+        write(self.folder, {"area/in": "== read A\na\n== read Nothing\n", "area/out": "== A\na== Nothing\n"})
+        for out, is_right in ("== A\na\n== Nothing\n", True), ("== A\nb\n== Nothing\n", False), ("== B\na\n== Nothing\n", False):
+            write(self.folder, {"area/out": out})
+            with contextlib.redirect_stdout(io.StringIO()):
+                self.assertEqual(cases.is_right(self.programs(nuchapay="awk 1\n"), Alone(), "area"), is_right)
+
+
+class Alone:
+    """Makes calls one after another."""
+
+    map = staticmethod(map)
 
 
 class Marks(unittest.TestCase):

@@ -1,5 +1,0 @@
-use Rattle.std.proofs.Common.{◌≡◌, Some}
-use Rattle.test_cases.proofs.executors.owned.OwnDoor.take_all.Given as goal
-
-abbrev pub invariant-taking : goal.invariant-taking
-invariant-taking g l = Some l.jobs.book ≡ g.K.BookOf.lock

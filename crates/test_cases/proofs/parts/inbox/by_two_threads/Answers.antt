@@ -1,6 +1,0 @@
-use denote.Param.Send.{sendable}
-use Rattle.swift_executor.proofs.InboxCrossesThreads.{inbox_sync, pass_send, taker_send}
-use Rattle.test_cases.proofs.parts.inbox.by_two_threads.Goals as goal
-
-pub join-requires-send-F : goal.join-requires-send-F
-join-requires-send-F g c κs within = search (sendable, inbox_sync, pass_send, taker_send) depth 20

@@ -1,5 +1,0 @@
-use Rattle.swift_executor.specs.Inbox.{IsTakerOf}
-use Rattle.test_cases.proofs.parts.inbox.take_all.Given as goal
-
-abbrev pub invariant-loop : goal.invariant-loop
-invariant-loop g l = IsTakerOf l.inbox l.taker
