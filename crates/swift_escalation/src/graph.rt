@@ -1,6 +1,6 @@
 //! Tasks by place, with their levels and the edges between them.
 
-ghost use Rattle.std.specs.Prelude.{◌≡◌, ℕ, ◌+◌, ◌-◌, ◌≤◌, ◌<◌, ◌⊎◌, ◌↔◌, [], ◌∷◌, ◌++◌, max, OnOk, OnErr, IsTrue, All, length, vec_len, vec_capacity, slice_index_or};
+ghost use Rattle.std.specs.Prelude.{◌≡◌, ℕ, ◌+◌, ◌-◌, ◌≤◌, ◌<◌, ◌⊎◌, ◌↔◌, [], ◌∷◌, ◌++◌, max, IfOk, OnOk, OnErr, IsTrue, All, length, vec_len, vec_capacity, slice_index_or};
 ghost use Rattle.swift_types.specs.Priority.{rank};
 ghost use Rattle.swift_escalation.specs.LevelsInside.{level_of, higher, below, edge_at, AreChained, Raising, IsSettled, IsSettledBut, Settling};
 
@@ -164,6 +164,21 @@ impl Graph {
             raised: Vec::new(alloc),
             room: 0,
         }
+    }
+
+    /// The same tasks and edges again, with room for no call.
+    pub(crate) fn copy(&self, alloc: Global) -> Result<Graph, AllocError>
+        ensures { IfOk result (λ copy. copy ≡ record self.now { room = 0 }) }
+    {
+        let room = 0;
+        Ok(Graph {
+            levels: Vec::from_slice(alloc, &self.levels)?,
+            newest: Vec::from_slice(alloc, &self.newest)?,
+            edges: Vec::from_slice(alloc, &self.edges)?,
+            before: Vec::from_slice(alloc, &self.before)?,
+            raised: Vec::with_capacity(alloc, self.levels.len())?,
+            room,
+        })
     }
 
     /// How many more calls of `add`, `add_under` and `join` find room.

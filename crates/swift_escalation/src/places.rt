@@ -1,6 +1,6 @@
 //! The places of tasks, by the tasks' numbers.
 
-ghost use Rattle.std.specs.Prelude.{◌≡◌, ℕ, ◌+◌, Some, OnOk, nat_eq, if◌then◌else◌};
+ghost use Rattle.std.specs.Prelude.{◌≡◌, ℕ, ◌+◌, Some, IfOk, OnOk, nat_eq, if◌then◌else◌};
 ghost use Rattle.swift_escalation.specs.PlacesInside.{place_in, HasRoom};
 
 use std::alloc::{AllocError, Global};
@@ -26,6 +26,16 @@ impl TaskPlaces {
             listed: Vec::new(alloc),
             mapped: HashMap::new(alloc),
         }
+    }
+
+    /// The same places again, with room for no call.
+    pub(crate) fn copy(&self, alloc: Global) -> Result<TaskPlaces, AllocError>
+        ensures { IfOk result (λ copy. (n : ℕ) → place_in copy n ≡ place_in self.now n) }
+    {
+        Ok(TaskPlaces {
+            listed: Vec::from_slice(alloc, &self.listed)?,
+            mapped: self.mapped.clone()?,
+        })
     }
 
     /// The place of the task with this number.

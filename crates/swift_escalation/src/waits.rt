@@ -1,6 +1,6 @@
 //! Who waits for whom, and what priority each task has by it (SE-0304).
 
-ghost use Rattle.std.specs.Prelude.{◌≡◌, ◌≢◌, ◌+◌, ◌-◌, ◌<◌, ◌≤◌, ◌↔◌, [], ◌∷◌, ◌++◌, max, OnOk, OnErr, Ok, Err, IsSome, IfSome, IfNone};
+ghost use Rattle.std.specs.Prelude.{◌≡◌, ◌≢◌, ◌+◌, ◌-◌, ◌<◌, ◌≤◌, ◌↔◌, [], ◌∷◌, ◌++◌, max, IfOk, OnOk, OnErr, Ok, Err, IsSome, IfSome, IfNone};
 
 use crate::graph::Graph;
 use crate::places::TaskPlaces;
@@ -112,6 +112,17 @@ impl Waits {
             places: TaskPlaces::new(alloc),
             graph: Graph::new(alloc),
         }
+    }
+
+    /// The same events again, with room for no call beside them (our own). Linear in the tasks and the events: a copy of memory.
+    pub fn copy(&self, alloc: Global) -> Result<Waits, AllocError>
+        ensures { IfOk result (λ copy. copy ≡ record self.now { reserved = 0 }) }
+    {
+        Ok(Waits {
+            events: Vec::from_slice(alloc, &self.events)?,
+            places: self.places.copy(alloc)?,
+            graph: self.graph.copy(alloc)?,
+        })
     }
 
     /// Makes room, so that the next `calls` calls of `add_root`, `add_child`, `add_free` and `wait` find memory. It

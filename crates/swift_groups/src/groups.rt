@@ -9,8 +9,8 @@ use crate::group::{
     mark_in, open_group,
 };
 use crate::queue::enqueue;
-use crate::room::{make_room_for_children, make_room_for_endings};
-use std::alloc::Global;
+use crate::room::{copy_marks, make_room_for_children, make_room_for_endings};
+use std::alloc::{AllocError, Global};
 use std::collections::HashMap;
 use std::marker::Model;
 use swift_types::{Ending, TaskId};
@@ -83,6 +83,25 @@ impl Groups {
             after: Vec::new(alloc),
             room: 0,
         }
+    }
+
+    /// The same groups again, with room for no call of `open` and `add` beside them (our own). Linear in the groups and their children: a
+    /// copy of memory, and the hashes of the children.
+    pub fn copy(&self, alloc: Global) -> Result<Groups, AllocError>
+        ensures { IfOk result (λ copy. copy ≡ record self.now { reserved = 0 }) }
+    {
+        let room = 0;
+        let mut endings = Vec::from_slice(alloc, &self.endings)?;
+        let mut after = Vec::from_slice(alloc, &self.after)?;
+        make_room_for_endings(self.children.len(), &mut endings, &mut after)?;
+        Ok(Groups {
+            groups: Vec::from_slice(alloc, &self.groups)?,
+            children: Vec::from_slice(alloc, &self.children)?,
+            marks: copy_marks(&self.marks)?,
+            endings,
+            after,
+            room,
+        })
     }
 
     /// Makes room, so that the next `calls` calls of `open` and `add` together find memory. G4 is its only refusal.

@@ -1,6 +1,6 @@
 //! Room for calls that are to find memory. What is kept stays as it was.
 
-ghost use Rattle.std.specs.Prelude.{◌≡◌, ℕ, ◌+◌, ◌-◌, ◌≤◌, vec_len, vec_capacity, OnOk, ◌&&◌, nat_eq, ◌==◌};
+ghost use Rattle.std.specs.Prelude.{◌≡◌, ℕ, ◌+◌, ◌-◌, ◌≤◌, vec_len, vec_capacity, IfOk, OnOk, ◌&&◌, nat_eq, ◌==◌};
 ghost use Rattle.std.specs.HashMap.{get, spare};
 ghost use Rattle.swift_groups.specs.KeysInside.{same_key};
 
@@ -25,6 +25,15 @@ pub(crate) fn make_room_for_children(
 {
     children.reserve(calls)?;
     marks.reserve(calls)
+}
+
+/// The same marks again.
+pub(crate) fn copy_marks(
+    marks: &HashMap<(usize, TaskId), bool>,
+) -> Result<HashMap<(usize, TaskId), bool>, AllocError>
+    ensures { IfOk result (λ copy. (i : ℕ) (t : TaskId) → get same_key copy (i, t) ≡ get same_key marks.now (i, t)) }
+{
+    marks.clone()
 }
 
 /// Makes room for this many endings in all, or refuses.

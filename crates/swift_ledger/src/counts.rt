@@ -1,6 +1,6 @@
 //! A count for each task, by the task's number.
 
-ghost use Rattle.std.specs.Prelude.{◌≡◌, ℕ, ◌<◌, ◌==◌, OnOk, if◌then◌else◌};
+ghost use Rattle.std.specs.Prelude.{◌≡◌, ℕ, ◌<◌, ◌==◌, IfOk, OnOk, if◌then◌else◌};
 ghost use Rattle.swift_types.specs.declared.limits.TheConstants.{TASKS};
 ghost use Rattle.swift_ledger.specs.CountsInside.{count_at, HasPlaces};
 
@@ -23,6 +23,15 @@ impl TaskCounts {
         TaskCounts {
             counts: Vec::new(alloc),
         }
+    }
+
+    /// The same counts again.
+    pub(crate) fn copy(&self, alloc: Global) -> Result<TaskCounts, AllocError>
+        ensures { IfOk result (λ copy. (t : ℕ) → count_at copy t ≡ count_at self.now t) }
+    {
+        Ok(TaskCounts {
+            counts: Vec::from_slice(alloc, &self.counts)?,
+        })
     }
 
     /// The count of a task.

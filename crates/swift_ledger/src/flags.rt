@@ -71,6 +71,15 @@ fn names_group(event: Event, owner: TaskId, group: u32) -> bool
 }
 
 impl Flags {
+    /// The same marks again.
+    pub(crate) fn copy(&self, alloc: Global) -> Result<Flags, AllocError>
+        ensures { IfOk result (λ copy. (roots : ℕ) (log : List Event) → AreFlags self.now roots log → AreFlags copy roots log) }
+    {
+        Ok(Flags {
+            flags: Vec::from_slice(alloc, &self.flags)?,
+        })
+    }
+
     /// Those of an empty log, for a script with `roots` roots.
     pub(crate) fn new(alloc: Global, roots: usize) -> Result<Flags, AllocError>
         requires { roots ≤ TASKS }

@@ -1,7 +1,9 @@
 //! All groups of a log, each found by its owner and its number.
 
-ghost use Rattle.std.specs.Prelude.{◌≡◌, ℕ, ◌+◌, ◌<◌, ◌≤◌, [], ◌∷◌, ◌++◌, List, OnOk, IsTrue, Some, None, length, slice_set, slice_get};
+ghost use Rattle.std.specs.Prelude.{◌≡◌, ℕ, ◌+◌, ◌<◌, ◌≤◌, [], ◌∷◌, ◌++◌, List, IfOk, OnOk, IsTrue, Some, None, length, slice_set, slice_get};
+ghost use Rattle.std.specs.HashMap.{get};
 ghost use Rattle.swift_types.specs.declared.limits.TheConstants.{TASKS};
+ghost use Rattle.swift_types.specs.declared.id.TaskId.{TaskId};
 ghost use Rattle.swift_types.specs.declared.priority.Priority.{Priority as Level};
 ghost use Rattle.swift_groups.specs.Groups.{GroupView};
 ghost use Rattle.swift_groups.specs.Next.{next_of};
@@ -10,7 +12,7 @@ ghost use Rattle.swift_events.specs.declared.event.Event.{Event as Noted};
 ghost use Rattle.swift_events.specs.Events.{events_of};
 ghost use Rattle.swift_events.specs.Lives.{life_of};
 ghost use Rattle.swift_events.specs.Relations.{opened_by, is_open_group, is_named_group, children_of, group_of, parent_of};
-ghost use Rattle.swift_ledger.specs.GroupIndexesInside.{AreGroupsOf, FitsGroups, IsParentIn, CanEnd, has_any, place_in, ended_with};
+ghost use Rattle.swift_ledger.specs.GroupIndexesInside.{same_number, AreGroupsOf, FitsGroups, IsParentIn, CanEnd, has_any, place_in, ended_with};
 
 use crate::counts::TaskCounts;
 use std::alloc::{AllocError, Global};
@@ -65,6 +67,19 @@ impl GroupIndex {
             held: Vec::new(alloc),
             spare: 0,
         }
+    }
+
+    /// The same groups again, with room for no event.
+    pub(crate) fn copy(&self, alloc: Global) -> Result<GroupIndex, AllocError>
+        ensures { IfOk result (λ copy. (log : List Noted) → AreGroupsOf self.now log → AreGroupsOf copy log) }
+    {
+        Ok(GroupIndex {
+            groups: self.groups.copy(alloc)?,
+            places: copy_places(&self.places)?,
+            counts: self.counts.copy(alloc)?,
+            held: Vec::from_slice(alloc, &self.held)?,
+            spare: 0,
+        })
     }
 
     /// Makes room, so that the next `events` calls of `note` find memory. Out of memory the groups are as they were.
@@ -319,6 +334,15 @@ impl GroupIndex {
             ..held
         };
     }
+}
+
+/// The same places again.
+fn copy_places(
+    places: &HashMap<(TaskId, u32), usize>,
+) -> Result<HashMap<(TaskId, u32), usize>, AllocError>
+    ensures { IfOk result (λ copy. (o : TaskId) (g : ℕ) → get same_number copy (o, g) ≡ get same_number places.now (o, g)) }
+{
+    places.clone()
 }
 
 /// Records that a child ended in a group. A closed group is closed anew, since this may have been its last child; in

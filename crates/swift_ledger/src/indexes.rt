@@ -67,6 +67,20 @@ impl Indexes {
         })
     }
 
+    /// The same again, with room for no call of `note`.
+    pub(crate) fn copy(&self, alloc: Global) -> Result<Indexes, AllocError>
+        ensures { IfOk result (λ copy. (roots : ℕ) (log : List Event) → AreIndexes self.now roots log → AreIndexes copy roots log) }
+    {
+        Ok(Indexes {
+            lives: self.lives.copy(alloc)?,
+            flags: self.flags.copy(alloc)?,
+            own: self.own.copy(alloc)?,
+            waiters: self.waiters.copy(alloc)?,
+            waits: self.waits.copy(alloc)?,
+            groups: self.groups.copy(alloc)?,
+        })
+    }
+
     /// Makes room for this many calls of `note`. Nothing else changes, also where there is no memory.
     pub(crate) fn reserve(&mut self, calls: usize) -> Result<(), AllocError>
         ensures same { (roots : ℕ) (log : List Event) → AreIndexes self.old roots log → AreIndexes self.new roots log }

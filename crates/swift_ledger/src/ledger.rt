@@ -80,6 +80,19 @@ impl Ledger {
         })
     }
 
+    /// The same log and indexes again, with room for no event beside them (our own). Linear in the events and the tasks: copies of memory,
+    /// and the hashes of groups, children and waits.
+    pub fn copy(&self, alloc: Global) -> Result<Ledger, AllocError>
+        ensures { IfOk result (λ copy. copy ≡ record self.now { spare = 0 }) }
+    {
+        Ok(Ledger {
+            roots: self.roots,
+            log: self.log.copy(alloc)?,
+            indexes: self.indexes.copy(alloc)?,
+            levels: self.levels.copy(alloc)?,
+        })
+    }
+
     /// All events so far, the oldest first.
     pub fn log(&self) -> &EventLog
         ensures { result.now.events ≡ self.now.log }

@@ -39,6 +39,17 @@ impl Levels {
         })
     }
 
+    /// The same levels, to be filled anew, with room for each task that a run may have.
+    pub(crate) fn copy(&self, alloc: Global) -> Result<Levels, AllocError>
+        ensures { IfOk result (λ copy. (log : List Event) → KeepsLevels self.now log → KeepsLevels copy log) }
+    {
+        Ok(Levels {
+            levels: Vec::with_capacity(alloc, TASKS)?,
+            changed: self.changed,
+            stale: true,
+        })
+    }
+
     /// Follows the log by one event, which the waits do not have yet.
     pub(crate) fn note(&mut self, waits: &Waits, roots: usize, log: &EventLog, event: Event)
         requires kept { KeepsLevels self.old log.now.events }

@@ -1,6 +1,6 @@
 //! Lists of tasks, one for each task.
 
-ghost use Rattle.std.specs.Prelude.{◌≡◌, ℕ, ◌+◌, ◌^◌, ◌<◌, List, [], length, slice_get, OnOk};
+ghost use Rattle.std.specs.Prelude.{◌≡◌, ℕ, ◌+◌, ◌^◌, ◌<◌, List, [], length, slice_get, IfOk, OnOk};
 ghost use Rattle.swift_types.specs.declared.id.TaskId.{TaskId};
 ghost use Rattle.swift_types.specs.declared.limits.TheConstants.{TASKS};
 ghost use Rattle.swift_ledger.specs.CountsInside.{count_at};
@@ -29,6 +29,16 @@ impl TaskLists {
             counts: TaskCounts::new(alloc),
             tasks: HashMap::new(alloc),
         }
+    }
+
+    /// The same lists again.
+    pub(crate) fn copy(&self, alloc: Global) -> Result<TaskLists, AllocError>
+        ensures { IfOk result (λ copy. (lists : ℕ → List TaskId) → AreLists self.now lists → AreLists copy lists) }
+    {
+        Ok(TaskLists {
+            counts: self.counts.copy(alloc)?,
+            tasks: self.tasks.clone()?,
+        })
     }
 
     /// How many tasks there are in a task's list.

@@ -45,6 +45,17 @@ impl Lives {
         })
     }
 
+    /// The same again.
+    pub(crate) fn copy(&self, alloc: Global) -> Result<Lives, AllocError>
+        ensures { IfOk result (λ copy. (roots : ℕ) (log : List Event) → AreLives self.now roots log → AreLives copy roots log) }
+    {
+        Ok(Lives {
+            lives: Vec::from_slice(alloc, &self.lives)?,
+            open_tasks: self.open_tasks,
+            reserved: self.reserved,
+        })
+    }
+
     /// What is known of each task, by its number.
     pub(crate) fn lives(&self) -> &[Life]
         ensures { (roots : ℕ) (log : List Event) → AreLives self.now roots log → result.now ≡ lives_of (tasks_of roots log) log }

@@ -1,6 +1,6 @@
 //! Logs.
 
-ghost use Rattle.std.specs.Prelude.{◌≡◌, ◌+◌, ◌<◌, ◌^◌, [], ◌∷◌, ◌++◌, max, length, OnOk, OnErr, slice_index_or, vec_len, vec_capacity};
+ghost use Rattle.std.specs.Prelude.{◌≡◌, ◌+◌, ◌<◌, ◌^◌, [], ◌∷◌, ◌++◌, max, length, IfOk, OnOk, OnErr, slice_index_or, vec_len, vec_capacity};
 ghost use Rattle.swift_events.specs.declared.event.Event.{Event};
 ghost use Rattle.swift_log.specs.EntriesInside.{numbers_of};
 
@@ -57,6 +57,17 @@ impl EventLog {
             numbers: Vec::new(alloc),
             room: 0,
         }
+    }
+
+    /// The same events again, with room for none beside them (our own). Linear in the events: a copy of memory.
+    pub fn copy(&self, alloc: Global) -> Result<EventLog, AllocError>
+        ensures { IfOk result (λ copy. copy ≡ record { events = self.now.events; room = 0 }) }
+    {
+        Ok(EventLog {
+            numbers: Vec::from_slice(alloc, &self.numbers)?,
+            entries: Vec::from_slice(alloc, &self.entries)?,
+            room: 0,
+        })
     }
 
     /// How many events there are.

@@ -7,6 +7,7 @@ pub mod FinishedTurn
 pub mod Fitting
 pub mod GoesOn
 pub mod Grows
+pub mod HeldCopies
 pub mod HeldJobs
 pub mod HeldTaken
 pub mod JobsGiven

@@ -21,6 +21,11 @@ abbrev pub FitsScript : ScriptView → Option WaitingTask → Type 0
 FitsScript script None = Unit {0}
 FitsScript script (Some h) = (h.body.script ≡ script) × IsRunning h.body × (h.body.phase ≡ idle)
 
+-- a copy of what is held
+pub record IsSameHeld (a b : Option WaitingTask) : Type 0 where
+  pub view : held_view b ≡ held_view a
+  pub fits : (script : ScriptView) → FitsScript script a → FitsScript script b
+
 pub record BookInvariant (script : ScriptView) (roots : ℕ) (log : List Event) (held : List (Option WaitingTask)) : Type 0 where
   pub roots_are : roots ≡ root_count script
   pub holds : HoldsWaiting roots log held

@@ -2,6 +2,7 @@
 
 ghost use Rattle.std.specs.Prelude.{◌≡◌, ◌≢◌, ℕ, ◌+◌, ◌<◌, ◌≤◌, ◌^◌, [], ◌∷◌, ◌++◌, None, Some, true, IfOk, IfErr, IfNone, IfSome, IsTrue, replicate};
 ghost use Rattle.std.specs.Arc.{arc_value};
+ghost use Rattle.std.specs.List.{AllZip};
 ghost use Rattle.swift_script.specs.Scripts.{root_count};
 ghost use Rattle.swift_events.specs.declared.life.JobStage.TheVariants.{Begun};
 ghost use Rattle.swift_events.specs.Events.{tasks_of};
@@ -9,11 +10,12 @@ ghost use Rattle.swift_events.specs.Lives.{life_of};
 ghost use Rattle.swift_events.specs.Relations.{is_closed, opened_by};
 ghost use Rattle.swift_events.specs.Room.{open_of};
 ghost use Rattle.swift_types.specs.declared.env.Env.{Env};
+ghost use Rattle.swift_tasks.specs.BookInvariant.{IsSameHeld};
 ghost use Rattle.swift_tasks.specs.Books.{HoldsWaiting, empty_book};
 
 use crate::fault::BookFault;
 use crate::held::WaitingTask;
-use std::alloc::Global;
+use std::alloc::{AllocError, Global};
 use std::marker::Model;
 use std::sync::Arc;
 use swift_events::{JobStage, Origin};
@@ -72,6 +74,24 @@ impl Book {
         let spare = Vec::with_capacity(alloc, roots)?;
         Ok(Book {
             alloc,
+            script,
+            ledger,
+            held,
+            spare,
+        })
+    }
+
+    /// The same tasks again, whose jobs are copies of those that the caller has (our own). Linear in the events and the tasks: copies of
+    /// memory, those of the bodies that wait here among them. Out of memory nothing is left of the copy.
+    pub fn copy(&self) -> Result<Book, AllocError>
+        ensures { IfOk result (λ copy. copy ≡ self.now) }
+    {
+        let script = Arc::clone(&self.script)?;
+        let ledger = self.ledger.copy(self.alloc)?;
+        let held = all_held(self.alloc, &self.held)?;
+        let spare = Vec::with_capacity(self.alloc, held.len())?;
+        Ok(Book {
+            alloc: self.alloc,
             script,
             ledger,
             held,
@@ -160,4 +180,31 @@ fn none_held(alloc: Global, tasks: usize) -> Result<Vec<Option<WaitingTask>>, Bo
         held.push_reserved(None);
     }
     Ok(held)
+}
+
+// The same tasks that wait again.
+fn all_held(
+    alloc: Global,
+    held: &[Option<WaitingTask>],
+) -> Result<Vec<Option<WaitingTask>>, AllocError>
+    ensures { IfOk result (λ copy. AllZip IsSameHeld held.now copy.items) }
+{
+    let mut copy = Vec::with_capacity(alloc, held.len())?;
+    for waiting in held {
+        copy.push(held_again(waiting)?)?;
+    }
+    Ok(copy)
+}
+
+// The same task that waits again, where one does.
+fn held_again(waiting: &Option<WaitingTask>) -> Result<Option<WaitingTask>, AllocError>
+    ensures { IfOk result (IsSameHeld waiting.now) }
+{
+    match waiting {
+        None => Ok(None),
+        Some(waiting) => Ok(Some(WaitingTask {
+            number: waiting.number,
+            body: waiting.body.copy()?,
+        })),
+    }
 }

@@ -284,6 +284,38 @@ impl Body {
         }
     }
 
+    /// The same task again, which has no turn under way and waits at a source of its own (our own). It takes memory for its frames and
+    /// bindings, and time by their sizes.
+    pub fn copy(&self) -> Result<Body, AllocError>
+        ensures script { IfOk result (λ copy. copy.script ≡ self.now.script) }
+        ensures task { IfOk result (λ copy. copy.task ≡ self.now.task) }
+        ensures phase { IfOk result (λ copy. copy.phase ≡ idle) }
+    {
+        let from = &*self.inside;
+        let alloc = from.alloc;
+        let inside = Inside {
+            alloc,
+            script: Arc::clone(&from.script)?,
+            turn: TurnState {
+                frame: copy_of(alloc, &from.turn.frame)?,
+                fields: Vec::new(alloc),
+                effects: Vec::new(alloc),
+                room: 0,
+            },
+            running: from.running,
+            callers: from.callers.copy(alloc)?,
+            outer: from.outer.copy()?,
+            phase: Phase::Idle,
+            undo: Undo::new(alloc),
+            source: Source::new(),
+            waker: None,
+        };
+        match Box::new(alloc, inside) {
+            Ok(inside) => Ok(Body { inside }),
+            Err(_) => Err(AllocError),
+        }
+    }
+
     /// Enters a turn of the frame that runs, on the fields of the actors of its executor, a list for each in text order.
     /// A turn that was entered before and not left is given up, with its fields and effects. Room for undoing the turn is
     /// made here, so it may run out of memory: then it hands the fields back and leaves the body as it was. For a task that has not

@@ -1,10 +1,11 @@
 //! The frames below the one that runs.
 
-ghost use Rattle.std.specs.Prelude.{◌≡◌, ◌↔◌, ◌∷◌, [], IsTrue, OnOk, IfErr, length};
+ghost use Rattle.std.specs.Prelude.{◌≡◌, ◌↔◌, ◌∷◌, [], IsTrue, IfOk, OnOk, IfErr, length};
 ghost use Rattle.swift_interpreter.specs.Frames.{frame_view, frame_if};
 ghost use Rattle.swift_turn.specs.StackInside.{first_of, rest_of};
 
-use std::alloc::{AllocFailed, Global};
+use crate::opening::copy_of;
+use std::alloc::{AllocError, AllocFailed, Global};
 use std::marker::Model;
 use swift_interpreter::Frame;
 
@@ -30,6 +31,17 @@ impl Stack {
         Stack {
             items: Vec::new(alloc),
         }
+    }
+
+    /// The same frames again.
+    pub fn copy(&self, alloc: Global) -> Result<Stack, AllocError>
+        ensures { IfOk result (λ copy. copy ≡ self.now) }
+    {
+        let mut items = Vec::with_capacity(alloc, self.items.len())?;
+        for frame in &self.items {
+            items.push(copy_of(alloc, frame)?)?;
+        }
+        Ok(Stack { items })
     }
 
     pub fn len(&self) -> usize

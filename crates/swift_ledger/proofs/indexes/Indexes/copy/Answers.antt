@@ -1,0 +1,14 @@
+use Rattle.std.proofs.Common.{◌∙◌, ap}
+use Rattle.swift_escalation.specs.Waits.{WaitsView}
+use Rattle.swift_events.specs.Relations.{own_tasks, waiters_of}
+use Rattle.swift_ledger.proofs.indexes.Indexes.copy.Goals as goal
+
+pub returns : goal.returns
+returns c = λ roots log a. record {
+  lives = c.in_ok-copy.ensures roots log a.lives;
+  flags = c.in_ok-copy-2.ensures roots log a.flags;
+  own = c.in_ok-copy-3.ensures (λ t. own_tasks t log) a.own;
+  waiters = c.in_ok-copy-4.ensures (λ t. waiters_of t log) a.waiters;
+  links = ap (λ (w : WaitsView). w.events) c.in_ok-copy-5.ensures ∙ a.links;
+  groups = c.in_ok-copy-6.ensures log a.groups;
+}

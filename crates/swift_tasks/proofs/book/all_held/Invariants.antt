@@ -1,0 +1,7 @@
+use Rattle.std.proofs.Common.{take}
+use Rattle.std.specs.List.{AllZip}
+use Rattle.swift_tasks.specs.BookInvariant.{IsSameHeld}
+use Rattle.swift_tasks.proofs.book.all_held.Given as goal
+
+abbrev pub invariant-loop-waiting : goal.invariant-loop-waiting
+invariant-loop-waiting l = AllZip IsSameHeld (take l.waiting-index l.held) l.copy.items
