@@ -90,7 +90,7 @@ gone_one script x y next gone lt grown sound expanded = record {
 
 pub sound_full : (script : ScriptView) (x : Search) → IsSound script x → length x.nodes.items ≡ x.limit → IsSound script (record x { is_complete = false; met_limit = true })
 sound_full script x is full =
-    record { script_is = is.script_is; outcomes = is.outcomes; broken = is.broken; nodes = is.nodes; few = is.few; keys = is.keys; ends = is.ends; keyed = is.keyed; once = is.once; met = λ _. full }
+    record { script_is = is.script_is; outcomes = is.outcomes; broken = is.broken; nodes = is.nodes; few = is.few; keys = is.keys; ends = is.ends; keyed = is.keyed; once = is.once; met = λ _. full; histories = is.histories }
 
 pub grown_full : (x : Search) → HasGrown x (record x { is_complete = false; met_limit = true })
 grown_full x = record { script = refl; limit = refl; paths = λ i path at. at; outcomes = λ o has. has; broken = λ none. none; complete = λ is. absurd (false≢true is) }
@@ -98,7 +98,7 @@ grown_full x = record { script = refl; limit = refl; paths = λ i path at. at; o
 -- a search that leaves a history out
 
 pub sound_left : (script : ScriptView) (x : Search) → IsSound script x → IsSound script (record x { is_complete = false })
-sound_left script x is = record { script_is = is.script_is; outcomes = is.outcomes; broken = is.broken; nodes = is.nodes; few = is.few; keys = is.keys; ends = is.ends; keyed = is.keyed; once = is.once; met = is.met }
+sound_left script x is = record { script_is = is.script_is; outcomes = is.outcomes; broken = is.broken; nodes = is.nodes; few = is.few; keys = is.keys; ends = is.ends; keyed = is.keyed; once = is.once; met = is.met; histories = is.histories }
 
 pub grown_left : (x : Search) → HasGrown x (record x { is_complete = false })
 grown_left x = record { script = refl; limit = refl; paths = λ i path at. at; outcomes = λ o has. has; broken = λ none. none; complete = λ is. absurd (false≢true is) }

@@ -1,3 +1,4 @@
+mod Copies
 mod Given
 mod Led
 mod Followed
@@ -7,7 +8,9 @@ mod Orderly
 mod Rows
 mod Ran
 mod Used
+mod Past
 mod Paths
+mod HistoriesTaken
 mod Sound
 mod SameMoves
 mod EachMove

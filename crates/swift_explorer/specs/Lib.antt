@@ -4,6 +4,7 @@ pub mod Explorations
 pub mod FoundText
 pub mod Completions
 pub mod HistoryInside
+pub mod QueueInside
 pub mod SearchInside
 pub mod KeysInside
 pub mod EndsInside

@@ -1,5 +1,6 @@
 -- While histories are searched. No public clause names these.
-use Rattle.std.specs.Prelude.{◌≡◌, ◌<◌, ◌≤◌, ℕ, IsTrue, Some, None, All, IfSome, List, [], ◌∷◌, ◌++◌, length, slice_get, slice_index_or, Contains}
+use Rattle.std.specs.Prelude.{◌≡◌, ◌<◌, ◌≤◌, ℕ, IsTrue, Some, None, All, IfSome, List, [], ◌∷◌, ◌++◌, length, nat_eq, slice_get, slice_index_or, Contains}
+use Rattle.std.specs.HashMap.{get}
 use Rattle.std.specs.Arc.{arc_value}
 use Rattle.swift_script.specs.Scripts.{ScriptView}
 use Rattle.swift_history.specs.Histories.{AllStand, Block, Stands}
@@ -20,6 +21,7 @@ use Rattle.swift_explorer.specs.Steps.{AreSteps, IsBroken}
 use Rattle.swift_explorer.specs.HistoryInside.{IsHistory, IsMoveOf}
 use Rattle.swift_explorer.specs.EndsInside.{HasEnd, IsKnownEnd}
 use Rattle.swift_explorer.specs.KeysInside.{IsKeyFor, outcome_bytes}
+use Rattle.swift_explorer.specs.QueueInside.{AreHistories}
 
 -- the steps to one node more: none to the first, and to another those to the node that it goes on from, and its own
 abbrev pub path_after : List (List Move) → ℕ → Move → List Move
@@ -89,6 +91,7 @@ pub record IsSound (script : ScriptView) (x : Search) : Type 0 where
   pub keyed : AreKeyed x.outcomes.items x.ends
   pub once : EachOnce x.outcomes.items
   pub met : IsTrue x.met_limit → length x.nodes.items ≡ x.limit
+  pub histories : AreHistories script (paths_of x.nodes.items) (get nat_eq x.histories)
 
 -- A search has gone on: it has what it had, and where a history was left out or a turn was broken, that stays so.
 pub record HasGrown (old new : Search) : Type 0 where

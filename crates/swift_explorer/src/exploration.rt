@@ -41,7 +41,8 @@ pub struct FoundOutcomes {
 /// An executor takes any of its jobs: the list has outcomes of orders that priorities, arrival and `fifo` would not give (SE-0304 calls
 /// priorities hints; of a `fifo` executor it has more than can happen).
 ///
-/// Each history is followed from its beginning for each step after it, so the time is that of the histories times their turns.
+/// Each history is followed from its beginning once, and copied for each step after it, so the time is that of the histories times their
+/// turns.
 #[derive(Drop)]
 pub struct Exploration {
     search: Search,
@@ -144,6 +145,7 @@ impl Exploration {
             outcomes,
             ends: _,
             broken,
+            histories: _,
             is_complete,
             met_limit,
         } = search;

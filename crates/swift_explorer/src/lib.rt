@@ -17,6 +17,8 @@ mod keys;
 mod moves;
 // How a history has ended.
 mod outcome;
+// Histories that are kept beside the nodes that the search has still to go on from.
+mod queue;
 // A schedule that is run again.
 mod schedule;
 // The search.

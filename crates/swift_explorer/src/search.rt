@@ -1,6 +1,6 @@
 //! The search.
 
-ghost use Rattle.std.specs.Prelude.{◌≡◌, ◌<◌, ◌+◌, ℕ, List, [], ◌∷◌, ◌++◌, All, Contains, IfOk, IfSome, IsTrue, None, OnOk, Some, is_some, length, min, slice_get, true};
+ghost use Rattle.std.specs.Prelude.{◌≡◌, ◌<◌, ◌+◌, ℕ, List, [], ◌∷◌, ◌++◌, All, Contains, IfOk, IfSome, IsSome, IsTrue, None, OnOk, Some, is_some, length, min, slice_get, true};
 ghost use Rattle.std.specs.Arc.{arc_value};
 ghost use Rattle.swift_history.specs.Histories.{Block, ReportView};
 ghost use Rattle.swift_explorer.specs.Outcomes.{EachOnce, IfReached, IsBrokenAfter, IsOutcomeOf, Tells};
@@ -16,7 +16,9 @@ use crate::key_set::KeySet;
 use crate::keys::{pack, put_ending, put_fields, put_origin};
 use crate::moves::Move;
 use crate::outcome::{End, RunOutcome};
+use crate::queue::{KeptHistory, put_history, spare_copy, take_history};
 use std::alloc::{AllocError, Global};
+use std::collections::HashMap;
 use std::sync::Arc;
 use swift_events::Origin;
 use swift_script::Script;
@@ -42,6 +44,8 @@ pub(crate) struct Search {
     // A key for each outcome.
     pub(crate) ends: KeySet,
     pub(crate) broken: Option<Vec<Move>>,
+    // Histories of nodes that it has not gone on from, by the node's place.
+    pub(crate) histories: HashMap<usize, KeptHistory>,
     // Whether no history was left out, and each step after those that it has gone on from was tried.
     pub(crate) is_complete: bool,
     // Whether a history was left out since as many were kept as may be.
@@ -119,35 +123,52 @@ pub(crate) fn follow(history: &mut SearchedHistory, path: &[Move]) -> Result<Fol
     Ok(Followed::Yes)
 }
 
-// Follows one more step than these.
+// Follows one more step than these, which were followed.
 fn follow_one(
     history: &mut SearchedHistory,
     path: &[Move],
     step: Move,
 ) -> Result<Followed, AllocError>
-    requires { IsPath (arc_value history.old.script) [] history.old }
+    requires { IsPath (arc_value history.old.script) path.now history.old }
     ensures broken { IfOk result (λ f. f ≡ Followed.Broken → IsBrokenAfter (arc_value history.old.script) (path.now ++ step ∷ [])) }
     ensures path { IfOk result (λ f. WasDone f → IsPath (arc_value history.old.script) (path.now ++ step ∷ []) history.new) }
     ensures last { IfOk result (λ f. WasDone f → IsFollowedBy (arc_value history.old.script) path.now step history.new f) }
 {
-    if let Followed::No = follow(history, path)? {
-        return Ok(Followed::No);
-    }
+    let _ = path;
     history.step(step)
 }
 
-// Which steps may come after these, and whether they lead to an outcome. Nothing where that is not known.
+// A history to which these steps lead. Nothing where they may not be followed.
+fn followed(
+    alloc: Global,
+    script: &Arc<Script>,
+    path: &[Move],
+) -> Result<Option<SearchedHistory>, AllocError>
+    ensures { IfOk result (λ o. IfSome o (IsPath (arc_value script.now) path.now)) }
+{
+    let mut history = SearchedHistory::new(alloc, script)?;
+    match follow(&mut history, path) {
+        Err(fault) => {
+            history.close();
+            Err(fault)
+        }
+        Ok(Followed::No) => {
+            history.close();
+            Ok(None)
+        }
+        Ok(_) => Ok(Some(history)),
+    }
+}
+
+// Which steps may come after these, which were followed, and whether they lead to an outcome. Nothing where that is not known.
 fn look_ahead(
-    history: &mut SearchedHistory,
+    history: &SearchedHistory,
     path: &[Move],
 ) -> Result<Option<(Vec<Move>, End)>, AllocError>
-    requires { IsPath (arc_value history.old.script) [] history.old }
-    ensures outcome { IfOk result (λ o. IfSome o (λ ahead. IfReached (IsOutcomeOf (arc_value history.old.script)) ahead.1)) }
-    ensures ahead { IfOk result (λ o. IfSome o (λ ahead. IsAhead (arc_value history.old.script) path.now ahead.0.items ahead.1)) }
+    requires { IsPath (arc_value history.now.script) path.now history.now }
+    ensures outcome { IfOk result (λ o. IfSome o (λ ahead. IfReached (IsOutcomeOf (arc_value history.now.script)) ahead.1)) }
+    ensures ahead { IfOk result (λ o. IfSome o (λ ahead. IsAhead (arc_value history.now.script) path.now ahead.0.items ahead.1)) }
 {
-    if let Followed::No = follow(history, path)? {
-        return Ok(None);
-    }
     let Some(moves) = history.next()? else {
         return Ok(None);
     };
@@ -176,6 +197,7 @@ impl Search {
             outcomes: Vec::new(alloc),
             ends: KeySet::new(alloc),
             broken: None,
+            histories: HashMap::new(alloc),
             is_complete: true,
             met_limit: false,
         })
@@ -193,6 +215,7 @@ impl Search {
         requires sound { IsSound (arc_value self.old.script) self.old }
         ensures keeps { OnOk result (Keeps self.old self.new history) }
     {
+        let spare = spare_copy(&self.histories, &history);
         let key = key_of(self.alloc, history)?;
         if self.keys.contains(&key) {
             return Ok(());
@@ -203,8 +226,9 @@ impl Search {
             return Ok(());
         }
         self.keys.add(key)?;
+        let place = self.nodes.len();
         self.nodes.push(Node { before, step })?;
-        Ok(())
+        put_history(&mut self.histories, place, spare)
     }
 
     // Writes the first turn that breaks an invariant: the last of these steps.
@@ -221,28 +245,35 @@ impl Search {
         Ok(())
     }
 
-    // Follows one more step than these, and keeps the history that it leads to.
-    fn try_step(&mut self, path: &[Move], before: usize, step: Move) -> Result<(), AllocError>
+    // Follows one more step than these, which were followed, in a copy of the history, and keeps where it leads.
+    fn try_step(
+        &mut self,
+        history: &SearchedHistory,
+        path: &[Move],
+        before: usize,
+        step: Move,
+    ) -> Result<(), AllocError>
         requires sound { IsSound (arc_value self.old.script) self.old }
+        requires followed { IsPath (arc_value self.old.script) path.now history.now }
         requires path { slice_get (paths_of self.old.nodes.items) before ≡ Some path.now }
         ensures grown { OnOk result (HasGrown self.old self.new) }
         ensures sound { OnOk result (IsSound (arc_value self.old.script) self.new) }
         ensures tried { OnOk result (IsTrue self.new.is_complete → StepWasTried (arc_value self.old.script) self.new path.now step) }
     {
-        let mut history = SearchedHistory::new(self.alloc, &self.script)?;
-        match follow_one(&mut history, path, step) {
+        let mut next = history.copy()?;
+        match follow_one(&mut next, path, step) {
             Err(fault) => {
-                history.close();
+                next.close();
                 Err(fault)
             }
             Ok(Followed::No) => {
-                history.close();
+                next.close();
                 self.is_complete = false;
                 Ok(())
             }
-            Ok(Followed::Yes) => self.keep(history, before, step),
+            Ok(Followed::Yes) => self.keep(next, before, step),
             Ok(Followed::Broken) => {
-                self.keep(history, before, step)?;
+                self.keep(next, before, step)?;
                 self.note_broken(path, step)
             }
         }
@@ -291,16 +322,23 @@ impl Search {
         }
     }
 
-    // Follows each of these steps after a history, and keeps where it leads.
-    fn try_all(&mut self, path: &[Move], place: usize, moves: &[Move]) -> Result<(), AllocError>
+    // Follows each of these steps after a history to which the path has led, and keeps where it leads.
+    fn try_all(
+        &mut self,
+        history: &SearchedHistory,
+        path: &[Move],
+        place: usize,
+        moves: &[Move],
+    ) -> Result<(), AllocError>
         requires sound { IsSound (arc_value self.old.script) self.old }
+        requires followed { IsPath (arc_value self.old.script) path.now history.now }
         requires path { slice_get (paths_of self.old.nodes.items) place ≡ Some path.now }
         ensures grown { OnOk result (HasGrown self.old self.new) }
         ensures sound { OnOk result (IsSound (arc_value self.old.script) self.new) }
         ensures tried { OnOk result (IsTrue self.new.is_complete → All (StepWasTried (arc_value self.old.script) self.new path.now) moves.now) }
     {
         for step in moves {
-            self.try_step(path, place, *step)?;
+            self.try_step(history, path, place, *step)?;
         }
         Ok(())
     }
@@ -308,12 +346,14 @@ impl Search {
     // Goes on from a history to which these steps have led, where this is known of what comes after it.
     fn go_on(
         &mut self,
+        history: &SearchedHistory,
         path: &[Move],
         place: usize,
         moves: &[Move],
         end: End,
     ) -> Result<(), AllocError>
         requires sound { IsSound (arc_value self.old.script) self.old }
+        requires followed { IsPath (arc_value self.old.script) path.now history.now }
         requires path { slice_get (paths_of self.old.nodes.items) place ≡ Some path.now }
         requires outcome { IfReached (IsOutcomeOf (arc_value self.old.script)) end }
         requires ahead { IsAhead (arc_value self.old.script) path.now moves.now end }
@@ -322,7 +362,48 @@ impl Search {
         ensures expanded { OnOk result (IsTrue self.new.is_complete → IsExpandedAt (arc_value self.old.script) self.new place) }
     {
         self.note(end)?;
-        self.try_all(path, place, moves)
+        self.try_all(history, path, place, moves)
+    }
+
+    // The history to which these steps lead: the one that was kept at this place, or else one that follows them.
+    fn history_at(
+        &mut self,
+        place: usize,
+        path: &[Move],
+    ) -> Result<Option<SearchedHistory>, AllocError>
+        requires sound { IsSound (arc_value self.old.script) self.old }
+        requires path { slice_get (paths_of self.old.nodes.items) place ≡ Some path.now }
+        ensures rest { self.new ≡ record self.old { histories = self.new.histories } }
+        ensures sound { IsSound (arc_value self.old.script) self.new }
+        ensures history { IfOk result (λ o. IfSome o (IsPath (arc_value self.old.script) path.now)) }
+    {
+        match take_history(&mut self.histories, place) {
+            Some(history) => Ok(Some(history)),
+            None => followed(self.alloc, &self.script, path),
+        }
+    }
+
+    // Goes on from a history to which these steps have led.
+    fn go_on_from(
+        &mut self,
+        history: &SearchedHistory,
+        path: &[Move],
+        place: usize,
+    ) -> Result<(), AllocError>
+        requires sound { IsSound (arc_value self.old.script) self.old }
+        requires followed { IsPath (arc_value self.old.script) path.now history.now }
+        requires path { slice_get (paths_of self.old.nodes.items) place ≡ Some path.now }
+        ensures grown { OnOk result (HasGrown self.old self.new) }
+        ensures sound { OnOk result (IsSound (arc_value self.old.script) self.new) }
+        ensures expanded { OnOk result (IsTrue self.new.is_complete → IsExpandedAt (arc_value self.old.script) self.new place) }
+    {
+        match look_ahead(history, path)? {
+            Some((moves, end)) => self.go_on(history, path, place, &moves, end),
+            None => {
+                self.is_complete = false;
+                Ok(())
+            }
+        }
     }
 
     // Goes on from a history that is kept.
@@ -334,16 +415,13 @@ impl Search {
         ensures expanded { OnOk result (IsTrue self.new.is_complete → IsExpandedAt (arc_value self.old.script) self.new place) }
     {
         let path = path_to(self.alloc, &self.nodes, place)?;
-        let mut history = SearchedHistory::new(self.alloc, &self.script)?;
-        let seen = look_ahead(&mut history, &path);
+        let Some(history) = self.history_at(place, &path)? else {
+            self.is_complete = false;
+            return Ok(());
+        };
+        let done = self.go_on_from(&history, &path, place);
         history.close();
-        match seen? {
-            Some((moves, end)) => self.go_on(&path, place, &moves, end),
-            None => {
-                self.is_complete = false;
-                Ok(())
-            }
-        }
+        done
     }
 
     // Goes on from the history at a place and from those after it, from `more` at most. The place after the last of these.

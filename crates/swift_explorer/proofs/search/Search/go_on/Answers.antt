@@ -3,6 +3,7 @@ use Rattle.std.specs.Prelude.{All}
 use Rattle.std.specs.Arc.{arc_value}
 use Rattle.std.proofs.lemmas.Result.{on_ok_weaker}
 use Rattle.swift_script.specs.Scripts.{ScriptView}
+use Rattle.swift_explorer.specs.HistoryInside.{IsPath}
 use Rattle.swift_explorer.specs.SearchInside.{IsSound, StepWasTried}
 use Rattle.swift_explorer.proofs.Growing.{grown_on}
 use Rattle.swift_explorer.proofs.Noting.{on_ok_both}
@@ -13,7 +14,12 @@ pub try_all-requires : goal.try_all-requires
 try_all-requires c =
     let y = c.note.new.self in
     let note = c.in_ok-note.ensures in
-    record { sound = subst (λ (s : ScriptView). IsSound s y) (sym (ap arc_value note.grown.script)) note.sound; path = note.grown.paths c.args.place c.args.path.now c.requires.path }
+    let own = sym (ap arc_value note.grown.script) in
+    record {
+      sound = subst (λ (s : ScriptView). IsSound s y) own note.sound;
+      followed = subst (λ (s : ScriptView). IsPath s c.args.path.now c.args.history.now) own c.requires.followed;
+      path = note.grown.paths c.args.place c.args.path.now c.requires.path;
+    }
 
 pub returns : goal.returns
 returns c =

@@ -5,6 +5,7 @@ use Rattle.std.proofs.lemmas.List.{take_more}
 use Rattle.std.proofs.lemmas.List.Elements.{All-nil, All-push, All-weaker}
 use Rattle.swift_script.specs.Scripts.{ScriptView}
 use Rattle.swift_explorer.specs.declared.moves.Move.TheVariants as step
+use Rattle.swift_explorer.specs.HistoryInside.{IsPath}
 use Rattle.swift_explorer.specs.SearchInside.{IsSound, StepWasTried}
 use Rattle.swift_explorer.proofs.Growing.{grown_none, grown_on, step_grown}
 use Rattle.swift_explorer.proofs.search.Search.try_all.Goals as goal
@@ -19,7 +20,12 @@ try_step-requires c =
     let x = c.args.self.now in
     let s = c.loop-step.self in
     let old = c.loop-step.invariant in
-    record { sound = subst (λ (sc : ScriptView). IsSound sc s) (sym (ap arc_value old.grown.script)) old.sound; path = old.grown.paths c.args.place c.args.path.now c.requires.path }
+    let own = sym (ap arc_value old.grown.script) in
+    record {
+      sound = subst (λ (sc : ScriptView). IsSound sc s) own old.sound;
+      followed = subst (λ (sc : ScriptView). IsPath sc c.args.path.now c.args.history.now) own c.requires.followed;
+      path = old.grown.paths c.args.place c.args.path.now c.requires.path;
+    }
 
 pub loop-step-preserved : goal.loop-step-preserved
 loop-step-preserved c =

@@ -1,4 +1,4 @@
-use Rattle.std.proofs.Common.{◌≡◌, List, [], ◌∷◌, ◌++◌, sym, subst, ap}
+use Rattle.std.proofs.Common.{◌≡◌, ◌∙◌, List, [], ◌∷◌, ◌++◌, sym, subst, ap}
 use Rattle.std.specs.Prelude.{IfSome}
 use Rattle.std.specs.Arc.{arc_value}
 use Rattle.std.proofs.lemmas.Result.{on_ok_weaker}
@@ -7,9 +7,10 @@ use Rattle.swift_explorer.specs.declared.moves.Move.{Move}
 use Rattle.swift_explorer.specs.Outcomes.{IsBrokenAfter}
 use Rattle.swift_explorer.specs.HistoryInside.{IsPath, WasDone}
 use Rattle.swift_explorer.specs.SearchInside.{HasGrown, IsFollowedBy, IsSound, paths_of}
+use Rattle.swift_explorer.proofs.Copies.{path_copied}
 use Rattle.swift_explorer.proofs.Growing.{grown_on, like_grown}
 use Rattle.swift_explorer.proofs.Keeping.{keeps_none}
-use Rattle.swift_explorer.proofs.Nodes.{path_on}
+use Rattle.swift_explorer.proofs.Nodes.{may_on, path_on}
 use Rattle.swift_explorer.proofs.Noting.{grown_breaks, is_not_none, sound_breaks}
 use Rattle.swift_explorer.proofs.Trying.{step_tried}
 use Rattle.swift_explorer.proofs.search.Search.try_step.Goals as goal
@@ -22,7 +23,7 @@ keep-requires-in-Ok-Broken-clause-path c =
     let path = c.args.path.now in
     let done : WasDone c.in-Ok-Broken.field-0 = subst WasDone (sym c.in-Ok-Broken.field-0-is) tt in
     subst (λ (ms : List Move). IsPath script ms h) (sym (path_on (paths_of x.nodes.items) c.args.before c.args.step path c.requires.path))
-    (subst (λ (s : ScriptView). IsPath s (path ++ c.args.step ∷ []) h) c.in_ok-history.ensures.script (c.in-Ok-Broken.ensures.path done))
+    (subst (λ (s : ScriptView). IsPath s (path ++ c.args.step ∷ []) h) (c.in_ok-next.ensures.script ∙ c.requires.followed.is.script_is) (c.in-Ok-Broken.ensures.path done))
 
 pub returns-in-Ok-No-clause-grown : goal.returns-in-Ok-No-clause-grown
 returns-in-Ok-No-clause-grown c = (keeps_none c.args.self.now c.follow_one.new.history c.requires.sound).grown
@@ -45,7 +46,7 @@ returns-in-Ok-Yes-clause-tried c =
     let path = c.args.path.now in
     let f = c.in-Ok-Yes.field-0 in
     let done : WasDone f = subst WasDone (sym c.in-Ok-Yes.field-0-is) tt in
-    let by = subst (λ (s : ScriptView). IsFollowedBy s path c.args.step h f) c.in_ok-history.ensures.script (c.in-Ok-Yes.ensures.last done) in
+    let by = subst (λ (s : ScriptView). IsFollowedBy s path c.args.step h f) (c.in_ok-next.ensures.script ∙ c.requires.followed.is.script_is) (c.in-Ok-Yes.ensures.last done) in
     on_ok_weaker c.keep.result (λ keeps is. step_tried script z path c.args.step h f by (keeps.kept is) (λ _. c.in-Ok-Yes.field-0-is)) c.keep.ensures.keeps
 
 pub returns-in_ok-keep-in-Ok-Broken-clause-grown : goal.returns-in_ok-keep-in-Ok-Broken-clause-grown
@@ -78,7 +79,7 @@ returns-in_ok-keep-in-Ok-Broken-clause-tried c =
     let path = c.args.path.now in
     let f = c.in-Ok-Broken.field-0 in
     let done : WasDone f = subst WasDone (sym c.in-Ok-Broken.field-0-is) tt in
-    let by = subst (λ (sc : ScriptView). IsFollowedBy sc path c.args.step h f) c.in_ok-history.ensures.script (c.in-Ok-Broken.ensures.last done) in
+    let by = subst (λ (sc : ScriptView). IsFollowedBy sc path c.args.step h f) (c.in_ok-next.ensures.script ∙ c.requires.followed.is.script_is) (c.in-Ok-Broken.ensures.last done) in
     let keeps = c.in_ok-keep-in-Ok-Broken.ensures.keeps in
     on_ok_weaker c.note_broken.result (λ some is.
     (let grown = subst (HasGrown s) (sym c.note_broken.ensures.rest) (grown_breaks s z.broken some) in
@@ -89,4 +90,25 @@ pub note_broken-requires-clause-broken : goal.note_broken-requires-clause-broken
 note_broken-requires-clause-broken c =
     let steps = c.args.path.now ++ c.args.step ∷ [] in
     let own : arc_value c.keep-in-Ok-Broken.new.self.script ≡ arc_value c.args.self.now.script = ap arc_value c.in_ok-keep-in-Ok-Broken.ensures.keeps.grown.script in
-    subst (λ (s : ScriptView). IsBrokenAfter s steps) (sym own) (subst (λ (s : ScriptView). IsBrokenAfter s steps) c.in_ok-history.ensures.script (c.in-Ok-Broken.ensures.broken c.in-Ok-Broken.field-0-is))
+    subst (λ (s : ScriptView). IsBrokenAfter s steps) (sym own) (subst (λ (s : ScriptView). IsBrokenAfter s steps) (c.in_ok-next.ensures.script ∙ c.requires.followed.is.script_is) (c.in-Ok-Broken.ensures.broken c.in-Ok-Broken.field-0-is))
+
+pub follow_one-requires : goal.follow_one-requires
+follow_one-requires c =
+    let copy = c.in_ok-next.ensures in
+    subst (λ (s : ScriptView). IsPath s c.args.path.now c.in_ok-next.next) (sym (copy.script ∙ c.requires.followed.is.script_is)) (path_copied (arc_value c.args.self.now.script) c.args.path.now c.args.history.now c.in_ok-next.next copy c.requires.followed)
+
+pub keep-requires-clause-before : goal.keep-requires-clause-before
+keep-requires-clause-before c = may_on (paths_of c.args.self.now.nodes.items) c.args.before c.args.path.now c.requires.path
+
+pub keep-requires-in-Ok-Broken-clause-before : goal.keep-requires-in-Ok-Broken-clause-before
+keep-requires-in-Ok-Broken-clause-before c = may_on (paths_of c.args.self.now.nodes.items) c.args.before c.args.path.now c.requires.path
+
+pub keep-requires-clause-path : goal.keep-requires-clause-path
+keep-requires-clause-path c =
+    let x = c.args.self.now in
+    let h = c.follow_one.new.history in
+    let script = arc_value x.script in
+    let path = c.args.path.now in
+    let done : WasDone c.in-Ok-Yes.field-0 = subst WasDone (sym c.in-Ok-Yes.field-0-is) tt in
+    subst (λ (ms : List Move). IsPath script ms h) (sym (path_on (paths_of x.nodes.items) c.args.before c.args.step path c.requires.path))
+    (subst (λ (s : ScriptView). IsPath s (path ++ c.args.step ∷ []) h) (c.in_ok-next.ensures.script ∙ c.requires.followed.is.script_is) (c.in-Ok-Yes.ensures.path done))
