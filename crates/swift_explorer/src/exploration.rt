@@ -2,7 +2,7 @@
 
 ghost use Rattle.std.specs.Prelude.{◌≡◌, ◌≤◌, ◌+◌, ◌-◌, ◌↔◌, All, IfOk, IfSome, IsTrue, None, length, min};
 ghost use Rattle.std.specs.Arc.{arc_value};
-ghost use Rattle.swift_explorer.specs.Outcomes.{EachOnce, HasEachOutcome, IsBrokenAfter, IsOutcomeOf, NeverBreaks};
+ghost use Rattle.swift_explorer.specs.Outcomes.{EachOnce, HasEachOutcome, IsBrokenAfter, IsOutcomeOf, NeverBreaks, RunsShort};
 
 use crate::history::SearchedHistory;
 use crate::moves::Move;
@@ -26,6 +26,9 @@ pub struct FoundOutcomes {
     pub is_complete: bool,
     /// Whether a history was left out since as many were kept as may be.
     pub met_limit: bool,
+    /// Whether some history had so many tasks that turns may have less room than they would use: with 16 more for each executor and 16
+    /// besides, more than 1,024. Such a search is not complete.
+    pub ran_short: bool,
 }
 
 /// A search of the histories of a script from the one in which nothing has happened (our own), made in parts, so that a caller can say
@@ -79,7 +82,7 @@ impl Exploration {
     {
         let mut search = Search::new(alloc, script, limit)?;
         let first = SearchedHistory::new(alloc, script)?;
-        search.keep(first, 0, Move::Add)?;
+        search.keep(first, 0, Vec::new(alloc))?;
         Ok(Exploration { search, next: 0 })
     }
 
@@ -132,6 +135,7 @@ impl Exploration {
         ensures once { EachOnce result.outcomes.items }
         ensures states { result.states ≡ self.kept }
         ensures limit { IsTrue result.met_limit → result.states ≡ self.limit }
+        ensures room { IsTrue result.ran_short → RunsShort self.script }
         ensures counted { length result.outcomes.items ≡ self.outcomes }
     {
         let Exploration { search, next } = self;
@@ -139,6 +143,7 @@ impl Exploration {
             alloc: _,
             script: _,
             limit: _,
+            away: _,
             nodes,
             keys: _,
             outcomes,
@@ -146,6 +151,7 @@ impl Exploration {
             broken,
             is_complete,
             met_limit,
+            ran_short,
         } = search;
         let states = nodes.len();
         FoundOutcomes {
@@ -154,6 +160,7 @@ impl Exploration {
             states,
             is_complete: is_complete && next >= states,
             met_limit,
+            ran_short,
         }
     }
 }

@@ -1,16 +1,19 @@
 //! The search.
 
-ghost use Rattle.std.specs.Prelude.{◌≡◌, ◌<◌, ◌+◌, ℕ, List, [], ◌∷◌, ◌++◌, All, Contains, IfOk, IfSome, IsTrue, None, OnOk, Some, is_some, length, min, slice_get, true};
+ghost use Rattle.std.specs.Prelude.{◌≡◌, ◌<◌, ◌+◌, ℕ, List, [], ◌∷◌, ◌++◌, All, Contains, IfOk, IfSome, IsTrue, None, OnOk, Some, is_some, length, min, reverse, slice_get, true, false};
 ghost use Rattle.std.specs.Arc.{arc_value};
 ghost use Rattle.swift_history.specs.Histories.{Block, ReportView};
-ghost use Rattle.swift_explorer.specs.Outcomes.{EachOnce, IfReached, IsBrokenAfter, IsOutcomeOf, Tells};
+ghost use Rattle.swift_explorer.specs.Outcomes.{EachOnce, IfReached, IsBrokenAfter, IsOutcomeOf, RunsShort, Tells};
 ghost use Rattle.swift_explorer.specs.declared.outcome.RunOutcome.{RunOutcome};
 ghost use Rattle.swift_explorer.specs.HistoryInside.{IsPath, WasDone};
 ghost use Rattle.swift_explorer.specs.EndsInside.{HasEnd, IsKnownEnd};
+ghost use Rattle.swift_explorer.specs.FusedInside.{AreTold};
 ghost use Rattle.swift_explorer.specs.KeysInside.{IsKeyOf, outcome_bytes, end_numbers};
-ghost use Rattle.swift_explorer.specs.SearchInside.{AreKeyed, GoOn, HasGoneOn, HasGrown, IsAhead, IsExpandedAt, IsFollowedBy, IsNoted, IsSound, Keeps, MayGoOn, StepWasTried, path_after, paths_of};
+ghost use Rattle.swift_explorer.specs.SearchInside.{AreKeyed, GoOn, HasGoneOn, HasGrown, IsAhead, IsExpandedAt, IsFollowedBy, IsNoted, IsSound, Keeps, MayGoOn, StepWasTried, WasTriedLast, path_after, paths_of};
 ghost use Rattle.swift_explorer.specs.Numbers.{list_numbers};
 
+use crate::away::methods_look_away;
+use crate::fused::Step;
 use crate::history::{Followed, SearchedHistory};
 use crate::key_set::KeySet;
 use crate::keys::{pack, put_ending, put_fields, put_origin};
@@ -22,11 +25,11 @@ use swift_events::Origin;
 use swift_script::Script;
 use swift_types::Ending;
 
-// A history that was kept: one step after another that was.
-#[derive(Clone, Copy)]
+// A history that was kept: these steps after another that was.
+#[derive(Drop)]
 pub(crate) struct Node {
     before: usize,
-    step: Move,
+    moves: Vec<Move>,
 }
 
 // A search, and what it has found so far.
@@ -35,6 +38,8 @@ pub(crate) struct Search {
     pub(crate) alloc: Global,
     pub(crate) script: Arc<Script>,
     pub(crate) limit: usize,
+    // Of each method, whether it looks away.
+    pub(crate) away: Vec<bool>,
     pub(crate) nodes: Vec<Node>,
     // A key for each node.
     pub(crate) keys: KeySet,
@@ -46,6 +51,20 @@ pub(crate) struct Search {
     pub(crate) is_complete: bool,
     // Whether a history was left out since as many were kept as may be.
     pub(crate) met_limit: bool,
+    // Whether the room for tasks ran short in one of the histories that it has gone on from.
+    pub(crate) ran_short: bool,
+}
+
+// Appends these steps, the last one first.
+fn push_back(path: &mut Vec<Move>, moves: &[Move]) -> Result<(), AllocError>
+    ensures { OnOk result (path.new.items ≡ path.old.items ++ reverse moves.now) }
+{
+    let mut left = moves.len();
+    'left: while 0 < left {
+        left -= 1;
+        path.push(moves[left])?;
+    }
+    Ok(())
 }
 
 // The steps to a node.
@@ -57,9 +76,9 @@ fn path_to(alloc: Global, nodes: &[Node], place: usize) -> Result<Vec<Move>, All
     let mut path = Vec::new(alloc);
     let mut at = place;
     'back: while 0 < at {
-        let Node { before, step } = nodes[at];
-        path.push(step)?;
-        at = before;
+        let node = &nodes[at];
+        push_back(&mut path, &node.moves)?;
+        at = node.before;
     }
     path.reverse();
     Ok(path)
@@ -136,23 +155,40 @@ fn follow_one(
     history.step(step)
 }
 
-// Which steps may come after these, and whether they lead to an outcome. Nothing where that is not known.
+// What comes after a history.
+#[derive(Drop)]
+struct Ahead {
+    // The steps that may follow.
+    steps: Vec<Step>,
+    // Whether it is an outcome.
+    end: End,
+    // Whether there is room for what turns may make.
+    has_room: bool,
+}
+
+// What comes after these steps. Nothing where that is not known.
 fn look_ahead(
     history: &mut SearchedHistory,
+    away: &[bool],
     path: &[Move],
-) -> Result<Option<(Vec<Move>, End)>, AllocError>
-    requires { IsPath (arc_value history.old.script) [] history.old }
-    ensures outcome { IfOk result (λ o. IfSome o (λ ahead. IfReached (IsOutcomeOf (arc_value history.old.script)) ahead.1)) }
-    ensures ahead { IfOk result (λ o. IfSome o (λ ahead. IsAhead (arc_value history.old.script) path.now ahead.0.items ahead.1)) }
+) -> Result<Option<Ahead>, AllocError>
+    requires path { IsPath (arc_value history.old.script) [] history.old }
+    requires told { AreTold (arc_value history.old.script) away.now }
+    ensures { IfOk result (λ o. IfSome o (λ ahead. IsAhead (arc_value history.old.script) path.now ahead)) }
 {
     if let Followed::No = follow(history, path)? {
         return Ok(None);
     }
-    let Some(moves) = history.next()? else {
+    let Some(steps) = history.next_fused(away)? else {
         return Ok(None);
     };
     let end = history.outcome(path)?;
-    Ok(Some((moves, end)))
+    let has_room = history.has_room();
+    Ok(Some(Ahead {
+        steps,
+        end,
+        has_room,
+    }))
 }
 
 impl Search {
@@ -167,10 +203,12 @@ impl Search {
         ensures limit { IfOk result (λ x. x.limit ≡ limit) }
         ensures sound { IfOk result (IsSound (arc_value script.now)) }
     {
+        let away = methods_look_away(alloc, script)?;
         Ok(Search {
             alloc,
             script: Arc::clone(script)?,
             limit,
+            away,
             nodes: Vec::new(alloc),
             keys: KeySet::new(alloc),
             outcomes: Vec::new(alloc),
@@ -178,6 +216,7 @@ impl Search {
             broken: None,
             is_complete: true,
             met_limit: false,
+            ran_short: false,
         })
     }
 
@@ -186,10 +225,10 @@ impl Search {
         &mut self,
         history: SearchedHistory,
         before: usize,
-        step: Move,
+        moves: Vec<Move>,
     ) -> Result<(), AllocError>
         requires before { MayGoOn (paths_of self.old.nodes.items) before }
-        requires path { IsPath (arc_value self.old.script) (path_after (paths_of self.old.nodes.items) before step) history }
+        requires path { IsPath (arc_value self.old.script) (path_after (paths_of self.old.nodes.items) before moves.items) history }
         requires sound { IsSound (arc_value self.old.script) self.old }
         ensures keeps { OnOk result (Keeps self.old self.new history) }
     {
@@ -203,7 +242,7 @@ impl Search {
             return Ok(());
         }
         self.keys.add(key)?;
-        self.nodes.push(Node { before, step })?;
+        self.nodes.push(Node { before, moves })?;
         Ok(())
     }
 
@@ -221,16 +260,23 @@ impl Search {
         Ok(())
     }
 
-    // Follows one more step than these, and keeps the history that it leads to.
-    fn try_step(&mut self, path: &[Move], before: usize, step: Move) -> Result<(), AllocError>
+    // Follows these steps and one more, and keeps the history that they lead to. It is known by the last ones, after another.
+    fn try_last(
+        &mut self,
+        path: &[Move],
+        last: Move,
+        before: usize,
+        moves: Vec<Move>,
+    ) -> Result<(), AllocError>
         requires sound { IsSound (arc_value self.old.script) self.old }
-        requires path { slice_get (paths_of self.old.nodes.items) before ≡ Some path.now }
+        requires before { MayGoOn (paths_of self.old.nodes.items) before }
+        requires path { path_after (paths_of self.old.nodes.items) before moves.items ≡ path.now ++ last ∷ [] }
         ensures grown { OnOk result (HasGrown self.old self.new) }
         ensures sound { OnOk result (IsSound (arc_value self.old.script) self.new) }
-        ensures tried { OnOk result (IsTrue self.new.is_complete → StepWasTried (arc_value self.old.script) self.new path.now step) }
+        ensures tried { OnOk result (IsTrue self.new.is_complete → WasTriedLast (arc_value self.old.script) self.new path.now last) }
     {
         let mut history = SearchedHistory::new(self.alloc, &self.script)?;
-        match follow_one(&mut history, path, step) {
+        match follow_one(&mut history, path, last) {
             Err(fault) => {
                 history.close();
                 Err(fault)
@@ -240,12 +286,29 @@ impl Search {
                 self.is_complete = false;
                 Ok(())
             }
-            Ok(Followed::Yes) => self.keep(history, before, step),
+            Ok(Followed::Yes) => self.keep(history, before, moves),
             Ok(Followed::Broken) => {
-                self.keep(history, before, step)?;
-                self.note_broken(path, step)
+                self.keep(history, before, moves)?;
+                self.note_broken(path, last)
             }
         }
+    }
+
+    // Follows one more step than these, and keeps the history that it leads to.
+    fn try_step(&mut self, path: &[Move], before: usize, step: Step) -> Result<(), AllocError>
+        requires sound { IsSound (arc_value self.old.script) self.old }
+        requires path { slice_get (paths_of self.old.nodes.items) before ≡ Some path.now }
+        ensures grown { OnOk result (HasGrown self.old self.new) }
+        ensures sound { OnOk result (IsSound (arc_value self.old.script) self.new) }
+        ensures tried { OnOk result (IsTrue self.new.is_complete → StepWasTried (arc_value self.old.script) self.new path.now step) }
+    {
+        let last = step.last();
+        let mut moves = Vec::new(self.alloc);
+        step.put_first(&mut moves)?;
+        let mut front = Vec::from_slice(self.alloc, path)?;
+        step.put_first(&mut front)?;
+        moves.push(last)?;
+        self.try_last(&front, last, before, moves)
     }
 
     // Writes an outcome, where it is a new one.
@@ -292,37 +355,50 @@ impl Search {
     }
 
     // Follows each of these steps after a history, and keeps where it leads.
-    fn try_all(&mut self, path: &[Move], place: usize, moves: &[Move]) -> Result<(), AllocError>
+    fn try_all(&mut self, path: &[Move], place: usize, steps: &[Step]) -> Result<(), AllocError>
         requires sound { IsSound (arc_value self.old.script) self.old }
         requires path { slice_get (paths_of self.old.nodes.items) place ≡ Some path.now }
         ensures grown { OnOk result (HasGrown self.old self.new) }
         ensures sound { OnOk result (IsSound (arc_value self.old.script) self.new) }
-        ensures tried { OnOk result (IsTrue self.new.is_complete → All (StepWasTried (arc_value self.old.script) self.new path.now) moves.now) }
+        ensures tried { OnOk result (IsTrue self.new.is_complete → All (StepWasTried (arc_value self.old.script) self.new path.now) steps.now) }
     {
-        for step in moves {
+        for step in steps {
             self.try_step(path, place, *step)?;
         }
         Ok(())
     }
 
+    // Says where there is no room for what turns may make.
+    fn note_room(&mut self, has_room: bool)
+        requires sound { IsSound (arc_value self.old.script) self.old }
+        requires short { has_room ≡ false → RunsShort (arc_value self.old.script) }
+        ensures grown { HasGrown self.old self.new }
+        ensures sound { IsSound (arc_value self.old.script) self.new }
+        ensures room { IsTrue self.new.is_complete → IsTrue has_room }
+    {
+        if !has_room {
+            self.is_complete = false;
+            self.ran_short = true;
+        }
+    }
+
     // Goes on from a history to which these steps have led, where this is known of what comes after it.
-    fn go_on(
-        &mut self,
-        path: &[Move],
-        place: usize,
-        moves: &[Move],
-        end: End,
-    ) -> Result<(), AllocError>
+    fn go_on(&mut self, path: &[Move], place: usize, ahead: Ahead) -> Result<(), AllocError>
         requires sound { IsSound (arc_value self.old.script) self.old }
         requires path { slice_get (paths_of self.old.nodes.items) place ≡ Some path.now }
-        requires outcome { IfReached (IsOutcomeOf (arc_value self.old.script)) end }
-        requires ahead { IsAhead (arc_value self.old.script) path.now moves.now end }
+        requires ahead { IsAhead (arc_value self.old.script) path.now ahead }
         ensures grown { OnOk result (HasGrown self.old self.new) }
         ensures sound { OnOk result (IsSound (arc_value self.old.script) self.new) }
         ensures expanded { OnOk result (IsTrue self.new.is_complete → IsExpandedAt (arc_value self.old.script) self.new place) }
     {
+        let Ahead {
+            steps,
+            end,
+            has_room,
+        } = ahead;
+        self.note_room(has_room);
         self.note(end)?;
-        self.try_all(path, place, moves)
+        self.try_all(path, place, &steps)
     }
 
     // Goes on from a history that is kept.
@@ -335,10 +411,10 @@ impl Search {
     {
         let path = path_to(self.alloc, &self.nodes, place)?;
         let mut history = SearchedHistory::new(self.alloc, &self.script)?;
-        let seen = look_ahead(&mut history, &path);
+        let seen = look_ahead(&mut history, &self.away, &path);
         history.close();
         match seen? {
-            Some((moves, end)) => self.go_on(&path, place, &moves, end),
+            Some(ahead) => self.go_on(&path, place, ahead),
             None => {
                 self.is_complete = false;
                 Ok(())

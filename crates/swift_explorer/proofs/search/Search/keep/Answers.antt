@@ -19,6 +19,6 @@ pub returns : goal.returns
 returns c =
     let x = c.args.self.now in
     let key = c.in_ok-key.key.items in
-    let n : Node = record { before = c.args.before; step = c.args.step } in
+    let n : Node = record { before = c.args.before; moves = c.args.moves } in
     let room : length x.nodes.items < x.limit = omega (arith, c.if-len-self.false, c.len.ensures) in
     record { keeps = keeps_new x c.args.history key n c.push.new.self c.add.new.self c.requires.sound c.in_ok-key.ensures c.requires.before c.requires.path c.in_ok-push.ensures.items (λ k has. (c.in_ok-add.ensures.ok k).0 has) room }
