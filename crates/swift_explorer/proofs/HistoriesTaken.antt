@@ -1,6 +1,6 @@
 -- Histories that are taken from those that were kept.
-use Rattle.std.proofs.Common.{◌≡◌, ℕ, List, refl, sym, subst, ap, ◌∙◌}
-use Rattle.std.specs.Prelude.{Option, Some, nat_eq, slice_get, unwrap_or}
+use Rattle.std.proofs.Common.{◌≡◌, ◌⊎◌, ℕ, Bool, true, false, List, cond, inl, inr, refl, sym, subst, ap, ◌∙◌}
+use Rattle.std.specs.Prelude.{None, Option, Some, nat_eq, slice_get, unwrap_or}
 use Rattle.std.specs.HashMap.{get}
 use Rattle.swift_script.specs.Scripts.{ScriptView}
 use Rattle.swift_explorer.specs.declared.moves.Move.{Move}
@@ -23,6 +23,8 @@ sound_taken script x z is rest = record {
   keyed = is.keyed;
   once = is.once;
   met = is.met;
+  told = is.told;
+  short = is.short;
   histories = λ q k at. is.histories q k (rest q k at);
 }
 
@@ -36,3 +38,13 @@ path_found script x is place path there k at =
     let was = is.histories place k at in
     let same : was.0 ≡ path = ap (λ (o : Option (List Move)). unwrap_or o path) (sym was.1 ∙ there) in
     subst (λ (ms : List Move). IsPath script ms k.history) same was.2
+
+-- what stands in a table after one place was emptied, and after one was filled
+
+pub emptied : {A : Type 0} (b : Bool) (x y : Option A) → x ≡ cond b None y → (k : A) → x ≡ Some k → y ≡ Some k
+emptied true x y is k at = cc
+emptied false x y is k at = sym is ∙ at
+
+pub filled : {A : Type 0} (b : Bool) (x y : Option A) (v : A) → x ≡ cond b (Some v) y → (k : A) → x ≡ Some k → (y ≡ Some k) ⊎ ((b ≡ true) × (v ≡ k))
+filled true x y v is k at = inr (refl, cc)
+filled false x y v is k at = inl (sym is ∙ at)

@@ -60,7 +60,7 @@ below_not limit n is lt = omega (arith, is, lt)
 
 -- it is kept
 module _ (x : Search) (history : SearchedHistory) (key : List ℕ) (n : Node) (nodes : Vec Node Global) (keys : List (List ℕ)) (sound : IsSound (arc_value x.script) x) (keyed : IsKeyOf history key)
-    (may : MayGoOn (paths_of x.nodes.items) n.before) (p : IsPath (arc_value x.script) (path_after (paths_of x.nodes.items) n.before n.step) history)
+    (may : MayGoOn (paths_of x.nodes.items) n.before) (p : IsPath (arc_value x.script) (path_after (paths_of x.nodes.items) n.before n.moves.items) history)
     (nodes_are : nodes.items ≡ x.nodes.items ++ n ∷ []) (keys_are : (k : List ℕ) → Contains keys k → Contains x.keys k ⊎ (key ≡ k)) (room : length x.nodes.items < x.limit)
     (z : Search) (place : ℕ) (kept : Option KeptHistory) (place_is : place ≡ length x.nodes.items) (copied : IfSome kept (λ k. IsCopy history k.history))
     (there : (q : ℕ) (k : KeptHistory) → get nat_eq z.histories q ≡ Some k → WasThere (get nat_eq x.histories) place kept q k) where
@@ -71,7 +71,7 @@ module _ (x : Search) (history : SearchedHistory) (key : List ℕ) (n : Node) (n
   y = record x { nodes = nodes; keys = keys; histories = z.histories }
 
   abbrev path : List Move
-  path = path_after (paths_of x.nodes.items) n.before n.step
+  path = path_after (paths_of x.nodes.items) n.before n.moves.items
 
   grown : HasGrown x y
   grown = record {
@@ -121,6 +121,8 @@ module _ (x : Search) (history : SearchedHistory) (key : List ℕ) (n : Node) (n
       keyed = sound.keyed;
       once = sound.once;
       met = λ is. absurd (below_not x.limit (length x.nodes.items) (sound.met is) room);
+      told = sound.told;
+      short = sound.short;
       histories = all_there;
     };
     kept = λ _ blocks of. record {

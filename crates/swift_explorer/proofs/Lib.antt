@@ -33,3 +33,5 @@ pub mod DigestCodes
 pub mod Within
 pub mod Steps
 pub mod CardSteps
+mod Marks
+mod LooksAway

@@ -21,7 +21,7 @@ pub returns : goal.returns
 returns c =
     let x = c.args.self.now in
     let key = c.in_ok-key.key.items in
-    let n : Node = record { before = c.args.before; step = c.args.step } in
+    let n : Node = record { before = c.args.before; moves = c.args.moves } in
     let room : length x.nodes.items < x.limit = omega (arith, c.if-len-self.false, c.len.ensures) in
     let z : Search = record x { histories = c.put_history.new.histories } in
     record {
