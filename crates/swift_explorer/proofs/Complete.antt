@@ -1,29 +1,41 @@
 -- A search that has gone on from each history which it has kept has found each outcome.
-use Rattle.std.proofs.Common.{◌≡◌, ◌⊎◌, ◌<◌, ◌≤◌, ℕ, ℤ, zero, suc, List, [], ◌∷◌, ◌++◌, append_assoc, append-nil, length, refl, sym, subst, ap, ap₂, ◌∙◌, arith, inl, inr}
-use Rattle.std.specs.Prelude.{IsTrue, None, Option, slice_index_or, unwrap_or, Contains}
+use Rattle.std.proofs.Common.{◌≡◌, ◌<◌, ◌≤◌, ℕ, ℤ, List, [], ◌∷◌, ◌++◌, append_assoc, length, refl, sym, subst, ap, ap₂, ◌∙◌, arith, inl, inr}
+use Rattle.std.specs.Prelude.{IsTrue, None, Option, Some, Contains, slice_get, unwrap_or}
 use Rattle.std.specs.Arc.{arc_value}
+use Rattle.std.proofs.lemmas.Bool.{false≢true}
 use Rattle.std.proofs.lemmas.Option.{slice_get_within}
+use Rattle.swift_types.specs.declared.env.Env.{Env}
 use Rattle.swift_script.specs.Scripts.{ScriptView}
 use Rattle.swift_journal.specs.Checkpoints.{CheckpointView, FoldedView}
-use Rattle.swift_history.specs.Histories.{AllStand, Block, ReportView, folded_in, folded_of}
+use Rattle.swift_journal.specs.Records.{RecordView}
+use Rattle.swift_history.specs.Histories.{AllStand, Block, ReportView, added, begun, folded, ran}
 use Rattle.swift_laws.specs.Laws.{ActorsHaveExecutors}
-use Rattle.swift_course.specs.Course.{start_of, starts}
+use Rattle.swift_course.specs.Course.{standing, start_of, starts}
 use Rattle.swift_course.proofs.Starts.{many_starts}
 use Rattle.swift_digest.specs.Explored.{FoldsNone, IsOutcome, StartsFresh, state_of}
-use Rattle.swift_history.specs.Orderly.{AllAllowed, IsOrderly, IsOrderlyLegal}
-use Rattle.swift_digest.proofs.Outcomes.{Made, NoneFolded, made, none_in, not_folded, outcome_too}
+use Rattle.swift_digest.specs.Futures.{LeadAlike}
+use Rattle.swift_history.specs.Orderly.{IsOrderly, IsOrderlyLegal}
+use Rattle.swift_digest.proofs.Outcomes.{Made, NoneFolded, made, outcome_too}
 use Rattle.swift_digest.proofs.SameStands.{all_push}
+use Rattle.swift_reordering.specs.Away.{job_looks_away}
+use Rattle.swift_reordering.specs.FusedSteps.{HasRoom, MayStep}
+use Rattle.swift_reordering.proofs.Closed.{HasAll, first_one, has_all, outcome_near}
+use Rattle.swift_reordering.proofs.Priorities.{cons_cases, none_there}
+use Rattle.swift_reordering.proofs.Walks.{course_none}
 use Rattle.swift_explorer.specs.declared.moves.Move.{Move}
+use Rattle.swift_explorer.specs.declared.moves.Move.TheVariants as step
 use Rattle.swift_explorer.specs.declared.outcome.RunOutcome.{RunOutcome}
 use Rattle.swift_explorer.specs.declared.history.SearchedHistory.{SearchedHistory}
 use Rattle.swift_explorer.specs.declared.search.Search.{Search}
 use Rattle.swift_explorer.specs.Outcomes.{HasEachOutcome, NeverBreaks, Tells}
-use Rattle.swift_explorer.specs.Steps.{AreSteps, IsBroken}
+use Rattle.swift_explorer.specs.Steps.{AreSteps, BreaksInvariant, IsBroken}
 use Rattle.swift_explorer.specs.HistoryInside.{IsHistory, IsPath}
-use Rattle.swift_explorer.specs.SearchInside.{HasGoneOn, HasLike, IsExpanded, IsExpandedAt, IsSound, Keeps, LeadsTo, paths_of}
+use Rattle.swift_explorer.specs.SearchInside.{HasGoneOn, HasLike, IsExpanded, IsExpandedAt, IsSound, Keeps, LeadsTo, MayFollow, TurnWasTried, WasTried, paths_of}
 use Rattle.swift_explorer.proofs.Ended.{starts_at}
 use Rattle.swift_explorer.proofs.KnownEnds.{same_list}
 use Rattle.swift_explorer.proofs.Nodes.{paths_length}
+use Rattle.swift_explorer.proofs.Orderly.{allowed_push}
+use Rattle.swift_explorer.proofs.Paths.{steps_push}
 use Rattle.swift_explorer.proofs.Trying.{like_too, other_block}
 
 -- fresh checkpoints are those that a run starts with
@@ -33,13 +45,6 @@ fresh_starts script cps fresh =
     (let is = fresh.each e c at in
     let same : c ≡ start_of script e = ap₂ (λ (fields : List (List ℤ)) (folded : List FoldedView). record { fields = fields; folded = folded }) is.0 is.1 in
     same ∙ sym (starts_at script e d also)))
-
-none_there : {A : Type 0} (x : A) → Contains [] x → ⊥
-none_there x has = let lt = has.1 in omega (arith, lt)
-
-first_or : {A : Type 0} (y : A) (ys : List A) (x : A) (k : ℕ) → k < length (y ∷ ys) → slice_index_or (y ∷ ys) k x ≡ x → (y ≡ x) ⊎ Contains ys x
-first_or y ys x zero lt at = inl at
-first_or y ys x (suc k) lt at = inr (k, omega (arith, lt), at)
 
 no_steps : (bs : List Block) → AreSteps 0 [] bs → bs ≡ []
 no_steps [] is = refl
@@ -63,51 +68,149 @@ gone_none script s z history own p keeps =
       expanded = λ _ place low. absurd (omega (arith, low));
     })
 
-module _ (script : ScriptView) (x : Search) (first : HasLike script (paths_of x.nodes.items) []) (each : (place : ℕ) → place < length x.nodes.items → IsExpandedAt script x place) (on : ActorsHaveExecutors script) where
-  expanded_at : (bs : List Block) (like : HasLike script (paths_of x.nodes.items) bs) → (path : List Move) × LeadsTo script path like.others × IsExpanded script x path
-  expanded_at bs like =
-      let within = slice_get_within (paths_of x.nodes.items) like.place like.path like.there in
-      let is = each like.place (subst (λ (n : ℕ). like.place < n) (paths_length x.nodes.items) within) in
-      let same : like.path ≡ is.0 = ap (λ (o : Option (List Move)). unwrap_or o like.path) (sym like.there ∙ is.1) in
-      (is.0, subst (λ (path : List Move). LeadsTo script path like.others) same like.leads, is.2)
+-- the steps to one of the nodes lead to this history
+record IsNode (script : ScriptView) (x : Search) (h : List Block) : Type 0 where
+  place : ℕ
+  path : List Move
+  there : slice_get (paths_of x.nodes.items) place ≡ Some path
+  leads : LeadsTo script path h
 
-  walk : (bs before : List Block) → AllStand script (starts script) [] before → AllStand script (starts script) before bs → AllAllowed (IsOrderly script) before bs → NoneFolded script on (starts script) bs
-      → HasLike script (paths_of x.nodes.items) before
-      → HasLike script (paths_of x.nodes.items) (before ++ bs) × ((b : Block) → Contains bs b → x.broken ≡ None → IsBroken b → ⊥)
-  walk [] before stood stand may none like = (subst (HasLike script (paths_of x.nodes.items)) (sym (append-nil before)) like, λ b has. absurd (none_there b has))
-  walk (b ∷ bs) before stood stand may none like =
-      let cps = starts script in
-      let o = other_block script before like.others b stood like.leads.stand like.alike (record { unfolded = not_folded script on cps before b bs stood stand.0 none; stands = stand.0; orderly = may.0 }) in
-      let at = expanded_at before like in
-      let was = at.2.tried like.others o.block at.1 o.may in
-      let next = like_too script (paths_of x.nodes.items) (before ++ b ∷ []) (like.others ++ o.block ∷ []) o.alike was.kept in
-      let rest = walk bs (before ++ b ∷ []) (all_push script cps before [] b stood stand.0) stand.1 may.1 (λ e low. (none_in script on cps (folded_in e b) (folded_of e bs) (none e low)).1) next in (
-        subst (HasLike script (paths_of x.nodes.items)) (append_assoc before (b ∷ []) bs) rest.0,
-        λ c has whole breaks. elim (first_or b bs c has.0 has.1 has.2) [
-          | inl here ↦ was.whole whole (o.breaks (subst IsBroken (sym here) breaks))
-          | inr later ↦ rest.1 c later whole breaks
-        ],
-      )
+-- a step was tried: it leads alike to the history of a node, and where no turn was found that breaks an invariant, none of its turns does
+record WasStepped (script : ScriptView) (x : Search) (h step : List Block) : Type 0 where
+  like : HasLike script (paths_of x.nodes.items) (h ++ step)
+  whole : x.broken ≡ None → (e : ℕ) (r : RecordView) → Contains step (ran e r) → BreaksInvariant r.exit → ⊥
+
+one_turn : (b : Block) (e : ℕ) (r : RecordView) → Contains (b ∷ []) (ran e r) → b ≡ ran e r
+one_turn b e r has = elim (cons_cases b [] (ran e r) has) [ inl here ↦ here | inr more ↦ absurd (none_there (ran e r) more) ]
+
+turn_after : (t n : ℕ) (env : Env) (b : Block) (e : ℕ) (r : RecordView) → Contains (begun t n env ∷ b ∷ []) (ran e r) → b ≡ ran e r
+turn_after t n env b e r has = elim (cons_cases (begun t n env) (b ∷ []) (ran e r) has) [ inl here ↦ absurd (cc here) | inr more ↦ one_turn b e r more ]
+
+node_of : (script : ScriptView) (x : Search) (bs : List Block) (like : HasLike script (paths_of x.nodes.items) bs) → IsNode script x like.others
+node_of script x bs like = record { place = like.place; path = like.path; there = like.there; leads = like.leads }
+
+module _ (script : ScriptView) (x : Search) (first : HasLike script (paths_of x.nodes.items) []) (each : (place : ℕ) → place < length x.nodes.items → IsExpandedAt script x place) (on : ActorsHaveExecutors script) where
+  abbrev cps : List CheckpointView
+  cps = starts script
+
+  expanded_at : (h : List Block) (k : IsNode script x h) → (path : List Move) × LeadsTo script path h × IsExpanded script x path
+  expanded_at h k =
+      let within = slice_get_within (paths_of x.nodes.items) k.place k.path k.there in
+      let is = each k.place (subst (λ (n : ℕ). k.place < n) (paths_length x.nodes.items) within) in
+      let same : k.path ≡ is.0 = ap (λ (o : Option (List Move)). unwrap_or o k.path) (sym k.there ∙ is.1) in
+      (is.0, subst (λ (path : List Move). LeadsTo script path h) same k.leads, is.2)
+
+  stepped_by : (h : List Block) (b : Block) → WasTried script x h b → WasStepped script x h (b ∷ [])
+  stepped_by h b was = record { like = was.kept; whole = λ none e r has breaks. was.whole none (subst IsBroken (sym (one_turn b e r has)) breaks) }
+
+  -- a block that begins no turn that looks away
+  one_block : (h : List Block) (b : Block) (k : IsNode script x h) → MayFollow script h b → ((path : List Move) → TurnWasTried script x path h b → ⊥) → WasStepped script x h (b ∷ [])
+  one_block h b k may never =
+      let at = expanded_at h k in
+      elim (at.2.tried h b at.1 may) [ inl was ↦ stepped_by h b was | inr turn ↦ absurd (never at.0 turn) ]
+
+  -- a turn that looks away begins and runs
+
+  abbrev Both : List Block → ℕ → ℕ → Env → ℕ → RecordView → Type 0
+  Both h t n env e r = WasStepped script x h (begun t n env ∷ ran e r ∷ [])
+
+  both_by : (h : List Block) (t n : ℕ) (env : Env) (e : ℕ) (r : RecordView) → WasTried script x (h ++ begun t n env ∷ []) (ran e r) → Both h t n env e r
+  both_by h t n env e r was = record {
+    like = subst (HasLike script (paths_of x.nodes.items)) (append_assoc h (begun t n env ∷ []) (ran e r ∷ [])) was.kept;
+    whole = λ none k q has breaks. was.whole none (subst IsBroken (sym (turn_after t n env (ran e r) k q has)) breaks);
+  }
+
+  -- it was tried as it begins, and as it runs after the history that was kept then
+  one_by_one : (h : List Block) (t n : ℕ) (env : Env) (e : ℕ) (r : RecordView) → AllStand script cps [] (h ++ begun t n env ∷ []) → MayFollow script (h ++ begun t n env ∷ []) (ran e r) → WasTried script x h (begun t n env) → Both h t n env e r
+  one_by_one h t n env e r stand may was =
+      let before = h ++ begun t n env ∷ [] in
+      let like = was.kept in
+      let o = other_block script before like.others (ran e r) stand like.leads.stand like.alike may in
+      let at = expanded_at like.others (node_of script x before like) in
+      elim (at.2.tried like.others o.block at.1 o.may) [
+        | inl then_was ↦ both_by h t n env e r (record {
+          kept = like_too script (paths_of x.nodes.items) (before ++ ran e r ∷ []) (like.others ++ o.block ∷ []) o.alike then_was.kept;
+          whole = λ none breaks. then_was.whole none (o.breaks breaks);
+        })
+        | inr turn ↦ absurd (o.back (step.Begin turn.task) turn.does)
+      ]
+
+  -- it was tried as it begins and runs at once
+  at_once : (h : List Block) (t n : ℕ) (env : Env) (e : ℕ) (r : RecordView) (path : List Move) → LeadsTo script path h → MayFollow script h (begun t n env) → MayFollow script (h ++ begun t n env ∷ []) (ran e r) → r.task ≡ t
+      → TurnWasTried script x path h (begun t n env) → Both h t n env e r
+  at_once h t n env e r path leads may then_may own turn =
+      let b = begun t n env in
+      let begins : LeadsTo script (path ++ step.Begin turn.task ∷ []) (h ++ b ∷ []) = record {
+        steps = steps_push path 0 h (step.Begin turn.task) b leads.steps turn.does;
+        stand = all_push script cps h [] b leads.stand may.stands;
+        orderly = allowed_push (IsOrderly script) h [] b leads.orderly may.orderly;
+      } in
+      both_by h t n env e r (turn.tried (h ++ b ∷ []) (ran e r) begins then_may (own ∙ turn.does))
+
+  stepped : (h more : List Block) → IsNode script x h → MayStep script cps h more → WasStepped script x h more
+  stepped h [] k may = absurd may.fused
+  stepped h (folded e f ∷ bs) k may = absurd may.fused
+  stepped h (added r ∷ b ∷ bs) k may = absurd may.fused
+  stepped h (ran e r ∷ b ∷ bs) k may = absurd may.fused
+  stepped h (added r ∷ []) k may = one_block h (added r) k (record { unfolded = tt; stands = may.stands.0; orderly = may.orderly.0 }) (λ path turn. turn.does)
+  stepped h (ran e r ∷ []) k may = one_block h (ran e r) k (record { unfolded = tt; stands = may.stands.0; orderly = may.orderly.0 }) (λ path turn. turn.does)
+  stepped h (begun t n env ∷ []) k may = one_block h (begun t n env) k (record { unfolded = tt; stands = may.stands.0; orderly = may.orderly.0 })
+      (λ path turn. false≢true (sym may.fused ∙ ap (λ (u : ℕ). job_looks_away script ((standing script h).jobs u)) turn.does ∙ turn.away))
+  stepped h (begun t n env ∷ ran e r ∷ []) k may =
+      let b = begun t n env in
+      let may_begin : MayFollow script h b = record { unfolded = tt; stands = may.stands.0; orderly = may.orderly.0 } in
+      let may_run : MayFollow script (h ++ b ∷ []) (ran e r) = record { unfolded = tt; stands = may.stands.1.0; orderly = may.orderly.1.0 } in
+      let at = expanded_at h k in
+      elim (at.2.tried h b at.1 may_begin) [
+        | inl was ↦ one_by_one h t n env e r (all_push script cps h [] b at.1.stand may.stands.0) may_run was
+        | inr turn ↦ at_once h t n env e r at.0 at.1 may_begin may_run may.fused.1 turn
+      ]
+  stepped h (begun t n env ∷ added r ∷ bs) k may = absurd may.fused
+  stepped h (begun t n env ∷ begun u m other ∷ bs) k may = absurd may.fused
+  stepped h (begun t n env ∷ folded e f ∷ bs) k may = absurd may.fused
+  stepped h (begun t n env ∷ ran e r ∷ b ∷ bs) k may = absurd may.fused
+
+  stand_of : (h : List Block) → IsNode script x h → AllStand script cps [] h
+  stand_of h k = k.leads.stand
+
+  room_of : (h : List Block) → IsNode script x h → HasRoom script h
+  room_of h k = (let at = expanded_at h k in at.2.room h at.1)
+
+  leads_of : (h more : List Block) → IsNode script x h → MayStep script cps h more → (k : List Block) × IsNode script x k × LeadAlike script cps (h ++ more) k
+  leads_of h more k may = (let like = (stepped h more k may).like in (like.others, node_of script x (h ++ more) like, like.alike))
 
   module _ (report : ReportView) (orderly : IsOrderlyLegal script report) (folds : FoldsNone report) where
     made_is : Made script report orderly.legal
     made_is = made script report orderly.legal folds
 
-    cps_are : report.checkpoints ≡ starts script
+    cps_are : report.checkpoints ≡ cps
     cps_are = fresh_starts script report.checkpoints made_is.fresh
 
-    walked : HasLike script (paths_of x.nodes.items) orderly.legal.blocks × ((b : Block) → Contains orderly.legal.blocks b → x.broken ≡ None → IsBroken b → ⊥)
-    walked = walk orderly.legal.blocks [] tt (subst (λ (cps : List CheckpointView). AllStand script cps [] orderly.legal.blocks) cps_are orderly.legal.stand) orderly.orderly made_is.none first
+    stand_is : AllStand script cps [] orderly.legal.blocks
+    stand_is = subst (λ (cs : List CheckpointView). AllStand script cs [] orderly.legal.blocks) cps_are orderly.legal.stand
+
+    none_is : NoneFolded script on cps orderly.legal.blocks
+    none_is = made_is.none
+
+    walked : HasAll script on cps (IsNode script x) stand_of room_of leads_of [] orderly.legal.blocks
+    walked = has_all script on cps (IsNode script x) stand_of room_of leads_of orderly.legal.blocks [] (course_none script cps) stand_is orderly.orderly none_is
+        (first_one script on cps (IsNode script x) stand_of room_of leads_of first.others (node_of script x [] first) first.alike)
 
     has_outcome : (o : RunOutcome) × Contains x.outcomes.items o × Tells o report
     has_outcome =
-        let like = walked.0 in
-        let at = expanded_at orderly.legal.blocks like in
-        let of : IsOutcome script (state_of script (starts script) orderly.legal.blocks) report = subst (λ (cps : List CheckpointView). IsOutcome script (state_of script cps orderly.legal.blocks) report) cps_are made_is.outcome in
-        at.2.ends like.others at.1 report (record { outcome = outcome_too script (starts script) report orderly.legal.blocks like.others like.alike of; many = orderly.legal.executors.2 })
+        let one = walked.one in
+        let at = expanded_at one.kept one.is_kept in
+        let of : IsOutcome script (state_of script cps orderly.legal.blocks) report = subst (λ (cs : List CheckpointView). IsOutcome script (state_of script cs orderly.legal.blocks) report) cps_are made_is.outcome in
+        at.2.ends one.kept at.1 report
+        (record { outcome = outcome_too script cps report one.others one.kept one.lead (outcome_near script cps report orderly.legal.blocks one.others one.put_off of); many = orderly.legal.executors.2 })
 
     breaks_none : x.broken ≡ None → (b : Block) → Contains orderly.legal.blocks b → IsBroken b → ⊥
-    breaks_none whole b has breaks = walked.1 b has whole breaks
+    breaks_none whole (ran e r) has breaks =
+        let is = walked.tried e r has in
+        (stepped is.before is.step is.is_kept is.may).whole whole e is.has.turn is.has.there (subst BreaksInvariant (sym is.has.exit_is) breaks)
+    breaks_none whole (added r) has breaks = breaks
+    breaks_none whole (begun t n env) has breaks = breaks
+    breaks_none whole (folded e f) has breaks = breaks
 
 -- a search that has gone on from each history that it has kept, and left none out, has found all
 module _ (x : Search) (next : ℕ) (gone : HasGoneOn (arc_value x.script) x next) (last : length x.nodes.items ≤ next) (is : IsTrue x.is_complete) where

@@ -7,7 +7,10 @@ use Rattle.swift_script.specs.Scripts.{ScriptView}
 use Rattle.swift_history.specs.Histories.{Block}
 use Rattle.swift_explorer.specs.declared.moves.Move.{Move}
 use Rattle.swift_explorer.specs.declared.search.Search.{Search}
-use Rattle.swift_explorer.specs.SearchInside.{HasGoneOn, HasGrown, HasLike, IsExpandedAt, IsKept, IsSound, StepWasTried, WasTried, paths_of}
+use Rattle.swift_explorer.specs.declared.fused.Step.{Step}
+use Rattle.swift_explorer.specs.declared.fused.Step.TheVariants.{Turn}
+use Rattle.swift_explorer.specs.Outcomes.{RunsShort}
+use Rattle.swift_explorer.specs.SearchInside.{HasGoneOn, HasGrown, HasLike, IsExpandedAt, IsKept, IsSound, StepWasTried, TurnWasTried, WasTried, paths_of}
 use Rattle.swift_explorer.proofs.Ended.{lt_or}
 use Rattle.swift_explorer.proofs.Nodes.{path_there, paths_length}
 
@@ -47,8 +50,11 @@ kept_grown script x y key grown kept = record {
 tried_grown : (script : ScriptView) (x y : Search) (blocks : List Block) (b : Block) → HasGrown x y → WasTried script x blocks b → WasTried script y blocks b
 tried_grown script x y blocks b grown was = record { kept = like_grown script x y _ grown was.kept; whole = λ none. was.whole (grown.broken none) }
 
-pub step_grown : (script : ScriptView) (x y : Search) (path : List Move) (step : Move) → HasGrown x y → StepWasTried script x path step → StepWasTried script y path step
+pub step_grown : (script : ScriptView) (x y : Search) (path : List Move) (step : Step) → HasGrown x y → StepWasTried script x path step → StepWasTried script y path step
 step_grown script x y path step grown was blocks b leads may does = tried_grown script x y blocks b grown (was blocks b leads may does)
+
+turn_grown : (script : ScriptView) (x y : Search) (path : List Move) (blocks : List Block) (b : Block) → HasGrown x y → TurnWasTried script x path blocks b → TurnWasTried script y path blocks b
+turn_grown script x y path blocks b grown was = record { task = was.task; does = was.does; away = was.away; tried = step_grown script x y path (Turn was.task) grown was.tried }
 
 pub expanded_grown : (script : ScriptView) (x y : Search) (place : ℕ) → HasGrown x y → IsExpandedAt script x place → IsExpandedAt script y place
 expanded_grown script x y place grown is = (
@@ -56,7 +62,11 @@ expanded_grown script x y place grown is = (
   grown.paths place is.0 is.1,
   record {
     ends = λ blocks leads report of. (let o = is.2.ends blocks leads report of in (o.0, grown.outcomes o.0 o.1, o.2));
-    tried = λ blocks b leads may. tried_grown script x y blocks b grown (is.2.tried blocks b leads may);
+    room = is.2.room;
+    tried = λ blocks b leads may. elim (is.2.tried blocks b leads may) [
+      | inl one ↦ inl (tried_grown script x y blocks b grown one)
+      | inr turn ↦ inr (turn_grown script x y is.0 blocks b grown turn)
+    ];
   },
 )
 
@@ -90,7 +100,7 @@ gone_one script x y next gone lt grown sound expanded = record {
 
 pub sound_full : (script : ScriptView) (x : Search) → IsSound script x → length x.nodes.items ≡ x.limit → IsSound script (record x { is_complete = false; met_limit = true })
 sound_full script x is full =
-    record { script_is = is.script_is; outcomes = is.outcomes; broken = is.broken; nodes = is.nodes; few = is.few; keys = is.keys; ends = is.ends; keyed = is.keyed; once = is.once; met = λ _. full }
+    record { script_is = is.script_is; outcomes = is.outcomes; broken = is.broken; nodes = is.nodes; few = is.few; keys = is.keys; ends = is.ends; keyed = is.keyed; once = is.once; met = λ _. full; told = is.told; short = is.short; histories = is.histories }
 
 pub grown_full : (x : Search) → HasGrown x (record x { is_complete = false; met_limit = true })
 grown_full x = record { script = refl; limit = refl; paths = λ i path at. at; outcomes = λ o has. has; broken = λ none. none; complete = λ is. absurd (false≢true is) }
@@ -98,7 +108,16 @@ grown_full x = record { script = refl; limit = refl; paths = λ i path at. at; o
 -- a search that leaves a history out
 
 pub sound_left : (script : ScriptView) (x : Search) → IsSound script x → IsSound script (record x { is_complete = false })
-sound_left script x is = record { script_is = is.script_is; outcomes = is.outcomes; broken = is.broken; nodes = is.nodes; few = is.few; keys = is.keys; ends = is.ends; keyed = is.keyed; once = is.once; met = is.met }
+sound_left script x is = record { script_is = is.script_is; outcomes = is.outcomes; broken = is.broken; nodes = is.nodes; few = is.few; keys = is.keys; ends = is.ends; keyed = is.keyed; once = is.once; met = is.met; told = is.told; short = is.short; histories = is.histories }
 
 pub grown_left : (x : Search) → HasGrown x (record x { is_complete = false })
 grown_left x = record { script = refl; limit = refl; paths = λ i path at. at; outcomes = λ o has. has; broken = λ none. none; complete = λ is. absurd (false≢true is) }
+
+-- a search that has met a history without room
+
+pub sound_short : (script : ScriptView) (x : Search) → IsSound script x → RunsShort script → IsSound script (record x { is_complete = false; ran_short = true })
+sound_short script x is short =
+    record { script_is = is.script_is; outcomes = is.outcomes; broken = is.broken; nodes = is.nodes; few = is.few; keys = is.keys; ends = is.ends; keyed = is.keyed; once = is.once; met = is.met; told = is.told; short = λ _. short; histories = is.histories }
+
+pub grown_short : (x : Search) → HasGrown x (record x { is_complete = false; ran_short = true })
+grown_short x = record { script = refl; limit = refl; paths = λ i path at. at; outcomes = λ o has. has; broken = λ none. none; complete = λ is. absurd (false≢true is) }

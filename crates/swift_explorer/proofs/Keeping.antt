@@ -1,6 +1,7 @@
 -- A history is kept, where none is that has its key.
 use Rattle.std.proofs.Common.{◌≡◌, ◌⊎◌, ◌<◌, ◌≤◌, ℕ, true, false, List, [], ◌∷◌, ◌++◌, Vec, length, refl, sym, subst, ap, ◌∙◌, arith, inl, inr}
-use Rattle.std.specs.Prelude.{Some, slice_get, Contains}
+use Rattle.std.specs.Prelude.{IfSome, Option, Some, nat_eq, slice_get, Contains}
+use Rattle.std.specs.HashMap.{get}
 use Rattle.std.specs.declared.alloc.Global.{Global}
 use Rattle.std.specs.Arc.{arc_value}
 use Rattle.std.specs.List.{list_any}
@@ -12,10 +13,13 @@ use Rattle.swift_explorer.specs.declared.moves.Move.{Move}
 use Rattle.swift_explorer.specs.declared.history.SearchedHistory.{SearchedHistory}
 use Rattle.swift_explorer.specs.declared.search.Node.{Node}
 use Rattle.swift_explorer.specs.declared.search.Search.{Search}
-use Rattle.swift_explorer.specs.HistoryInside.{IsPath}
+use Rattle.swift_explorer.specs.declared.queue.KeptHistory.{KeptHistory}
+use Rattle.swift_explorer.specs.HistoryInside.{IsCopy, IsPath}
+use Rattle.swift_explorer.specs.QueueInside.{AreHistories, WasThere}
 use Rattle.swift_explorer.specs.KeysInside.{IsKeyOf}
 use Rattle.swift_explorer.specs.SearchInside.{GoOn, HasGrown, IsKept, IsSound, Keeps, LeadsTo, MayGoOn, path_after, paths_of}
 use Rattle.swift_explorer.proofs.Alike.{alike_keys}
+use Rattle.swift_explorer.proofs.Copies.{path_copied}
 use Rattle.swift_explorer.proofs.Growing.{grown_full, grown_left, grown_none, kept_grown, sound_full, sound_left}
 use Rattle.swift_explorer.proofs.KeySets.{among_there}
 use Rattle.swift_explorer.proofs.Nodes.{on_push, path_here, paths_grow}
@@ -56,16 +60,18 @@ below_not limit n is lt = omega (arith, is, lt)
 
 -- it is kept
 module _ (x : Search) (history : SearchedHistory) (key : List ℕ) (n : Node) (nodes : Vec Node Global) (keys : List (List ℕ)) (sound : IsSound (arc_value x.script) x) (keyed : IsKeyOf history key)
-    (may : MayGoOn (paths_of x.nodes.items) n.before) (p : IsPath (arc_value x.script) (path_after (paths_of x.nodes.items) n.before n.step) history)
-    (nodes_are : nodes.items ≡ x.nodes.items ++ n ∷ []) (keys_are : (k : List ℕ) → Contains keys k → Contains x.keys k ⊎ (key ≡ k)) (room : length x.nodes.items < x.limit) where
+    (may : MayGoOn (paths_of x.nodes.items) n.before) (p : IsPath (arc_value x.script) (path_after (paths_of x.nodes.items) n.before n.moves.items) history)
+    (nodes_are : nodes.items ≡ x.nodes.items ++ n ∷ []) (keys_are : (k : List ℕ) → Contains keys k → Contains x.keys k ⊎ (key ≡ k)) (room : length x.nodes.items < x.limit)
+    (z : Search) (place : ℕ) (kept : Option KeptHistory) (place_is : place ≡ length x.nodes.items) (copied : IfSome kept (λ k. IsCopy history k.history))
+    (there : (q : ℕ) (k : KeptHistory) → get nat_eq z.histories q ≡ Some k → WasThere (get nat_eq x.histories) place kept q k) where
   abbrev script : ScriptView
   script = arc_value x.script
 
   abbrev y : Search
-  y = record x { nodes = nodes; keys = keys }
+  y = record x { nodes = nodes; keys = keys; histories = z.histories }
 
   abbrev path : List Move
-  path = path_after (paths_of x.nodes.items) n.before n.step
+  path = path_after (paths_of x.nodes.items) n.before n.moves.items
 
   grown : HasGrown x y
   grown = record {
@@ -89,6 +95,16 @@ module _ (x : Search) (history : SearchedHistory) (key : List ℕ) (n : Node) (n
     | inr same ↦ subst (IsKept script (paths_of y.nodes.items)) same (record { place = length x.nodes.items; path = path; there = here; blocks = p.blocks; leads = leads; keyed = (history, p.is, keyed) })
   ]
 
+  all_there : AreHistories script (paths_of y.nodes.items) (get nat_eq z.histories)
+  all_there q k is = elim (there q k is) [
+    | inl old ↦ (let was = sound.histories q k old in (was.0, grown.paths q was.0 was.1, was.2))
+    | inr new ↦ (
+      path,
+      subst (λ (i : ℕ). slice_get (paths_of y.nodes.items) i ≡ Some path) (sym (new.0 ∙ place_is)) here,
+      path_copied script path history k.history (subst (λ (o : Option KeptHistory). IfSome o (λ k. IsCopy history k.history)) new.1 copied) p,
+    )
+  ]
+
   pub keeps_new : Keeps x y history
   keeps_new = record {
     grown = grown;
@@ -105,6 +121,9 @@ module _ (x : Search) (history : SearchedHistory) (key : List ℕ) (n : Node) (n
       keyed = sound.keyed;
       once = sound.once;
       met = λ is. absurd (below_not x.limit (length x.nodes.items) (sound.met is) room);
+      told = sound.told;
+      short = sound.short;
+      histories = all_there;
     };
     kept = λ _ blocks of. record {
       place = length x.nodes.items;

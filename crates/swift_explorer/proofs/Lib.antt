@@ -1,3 +1,4 @@
+mod Copies
 mod Given
 mod Led
 mod Followed
@@ -7,7 +8,9 @@ mod Orderly
 mod Rows
 mod Ran
 mod Used
+mod Past
 mod Paths
+mod HistoriesTaken
 mod Sound
 mod SameMoves
 mod EachMove
@@ -30,3 +33,5 @@ pub mod DigestCodes
 pub mod Within
 pub mod Steps
 pub mod CardSteps
+mod Marks
+mod LooksAway

@@ -13,7 +13,7 @@ use Rattle.swift_explorer.specs.declared.history.Followed.TheVariants.{Broken, N
 use Rattle.swift_explorer.specs.Outcomes.{IsBrokenAfter}
 use Rattle.swift_explorer.specs.HistoryInside.{GoesOn, IsHistory, IsPath, IsSomeHistory, WasDone}
 
-steps_push : (ms : List Move) (n : ℕ) (bs : List Block) (m : Move) (b : Block) → AreSteps n ms bs → IsStep (roots_over n ms) m b → AreSteps n (ms ++ m ∷ []) (bs ++ b ∷ [])
+pub steps_push : (ms : List Move) (n : ℕ) (bs : List Block) (m : Move) (b : Block) → AreSteps n ms bs → IsStep (roots_over n ms) m b → AreSteps n (ms ++ m ∷ []) (bs ++ b ∷ [])
 steps_push [] n [] m b done is = (is, tt)
 steps_push [] n (c ∷ bs) m b done is = absurd done
 steps_push (k ∷ ms) n [] m b done is = absurd done

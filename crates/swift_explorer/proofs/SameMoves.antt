@@ -72,6 +72,14 @@ move_too script (step.Run t) (ran e r) c like is = subst (IsMoveOf (step.Run t))
 move_too script step.Add (ran e r) c like is = absurd is
 move_too script (step.Begin t) (ran e r) c like is = absurd is
 
+pub move_back : (script : ScriptView) (m : Move) (b c : Block) → IsLike script b c → IsMoveOf m c → IsMoveOf m b
+move_back script m (added r) c like is = subst (IsMoveOf m) (sym like) is
+move_back script m (begun u n env) c like is = subst (IsMoveOf m) (sym like) is
+move_back script m (folded e f) c like is = subst (IsMoveOf m) (sym like) is
+move_back script (step.Run t) (ran e r) c like is = subst (IsMoveOf (step.Run t)) like.2 is
+move_back script step.Add (ran e r) c like is = subst (IsMoveOf step.Add) like.2 is
+move_back script (step.Begin t) (ran e r) c like is = subst (IsMoveOf (step.Begin t)) like.2 is
+
 pub broken_too : (script : ScriptView) (b c : Block) → IsLike script b c → IsBroken b → IsBroken c
 broken_too script (added r) c like breaks = absurd breaks
 broken_too script (begun u n env) c like breaks = absurd breaks

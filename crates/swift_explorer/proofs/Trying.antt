@@ -1,30 +1,40 @@
 -- A step is tried after others.
-use Rattle.std.proofs.Common.{◌≡◌, List, [], ◌∷◌, ◌++◌, append_assoc, append-nil, sym, subst}
-use Rattle.std.specs.Prelude.{All, None}
+use Rattle.std.proofs.Common.{◌≡◌, ◌⊎◌, ◌↔◌, ◌<◌, ◌≤◌, ◌+◌, ◌*◌, ◌∙◌, ℕ, false, List, [], ◌∷◌, ◌++◌, append_assoc, append-nil, sym, subst, ap, arith, inl, inr}
+use Rattle.std.specs.Prelude.{All, IsTrue, None}
+use Rattle.std.proofs.lemmas.Bool.{false≢true}
 use Rattle.std.specs.Arc.{arc_value}
 use Rattle.std.proofs.lemmas.List.Elements.{All-contains}
-use Rattle.swift_script.specs.Scripts.{ScriptView}
+use Rattle.swift_types.specs.declared.limits.TheConstants.{TASKS, MADE}
+use Rattle.swift_script.specs.Scripts.{ScriptView, executor_count, root_count}
+use Rattle.swift_events.specs.declared.event.Event.{Event}
+use Rattle.swift_events.specs.Events.{tasks_of}
 use Rattle.swift_journal.specs.Checkpoints.{CheckpointView}
 use Rattle.swift_history.specs.Histories.{AllStand, Block, ReportView, Stands, added, begun, folded, ran}
-use Rattle.swift_course.specs.Course.{starts}
+use Rattle.swift_course.specs.Course.{standing, starts}
 use Rattle.swift_digest.specs.Explored.{IsNotFolded}
 use Rattle.swift_history.specs.Orderly.{AllAllowed, IsOrderly}
 use Rattle.swift_digest.specs.Futures.{LeadAlike}
 use Rattle.swift_digest.proofs.Outcomes.{lead_on, orderly_too, outcome_too, unfolded_too}
+use Rattle.swift_digest.proofs.SameLogs.{same_tasks}
 use Rattle.swift_digest.proofs.SameStands.{all_push, block_stands, lead_push}
+use Rattle.swift_reordering.proofs.Closed.{same_away}
 use Rattle.swift_explorer.specs.declared.moves.Move.{Move}
 use Rattle.swift_explorer.specs.declared.moves.Move.TheVariants as step
-use Rattle.swift_explorer.specs.declared.outcome.End.{End}
+use Rattle.swift_explorer.specs.declared.fused.Step.TheVariants.{One, Turn}
 use Rattle.swift_explorer.specs.declared.history.SearchedHistory.{SearchedHistory}
 use Rattle.swift_explorer.specs.declared.history.Followed.{Followed}
 use Rattle.swift_explorer.specs.declared.history.Followed.TheVariants.{Yes}
+use Rattle.swift_explorer.specs.declared.search.Ahead.{Ahead}
 use Rattle.swift_explorer.specs.declared.search.Search.{Search}
+use Rattle.swift_explorer.specs.Outcomes.{IfReached, IsOutcomeOf}
+use Rattle.swift_explorer.specs.FusedInside.{HasEachStep, IsChosen, IsRoomy}
 use Rattle.swift_explorer.specs.Steps.{IsBroken}
-use Rattle.swift_explorer.specs.HistoryInside.{GoesOn, HasEachMove, IsHistory, IsMoveOf, IsPath}
+use Rattle.swift_explorer.specs.HistoryInside.{GoesOn, IsHistory, IsMoveOf, IsPath}
 use Rattle.swift_explorer.specs.EndsInside.{HasEnd, IsKnownEnd, IsReportAfter}
-use Rattle.swift_explorer.specs.SearchInside.{HasLike, IsAhead, IsExpanded, IsFollowedBy, LeadsTo, MayFollow, StepWasTried, paths_of}
+use Rattle.swift_explorer.specs.SearchInside.{HasLike, IsAhead, IsExpanded, IsFollowedBy, LeadsTo, MayFollow, StepWasTried, TurnWasTried, WasTried, WasTriedLast, paths_of}
 use Rattle.swift_explorer.proofs.Keeping.{path_leads}
-use Rattle.swift_explorer.proofs.SameMoves.{broken_too, move_of_step, move_too, same_move, same_path}
+use Rattle.swift_explorer.proofs.Orderly.{before_or_past}
+use Rattle.swift_explorer.proofs.SameMoves.{broken_too, move_back, move_of_step, move_too, same_move, same_path}
 
 -- what may follow blocks, after others to which the same steps lead
 
@@ -32,6 +42,7 @@ pub record Other (script : ScriptView) (blocks others : List Block) (b : Block) 
   pub block : Block
   pub may : MayFollow script others block
   pub moves : (m : Move) → IsMoveOf m b → IsMoveOf m block
+  pub back : (m : Move) → IsMoveOf m block → IsMoveOf m b
   pub breaks : IsBroken b → IsBroken block
   pub alike : LeadAlike script (starts script) (blocks ++ b ∷ []) (others ++ block ∷ [])
 
@@ -45,6 +56,7 @@ other_block script blocks others b stand also alike may =
       block = c;
       may = record { unfolded = unfolded_too script cps b c o.like may.unfolded; stands = o.stands; orderly = orderly_too script cps blocks others alike b c o.like may.orderly };
       moves = λ m does. move_too script m b c o.like does;
+      back = λ m does. move_back script m b c o.like does;
       breaks = broken_too script b c o.like;
       alike = lead_push script cps blocks others alike b c o.like (all_push script cps blocks [] b stand may.stands) (all_push script cps others [] c also o.stands);
     }
@@ -66,7 +78,7 @@ like_too script paths blocks others alike like = record {
 
 -- a step that was followed was tried, where its history is kept
 pub step_tried : (script : ScriptView) (x : Search) (path : List Move) (m : Move) (history : SearchedHistory) (done : Followed)
-    → IsFollowedBy script path m history done → ((blocks : List Block) → IsHistory script blocks history → HasLike script (paths_of x.nodes.items) blocks) → (x.broken ≡ None → done ≡ Yes) → StepWasTried script x path m
+    → IsFollowedBy script path m history done → ((blocks : List Block) → IsHistory script blocks history → HasLike script (paths_of x.nodes.items) blocks) → (x.broken ≡ None → done ≡ Yes) → WasTriedLast script x path m
 step_tried script x path m history done f kept quiet blocks b leads may does =
     let o = other_led script path blocks f.blocks b leads f.leads may in
     let same = same_move script f.blocks o.block f.last m f.leads.stand o.may.stands f.follows.stands o.may.orderly f.follows.orderly (o.moves m does) f.does in
@@ -111,31 +123,65 @@ followed_by script path m x y done own goes p =
 
 -- what comes after a path
 
-pub ahead_is : (script : ScriptView) (path moves : List Move) (known : End) (x : SearchedHistory) → arc_value x.script ≡ script → IsPath script path x → HasEachMove x moves
-    → ((blocks : List Block) → IsHistory (arc_value x.script) blocks x → IsKnownEnd (arc_value x.script) blocks known) → IsAhead script path moves known
-ahead_is script path moves known x own p each ends =
+-- as many tasks as the book has, and the room that turns may need
+many_tasks : (x : SearchedHistory) (script : ScriptView) (blocks : List Block) → arc_value x.script ≡ script → IsHistory script blocks x
+    → tasks_of (root_count x.book.script) x.book.log + MADE * (executor_count (arc_value x.script) + 1) ≡ tasks_of (root_count script) (standing script blocks).log + MADE * (executor_count script + 1)
+many_tasks x script blocks own h =
+    ap (λ (s : ScriptView). tasks_of (root_count s) x.book.log + MADE * (executor_count (arc_value x.script) + 1)) h.book_is
+    ∙ ap (λ (l : List Event). tasks_of (root_count script) l + MADE * (executor_count (arc_value x.script) + 1)) h.led.log_is
+    ∙ ap (λ (s : ScriptView). tasks_of (root_count script) (standing script blocks).log + MADE * (executor_count s + 1)) own
+
+few_too : (n m k : ℕ) → n ≡ m → n ≤ k → m ≤ k
+few_too n m k same few = omega (arith, same, few)
+
+over : (n m k : ℕ) → n ≡ m → (n ≤ k → ⊥) → k < m
+over n m k same never = elim (before_or_past k m) [ inl lt ↦ lt | inr le ↦ absurd (never (few_too m n k (sym same) le)) ]
+
+pub ahead_is : (script : ScriptView) (path : List Move) (a : Ahead) (x : SearchedHistory) → arc_value x.script ≡ script → IsPath script path x → HasEachStep x a.steps.items → IfReached (IsOutcomeOf script) a.end
+    → ((blocks : List Block) → IsHistory (arc_value x.script) blocks x → IsKnownEnd (arc_value x.script) blocks a.end) → (IsTrue a.has_room ↔ IsRoomy x) → IsAhead script path a
+ahead_is script path a x own p each outcome ends room =
     let h : IsHistory (arc_value x.script) p.blocks x = subst (λ (s : ScriptView). IsHistory s p.blocks x) (sym own) p.is in
+    let many = many_tasks x script p.blocks own p.is in
     record {
       blocks = p.blocks;
       leads = path_leads script path x p;
       each = λ b may.
           (let there : MayFollow (arc_value x.script) p.blocks b = subst (λ (s : ScriptView). MayFollow s p.blocks b) (sym own) may in
-          each p.blocks b h there.unfolded there.stands there.orderly);
-      ends = subst (λ (s : ScriptView). IsKnownEnd s p.blocks known) own (ends p.blocks h);
+          subst (λ (s : ScriptView). IsChosen s a.steps.items p.blocks b) own (each p.blocks b h there.unfolded there.stands there.orderly));
+      outcome = outcome;
+      ends = subst (λ (s : ScriptView). IsKnownEnd s p.blocks a.end) own (ends p.blocks h);
+      room = λ is. few_too _ _ TASKS many (room.0 is);
+      short = λ none. record { blocks = p.blocks; stand = p.is.led.stand; orderly = p.is.orderly; many = over _ _ TASKS many (λ few. false≢true (sym none ∙ room.1 few)) };
     }
 
 report_too : (script : ScriptView) (blocks others : List Block) (report : ReportView) → LeadAlike script (starts script) blocks others → IsReportAfter script blocks report → IsReportAfter script others report
 report_too script blocks others report alike is = record { outcome = outcome_too script (starts script) report blocks others alike is.outcome; many = is.many }
 
--- a search that has tried each step after a path, and has its end, has gone on from it
-pub expanded : (script : ScriptView) (x : Search) (path moves : List Move) (known : End) → IsAhead script path moves known → All (StepWasTried script x path) moves
-    → ((blocks : List Block) → IsKnownEnd script blocks known → HasEnd script x.outcomes.items blocks) → IsExpanded script x path
-expanded script x path moves known ahead tried noted = record {
-  ends = λ blocks leads report of.
-      noted ahead.blocks ahead.ends report (report_too script blocks ahead.blocks report (same_path script blocks ahead.blocks path 0 leads.stand ahead.leads.stand leads.orderly ahead.leads.orderly leads.steps ahead.leads.steps) of);
-  tried = λ blocks b leads may.
-      (let o = other_led script path blocks ahead.blocks b leads ahead.leads may in
-      let one = ahead.each o.block o.may in
-      let was = All-contains (StepWasTried script x path) moves one.0 tried one.1 ahead.blocks o.block ahead.leads o.may one.2 in
-      record { kept = like_too script (paths_of x.nodes.items) (blocks ++ b ∷ []) (ahead.blocks ++ o.block ∷ []) o.alike was.kept; whole = λ none breaks. was.whole none (o.breaks breaks) });
-}
+one_tried : (script : ScriptView) (x : Search) (path : List Move) (m : Move) → StepWasTried script x path (One m) → WasTriedLast script x path m
+one_tried script x path m was = subst (λ (p : List Move). WasTriedLast script x p m) (append-nil path) was
+
+module _ (script : ScriptView) (x : Search) (path : List Move) (a : Ahead) (ahead : IsAhead script path a) (tried : All (StepWasTried script x path) a.steps.items) where
+  led_there : (blocks : List Block) → LeadsTo script path blocks → LeadAlike script (starts script) blocks ahead.blocks
+  led_there blocks leads = same_path script blocks ahead.blocks path 0 leads.stand ahead.leads.stand leads.orderly ahead.leads.orderly leads.steps ahead.leads.steps
+
+  tried_by : (blocks : List Block) (b : Block) → LeadsTo script path blocks → (o : Other script blocks ahead.blocks b) → IsChosen script a.steps.items ahead.blocks o.block → WasTried script x blocks b ⊎ TurnWasTried script x path blocks b
+  tried_by blocks b leads o (inl one) =
+      let was = one_tried script x path one.0 (All-contains (StepWasTried script x path) a.steps.items (One one.0) tried one.1) ahead.blocks o.block ahead.leads o.may one.2 in
+      inl (record { kept = like_too script (paths_of x.nodes.items) (blocks ++ b ∷ []) (ahead.blocks ++ o.block ∷ []) o.alike was.kept; whole = λ none breaks. was.whole none (o.breaks breaks) })
+  tried_by blocks b leads o (inr turn) = inr (record {
+    task = turn.0;
+    does = o.back (step.Begin turn.0) turn.2;
+    away = same_away script (starts script) blocks ahead.blocks (led_there blocks leads) turn.0.0 ∙ turn.3;
+    tried = All-contains (StepWasTried script x path) a.steps.items (Turn turn.0) tried turn.1;
+  })
+
+  -- a search that has tried each step after a path, and has its end, has gone on from it, where there is room
+  pub expanded : ((blocks : List Block) → IsKnownEnd script blocks a.end → HasEnd script x.outcomes.items blocks) → IsTrue a.has_room → IsExpanded script x path
+  expanded noted room = record {
+    ends = λ blocks leads report of. noted ahead.blocks ahead.ends report (report_too script blocks ahead.blocks report (led_there blocks leads) of);
+    room = λ blocks leads.
+        (let same = same_tasks (standing script blocks).log (standing script ahead.blocks).log (led_there blocks leads).standing.digest (root_count script) in
+        let few = ahead.room room in
+        omega (arith, same, few));
+    tried = λ blocks b leads may. (let o = other_led script path blocks ahead.blocks b leads ahead.leads may in tried_by blocks b leads o (ahead.each o.block o.may));
+  }

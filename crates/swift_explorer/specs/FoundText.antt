@@ -83,7 +83,8 @@ broken_text (Some schedule) = codes "a turn is undone by invariant\n" ++ schedul
 abbrev pub end_text : FoundOutcomes → List ℕ
 end_text f =
     if f.is_complete then codes ", found by a search that came to its end after " else
-    (if f.met_limit then codes ", and there may be more: the limit was met after " else codes ", and there may be more: not every history was followed after ")
+    (if f.met_limit then codes ", and there may be more: the limit was met after " else
+    (if f.ran_short then codes ", and there may be more: the room for tasks ran short after " else codes ", and there may be more: not every history was followed after "))
 
 -- how far the search came
 abbrev pub search_text : FoundOutcomes → List ℕ

@@ -59,6 +59,19 @@ pub record IsReadyOf (script : ScriptView) (g : Ready) : Type 0 where
 abbrev pub AreOf : ScriptView → List (Option Ready) → Type 0
 AreOf script tasks = (t : ℕ) (g : Ready) → given_at tasks t ≡ Some g → IsReadyOf script g
 
+-- a copy of what a task goes on with
+pub record IsSame (g h : Ready) : Type 0 where
+  pub number : h.number ≡ g.number
+  pub resume : h.resume ≡ g.resume
+  pub script : h.body.script ≡ g.body.script
+  pub task : h.body.task ≡ g.body.task
+
+-- the same, where it is there
+abbrev pub IsSameIf : Option Ready → Option Ready → Type 0
+IsSameIf None None = Unit {0}
+IsSameIf (Some g) (Some h) = IsSame g h
+IsSameIf _ _ = ⊥
+
 -- the executor of the actor whose method a task runs next
 abbrev pub seat_if : ScriptView → Option Ready → Option ℕ
 seat_if script None = None
@@ -111,6 +124,12 @@ pub record IsHistory (script : ScriptView) (blocks : List Block) (x : SearchedHi
   pub used : (e : ℕ) → slice_index_or x.used.items e false ≡ has_records (records_of e blocks)
   pub short : length x.used.items ≤ executor_count script
   pub led : IsLed script blocks x.book.log x.book.held x.tasks.items (rows_at x) x.roots
+
+-- a copy of a history: whatever was followed in the one was followed in the other
+pub record IsCopy (x y : SearchedHistory) : Type 0 where
+  pub script : arc_value y.script ≡ arc_value x.script
+  pub history : (script : ScriptView) (blocks : List Block) → IsHistory script blocks x → IsHistory script blocks y
+  pub roots : y.roots ≡ x.roots
 
 -- some blocks were
 abbrev pub IsSomeHistory : SearchedHistory → Type 0

@@ -4,6 +4,9 @@ pub mod Explorations
 pub mod FoundText
 pub mod Completions
 pub mod HistoryInside
+pub mod FusedInside
+pub mod SilentInside
+pub mod QueueInside
 pub mod SearchInside
 pub mod KeysInside
 pub mod EndsInside

@@ -1,7 +1,9 @@
 -- Outcomes (our own).
-use Rattle.std.specs.Prelude.{◌≡◌, List, [], ◌∷◌, ◌++◌, AllPairs, Contains, map}
+use Rattle.std.specs.Prelude.{◌≡◌, ◌+◌, ◌*◌, ◌<◌, List, [], ◌∷◌, ◌++◌, AllPairs, Contains, map}
 use Rattle.script_code.specs.Seen.{rows_of}
-use Rattle.swift_script.specs.Scripts.{ScriptView}
+use Rattle.swift_types.specs.declared.limits.TheConstants.{TASKS, MADE}
+use Rattle.swift_script.specs.Scripts.{ScriptView, executor_count, root_count}
+use Rattle.swift_events.specs.Events.{tasks_of}
 use Rattle.swift_history.specs.Histories.{AllStand, Block, ReportView}
 use Rattle.swift_events.specs.declared.event.Event.{Event}
 use Rattle.swift_course.specs.Course.{standing, starts}
@@ -66,3 +68,11 @@ HasEachOutcome script outcomes = ActorsHaveExecutors script → (report : Report
 -- No turn of such a report breaks an invariant.
 abbrev pub NeverBreaks : ScriptView → Type 0
 NeverBreaks script = ActorsHaveExecutors script → (report : ReportView) (orderly : IsOrderlyLegal script report) → FoldsNone report → (b : Block) → Contains orderly.legal.blocks b → IsBroken b → ⊥
+
+-- Some history in order has so many tasks that a turn may be given less room than 16: with 16 more for each executor, and 16 besides, there
+-- are more than 1,024.
+pub record RunsShort (script : ScriptView) : Type 0 where
+  pub blocks : List Block
+  pub stand : AllStand script (starts script) [] blocks
+  pub orderly : AllAllowed (IsOrderly script) [] blocks
+  pub many : TASKS < tasks_of (root_count script) (standing script blocks).log + MADE * (executor_count script + 1)

@@ -1,44 +1,54 @@
 -- While histories are searched. No public clause names these.
-use Rattle.std.specs.Prelude.{◌≡◌, ◌<◌, ◌≤◌, ℕ, IsTrue, Some, None, All, IfSome, List, [], ◌∷◌, ◌++◌, length, slice_get, slice_index_or, Contains}
+use Rattle.std.specs.Prelude.{◌≡◌, ◌<◌, ◌≤◌, ◌⊎◌, ℕ, true, false, IsTrue, Some, None, All, IfSome, List, [], ◌∷◌, ◌++◌, length, nat_eq, slice_get, slice_index_or, Contains}
+use Rattle.std.specs.HashMap.{get}
 use Rattle.std.specs.Arc.{arc_value}
 use Rattle.swift_script.specs.Scripts.{ScriptView}
 use Rattle.swift_history.specs.Histories.{AllStand, Block, Stands}
-use Rattle.swift_course.specs.Course.{starts}
+use Rattle.swift_types.specs.declared.id.TaskId.{TaskId}
+use Rattle.swift_course.specs.Course.{standing, starts}
 use Rattle.swift_digest.specs.Explored.{IsNotFolded}
 use Rattle.swift_history.specs.Orderly.{AllAllowed, IsOrderly}
 use Rattle.swift_digest.specs.Futures.{LeadAlike}
+use Rattle.swift_reordering.specs.Away.{job_looks_away}
+use Rattle.swift_reordering.specs.FusedSteps.{HasRoom}
 use Rattle.swift_explorer.specs.declared.moves.Move.{Move}
+use Rattle.swift_explorer.specs.declared.moves.Move.TheVariants as step
 use Rattle.swift_explorer.specs.declared.outcome.End.{End}
 use Rattle.swift_explorer.specs.declared.outcome.RunOutcome.{RunOutcome}
 use Rattle.swift_explorer.specs.declared.history.SearchedHistory.{SearchedHistory}
 use Rattle.swift_explorer.specs.declared.history.Followed.{Followed}
 use Rattle.swift_explorer.specs.declared.history.Followed.TheVariants.{Yes}
 use Rattle.swift_explorer.specs.declared.search.Node.{Node}
+use Rattle.swift_explorer.specs.declared.search.Ahead.{Ahead}
 use Rattle.swift_explorer.specs.declared.search.Search.{Search}
-use Rattle.swift_explorer.specs.Outcomes.{EachOnce, IsBrokenAfter, IsOutcomeOf}
+use Rattle.swift_explorer.specs.declared.fused.Step.{Step}
+use Rattle.swift_explorer.specs.declared.fused.Step.TheVariants.{Turn}
+use Rattle.swift_explorer.specs.FusedInside.{AreTold, IsChosen, first_half, last_half}
+use Rattle.swift_explorer.specs.Outcomes.{EachOnce, IfReached, IsBrokenAfter, IsOutcomeOf, RunsShort}
 use Rattle.swift_explorer.specs.Steps.{AreSteps, IsBroken}
 use Rattle.swift_explorer.specs.HistoryInside.{IsHistory, IsMoveOf}
 use Rattle.swift_explorer.specs.EndsInside.{HasEnd, IsKnownEnd}
 use Rattle.swift_explorer.specs.KeysInside.{IsKeyFor, outcome_bytes}
+use Rattle.swift_explorer.specs.QueueInside.{AreHistories}
 
 -- the steps to one node more: none to the first, and to another those to the node that it goes on from, and its own
-abbrev pub path_after : List (List Move) → ℕ → Move → List Move
-path_after [] before step = []
-path_after (p ∷ ps) before step = slice_index_or (p ∷ ps) before [] ++ step ∷ []
+abbrev pub path_after : List (List Move) → ℕ → List Move → List Move
+path_after [] before moves = []
+path_after (p ∷ ps) before moves = slice_index_or (p ∷ ps) before [] ++ moves
 
 -- the steps to each of some nodes, after those to the nodes before them
 abbrev pub paths_from : List Node → List (List Move) → List (List Move)
 paths_from [] paths = paths
-paths_from (n ∷ ns) paths = paths_from ns (paths ++ path_after paths n.before n.step ∷ [])
+paths_from (n ∷ ns) paths = paths_from ns (paths ++ path_after paths n.before n.moves.items ∷ [])
 
 -- the steps to each of these nodes, in their order
 abbrev pub paths_of : List Node → List (List Move)
 paths_of nodes = paths_from nodes []
 
--- each node but the first goes on from one before it, by its step
+-- each node but the first goes on from one before it, by its steps
 abbrev pub GoOn : List Node → Type 0
 GoOn nodes = (i : ℕ) (n : Node) → 0 < i → slice_get nodes i ≡ Some n
-    → (path : List Move) × (n.before < i) × (slice_get (paths_of nodes) n.before ≡ Some path) × (slice_get (paths_of nodes) i ≡ Some (path ++ n.step ∷ []))
+    → (path : List Move) × (n.before < i) × (slice_get (paths_of nodes) n.before ≡ Some path) × (slice_get (paths_of nodes) i ≡ Some (path ++ n.moves.items))
 
 -- a node that comes after these can go on from this one, unless it is the first
 abbrev pub MayGoOn : List (List Move) → ℕ → Type 0
@@ -89,6 +99,9 @@ pub record IsSound (script : ScriptView) (x : Search) : Type 0 where
   pub keyed : AreKeyed x.outcomes.items x.ends
   pub once : EachOnce x.outcomes.items
   pub met : IsTrue x.met_limit → length x.nodes.items ≡ x.limit
+  pub told : AreTold script x.away.items
+  pub short : IsTrue x.ran_short → RunsShort script
+  pub histories : AreHistories script (paths_of x.nodes.items) (get nat_eq x.histories)
 
 -- A search has gone on: it has what it had, and where a history was left out or a turn was broken, that stays so.
 pub record HasGrown (old new : Search) : Type 0 where
@@ -112,13 +125,26 @@ pub record WasTried (script : ScriptView) (x : Search) (blocks : List Block) (b 
   pub whole : x.broken ≡ None → IsBroken b → ⊥
 
 -- after these steps each block was tried that this step does
-abbrev pub StepWasTried : ScriptView → Search → List Move → Move → Type 0
-StepWasTried script x path step = (blocks : List Block) (b : Block) → LeadsTo script path blocks → MayFollow script blocks b → IsMoveOf step b → WasTried script x blocks b
+abbrev pub WasTriedLast : ScriptView → Search → List Move → Move → Type 0
+WasTriedLast script x path last = (blocks : List Block) (b : Block) → LeadsTo script path blocks → MayFollow script blocks b → IsMoveOf last b → WasTried script x blocks b
 
--- A search has gone on from where this path leads: it has the outcome, if that is one, and has tried each block that may follow.
+-- the same of what a step of a search does last, after what it does before that
+abbrev pub StepWasTried : ScriptView → Search → List Move → Step → Type 0
+StepWasTried script x path s = WasTriedLast script x (path ++ first_half s) (last_half s)
+
+-- A turn that begins after these steps looks away, and was tried as it begins and runs at once.
+pub record TurnWasTried (script : ScriptView) (x : Search) (path : List Move) (blocks : List Block) (b : Block) : Type 0 where
+  pub task : TaskId
+  pub does : IsMoveOf (step.Begin task) b
+  pub away : job_looks_away script ((standing script blocks).jobs task.0) ≡ true
+  pub tried : StepWasTried script x path (Turn task)
+
+-- A search has gone on from where this path leads: it has the outcome, if that is one; there is room; and it has tried each block that may
+-- follow, or the turn that it begins.
 pub record IsExpanded (script : ScriptView) (x : Search) (path : List Move) : Type 0 where
   pub ends : (blocks : List Block) → LeadsTo script path blocks → HasEnd script x.outcomes.items blocks
-  pub tried : (blocks : List Block) (b : Block) → LeadsTo script path blocks → MayFollow script blocks b → WasTried script x blocks b
+  pub room : (blocks : List Block) → LeadsTo script path blocks → HasRoom script blocks
+  pub tried : (blocks : List Block) (b : Block) → LeadsTo script path blocks → MayFollow script blocks b → WasTried script x blocks b ⊎ TurnWasTried script x path blocks b
 
 -- the same of the path to the node at this place
 abbrev pub IsExpandedAt : ScriptView → Search → ℕ → Type 0
@@ -148,9 +174,13 @@ pub record IsFollowedBy (script : ScriptView) (path : List Move) (step : Move) (
   pub is : IsHistory script (blocks ++ last ∷ []) x
   pub whole : done ≡ Yes → IsBroken last → ⊥
 
--- What is known of these steps: they lead to blocks after which each block in order is what one of these moves does, and whose end is this.
-pub record IsAhead (script : ScriptView) (path moves : List Move) (known : End) : Type 0 where
+-- What is known of these steps: they lead to blocks after which each block in order is chosen by these steps of a search, and whose end is
+-- this; and whether there is room.
+pub record IsAhead (script : ScriptView) (path : List Move) (x : Ahead) : Type 0 where
   pub blocks : List Block
   pub leads : LeadsTo script path blocks
-  pub each : (b : Block) → MayFollow script blocks b → (m : Move) × Contains moves m × IsMoveOf m b
-  pub ends : IsKnownEnd script blocks known
+  pub each : (b : Block) → MayFollow script blocks b → IsChosen script x.steps.items blocks b
+  pub outcome : IfReached (IsOutcomeOf script) x.end
+  pub ends : IsKnownEnd script blocks x.end
+  pub room : IsTrue x.has_room → HasRoom script blocks
+  pub short : x.has_room ≡ false → RunsShort script

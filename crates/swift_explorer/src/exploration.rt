@@ -2,7 +2,7 @@
 
 ghost use Rattle.std.specs.Prelude.{◌≡◌, ◌≤◌, ◌+◌, ◌-◌, ◌↔◌, All, IfOk, IfSome, IsTrue, None, length, min};
 ghost use Rattle.std.specs.Arc.{arc_value};
-ghost use Rattle.swift_explorer.specs.Outcomes.{EachOnce, HasEachOutcome, IsBrokenAfter, IsOutcomeOf, NeverBreaks};
+ghost use Rattle.swift_explorer.specs.Outcomes.{EachOnce, HasEachOutcome, IsBrokenAfter, IsOutcomeOf, NeverBreaks, RunsShort};
 
 use crate::history::SearchedHistory;
 use crate::moves::Move;
@@ -26,6 +26,9 @@ pub struct FoundOutcomes {
     pub is_complete: bool,
     /// Whether a history was left out since as many were kept as may be.
     pub met_limit: bool,
+    /// Whether some history had so many tasks that turns may have less room than they would use: with 16 more for each executor and 16
+    /// besides, more than 1,024. Such a search is not complete.
+    pub ran_short: bool,
 }
 
 /// A search of the histories of a script from the one in which nothing has happened (our own), made in parts, so that a caller can say
@@ -41,7 +44,8 @@ pub struct FoundOutcomes {
 /// An executor takes any of its jobs: the list has outcomes of orders that priorities, arrival and `fifo` would not give (SE-0304 calls
 /// priorities hints; of a `fifo` executor it has more than can happen).
 ///
-/// Each history is followed from its beginning for each step after it, so the time is that of the histories times their turns.
+/// Each history is copied for each step after it, and followed again from its beginning once, unless it is one of the few that are kept whole:
+/// so the time is that of the histories times their turns at most.
 #[derive(Drop)]
 pub struct Exploration {
     search: Search,
@@ -79,7 +83,7 @@ impl Exploration {
     {
         let mut search = Search::new(alloc, script, limit)?;
         let first = SearchedHistory::new(alloc, script)?;
-        search.keep(first, 0, Move::Add)?;
+        search.keep(first, 0, Vec::new(alloc))?;
         Ok(Exploration { search, next: 0 })
     }
 
@@ -132,6 +136,7 @@ impl Exploration {
         ensures once { EachOnce result.outcomes.items }
         ensures states { result.states ≡ self.kept }
         ensures limit { IsTrue result.met_limit → result.states ≡ self.limit }
+        ensures room { IsTrue result.ran_short → RunsShort self.script }
         ensures counted { length result.outcomes.items ≡ self.outcomes }
     {
         let Exploration { search, next } = self;
@@ -139,13 +144,16 @@ impl Exploration {
             alloc: _,
             script: _,
             limit: _,
+            away: _,
             nodes,
             keys: _,
             outcomes,
             ends: _,
             broken,
+            histories: _,
             is_complete,
             met_limit,
+            ran_short,
         } = search;
         let states = nodes.len();
         FoundOutcomes {
@@ -154,6 +162,7 @@ impl Exploration {
             states,
             is_complete: is_complete && next >= states,
             met_limit,
+            ran_short,
         }
     }
 }

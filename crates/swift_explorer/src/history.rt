@@ -16,14 +16,14 @@ ghost use Rattle.swift_explorer.specs.Steps.{BreaksInvariant};
 ghost use Rattle.swift_types.specs.declared.outcome.Ending.{Ending};
 ghost use Rattle.swift_events.specs.declared.life.Origin.{Origin};
 ghost use Rattle.swift_explorer.specs.EndsInside.{IsEndedAs, IsKnownEnd, SomeGoesOn};
-ghost use Rattle.swift_explorer.specs.HistoryInside.{Applies, AreEnded, AreFirst, AreOf, AreThere, GoesOn, HasEachMove, HaveClosed, IsHistory, IsMissing, IsPath, IsSomeHistory, JobRunsAt, MayBegin, WasDone, rows_at, seat_of, HasEach, IsBusy, IsUnderWay};
+ghost use Rattle.swift_explorer.specs.HistoryInside.{Applies, AreEnded, AreFirst, AreOf, AreThere, GoesOn, IsCopy, HasEachMove, HaveClosed, IsHistory, IsMissing, IsPath, IsSomeHistory, JobRunsAt, MayBegin, WasDone, rows_at, seat_of, HasEach, IsBusy, IsUnderWay};
 ghost use Rattle.swift_explorer.specs.KeysInside.{IsNumbered};
 
 use crate::frames::{put_jobs, put_ready};
 use crate::keys::{put_digest, put_fields, put_flags};
 use crate::moves::Move;
 use crate::outcome::{End, RunOutcome};
-use crate::waiting::{Ready, give_all_up, put, put_all, take};
+use crate::waiting::{Ready, copy_all, give_all_up, put, put_all, take};
 use std::alloc::{AllocError, Global};
 use std::mem;
 use std::sync::Arc;
@@ -147,6 +147,28 @@ impl SearchedHistory {
         let mut history = SearchedHistory::new(alloc, script)?;
         history.journals = journals;
         Ok(history)
+    }
+
+    /// The same history again, of which no turn is written into a journal. It takes copies of memory, and plays no turn.
+    pub fn copy(&self) -> Result<SearchedHistory, AllocError>
+        ensures { IfOk result (IsCopy self.now) }
+    {
+        let tasks = copy_all(self.alloc, &self.tasks)?;
+        let fields = self.fields()?;
+        let used = Vec::from_slice(self.alloc, &self.used)?;
+        let script = Arc::clone(&self.script)?;
+        let book = self.book.copy()?;
+        Ok(SearchedHistory {
+            alloc: self.alloc,
+            script,
+            book,
+            tasks,
+            fields,
+            used,
+            roots: self.roots,
+            jobs: Vec::new(self.alloc),
+            journals: Vec::new(self.alloc),
+        })
     }
 
     // The next root is added, where it is the first that was not.

@@ -1,12 +1,16 @@
 //! Outcomes that some order of turns of a script leads to.
 #![tactic(auto)]
 
+// Which methods look away.
+mod away;
 // A schedule that is led to its end.
 mod completion;
 // A search that is made in parts.
 mod exploration;
 // What is left of tasks to do, as numbers.
 mod frames;
+// Steps of a search.
+mod fused;
 // One history, followed from its beginning.
 mod history;
 // Keys that are known.
@@ -17,6 +21,8 @@ mod keys;
 mod moves;
 // How a history has ended.
 mod outcome;
+// Histories that are kept beside the nodes that the search has still to go on from.
+mod queue;
 // A schedule that is run again.
 mod schedule;
 // The search.

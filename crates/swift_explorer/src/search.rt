@@ -1,32 +1,37 @@
 //! The search.
 
-ghost use Rattle.std.specs.Prelude.{◌≡◌, ◌<◌, ◌+◌, ℕ, List, [], ◌∷◌, ◌++◌, All, Contains, IfOk, IfSome, IsTrue, None, OnOk, Some, is_some, length, min, slice_get, true};
+ghost use Rattle.std.specs.Prelude.{◌≡◌, ◌<◌, ◌+◌, ℕ, List, [], ◌∷◌, ◌++◌, All, Contains, IfOk, IfSome, IsTrue, None, OnOk, Some, is_some, length, min, reverse, slice_get, true, false};
 ghost use Rattle.std.specs.Arc.{arc_value};
 ghost use Rattle.swift_history.specs.Histories.{Block, ReportView};
-ghost use Rattle.swift_explorer.specs.Outcomes.{EachOnce, IfReached, IsBrokenAfter, IsOutcomeOf, Tells};
+ghost use Rattle.swift_explorer.specs.Outcomes.{EachOnce, IfReached, IsBrokenAfter, IsOutcomeOf, RunsShort, Tells};
 ghost use Rattle.swift_explorer.specs.declared.outcome.RunOutcome.{RunOutcome};
 ghost use Rattle.swift_explorer.specs.HistoryInside.{IsPath, WasDone};
 ghost use Rattle.swift_explorer.specs.EndsInside.{HasEnd, IsKnownEnd};
+ghost use Rattle.swift_explorer.specs.FusedInside.{AreTold, first_half};
 ghost use Rattle.swift_explorer.specs.KeysInside.{IsKeyOf, outcome_bytes, end_numbers};
-ghost use Rattle.swift_explorer.specs.SearchInside.{AreKeyed, GoOn, HasGoneOn, HasGrown, IsAhead, IsExpandedAt, IsFollowedBy, IsNoted, IsSound, Keeps, MayGoOn, StepWasTried, path_after, paths_of};
+ghost use Rattle.swift_explorer.specs.SearchInside.{AreKeyed, GoOn, HasGoneOn, HasGrown, IsAhead, IsExpandedAt, IsFollowedBy, IsNoted, IsSound, Keeps, MayGoOn, StepWasTried, WasTriedLast, path_after, paths_of};
 ghost use Rattle.swift_explorer.specs.Numbers.{list_numbers};
 
+use crate::away::methods_look_away;
+use crate::fused::Step;
 use crate::history::{Followed, SearchedHistory};
 use crate::key_set::KeySet;
 use crate::keys::{pack, put_ending, put_fields, put_origin};
 use crate::moves::Move;
 use crate::outcome::{End, RunOutcome};
+use crate::queue::{KeptHistory, put_history, spare_copy, take_history};
 use std::alloc::{AllocError, Global};
+use std::collections::HashMap;
 use std::sync::Arc;
 use swift_events::Origin;
 use swift_script::Script;
-use swift_types::Ending;
+use swift_types::{Ending, TaskId};
 
-// A history that was kept: one step after another that was.
-#[derive(Clone, Copy)]
+// A history that was kept: these steps after another that was.
+#[derive(Drop)]
 pub(crate) struct Node {
     before: usize,
-    step: Move,
+    moves: Vec<Move>,
 }
 
 // A search, and what it has found so far.
@@ -35,6 +40,8 @@ pub(crate) struct Search {
     pub(crate) alloc: Global,
     pub(crate) script: Arc<Script>,
     pub(crate) limit: usize,
+    // Of each method, whether it looks away.
+    pub(crate) away: Vec<bool>,
     pub(crate) nodes: Vec<Node>,
     // A key for each node.
     pub(crate) keys: KeySet,
@@ -42,10 +49,26 @@ pub(crate) struct Search {
     // A key for each outcome.
     pub(crate) ends: KeySet,
     pub(crate) broken: Option<Vec<Move>>,
+    // Histories of nodes that it has not gone on from, by the node's place.
+    pub(crate) histories: HashMap<usize, KeptHistory>,
     // Whether no history was left out, and each step after those that it has gone on from was tried.
     pub(crate) is_complete: bool,
     // Whether a history was left out since as many were kept as may be.
     pub(crate) met_limit: bool,
+    // Whether the room for tasks ran short in one of the histories that it has gone on from.
+    pub(crate) ran_short: bool,
+}
+
+// Appends these steps, the last one first.
+fn push_back(path: &mut Vec<Move>, moves: &[Move]) -> Result<(), AllocError>
+    ensures { OnOk result (path.new.items ≡ path.old.items ++ reverse moves.now) }
+{
+    let mut left = moves.len();
+    'left: while 0 < left {
+        left -= 1;
+        path.push(moves[left])?;
+    }
+    Ok(())
 }
 
 // The steps to a node.
@@ -57,9 +80,9 @@ fn path_to(alloc: Global, nodes: &[Node], place: usize) -> Result<Vec<Move>, All
     let mut path = Vec::new(alloc);
     let mut at = place;
     'back: while 0 < at {
-        let Node { before, step } = nodes[at];
-        path.push(step)?;
-        at = before;
+        let node = &nodes[at];
+        push_back(&mut path, &node.moves)?;
+        at = node.before;
     }
     path.reverse();
     Ok(path)
@@ -119,40 +142,114 @@ pub(crate) fn follow(history: &mut SearchedHistory, path: &[Move]) -> Result<Fol
     Ok(Followed::Yes)
 }
 
-// Follows one more step than these.
+// Follows one more step than these, which were followed.
 fn follow_one(
     history: &mut SearchedHistory,
     path: &[Move],
     step: Move,
 ) -> Result<Followed, AllocError>
-    requires { IsPath (arc_value history.old.script) [] history.old }
+    requires { IsPath (arc_value history.old.script) path.now history.old }
     ensures broken { IfOk result (λ f. f ≡ Followed.Broken → IsBrokenAfter (arc_value history.old.script) (path.now ++ step ∷ [])) }
     ensures path { IfOk result (λ f. WasDone f → IsPath (arc_value history.old.script) (path.now ++ step ∷ []) history.new) }
     ensures last { IfOk result (λ f. WasDone f → IsFollowedBy (arc_value history.old.script) path.now step history.new f) }
 {
-    if let Followed::No = follow(history, path)? {
-        return Ok(Followed::No);
-    }
+    let _ = path;
     history.step(step)
 }
 
-// Which steps may come after these, and whether they lead to an outcome. Nothing where that is not known.
-fn look_ahead(
-    history: &mut SearchedHistory,
+// A history to which these steps have led, once the next turn of a task has begun. Nothing where it may not.
+fn begun(
+    history: SearchedHistory,
     path: &[Move],
-) -> Result<Option<(Vec<Move>, End)>, AllocError>
-    requires { IsPath (arc_value history.old.script) [] history.old }
-    ensures outcome { IfOk result (λ o. IfSome o (λ ahead. IfReached (IsOutcomeOf (arc_value history.old.script)) ahead.1)) }
-    ensures ahead { IfOk result (λ o. IfSome o (λ ahead. IsAhead (arc_value history.old.script) path.now ahead.0.items ahead.1)) }
+    task: TaskId,
+) -> Result<Option<SearchedHistory>, AllocError>
+    requires { IsPath (arc_value history.script) path.now history }
+    ensures { IfOk result (λ o. IfSome o (IsPath (arc_value history.script) (path.now ++ Move.Begin task ∷ []))) }
 {
-    if let Followed::No = follow(history, path)? {
-        return Ok(None);
+    let mut next = history;
+    match follow_one(&mut next, path, Move::Begin(task)) {
+        Err(fault) => {
+            next.close();
+            Err(fault)
+        }
+        Ok(Followed::No) => {
+            next.close();
+            Ok(None)
+        }
+        Ok(Followed::Yes) => Ok(Some(next)),
+        Ok(Followed::Broken) => Ok(Some(next)),
     }
-    let Some(moves) = history.next()? else {
+}
+
+// A copy of a history to which these steps have led, after the first half of a step. Nothing where that may not follow.
+fn first_followed(
+    history: &SearchedHistory,
+    path: &[Move],
+    step: Step,
+) -> Result<Option<SearchedHistory>, AllocError>
+    requires { IsPath (arc_value history.now.script) path.now history.now }
+    ensures { IfOk result (λ o. IfSome o (IsPath (arc_value history.now.script) (path.now ++ first_half step))) }
+{
+    let next = history.copy()?;
+    match step {
+        Step::One(_) => Ok(Some(next)),
+        Step::Turn(task) => begun(next, path, task),
+    }
+}
+
+// A history to which these steps lead. Nothing where they may not be followed.
+fn followed(
+    alloc: Global,
+    script: &Arc<Script>,
+    path: &[Move],
+) -> Result<Option<SearchedHistory>, AllocError>
+    ensures { IfOk result (λ o. IfSome o (IsPath (arc_value script.now) path.now)) }
+{
+    let mut history = SearchedHistory::new(alloc, script)?;
+    match follow(&mut history, path) {
+        Err(fault) => {
+            history.close();
+            Err(fault)
+        }
+        Ok(Followed::No) => {
+            history.close();
+            Ok(None)
+        }
+        Ok(_) => Ok(Some(history)),
+    }
+}
+
+// What comes after a history.
+#[derive(Drop)]
+struct Ahead {
+    // The steps that may follow.
+    steps: Vec<Step>,
+    // Whether it is an outcome.
+    end: End,
+    // Whether there is room for what turns may make.
+    has_room: bool,
+}
+
+// What comes after these steps, which were followed. Nothing where that is not known.
+fn look_ahead(
+    history: &SearchedHistory,
+    away: &[bool],
+    path: &[Move],
+) -> Result<Option<Ahead>, AllocError>
+    requires path { IsPath (arc_value history.now.script) path.now history.now }
+    requires told { AreTold (arc_value history.now.script) away.now }
+    ensures { IfOk result (λ o. IfSome o (λ ahead. IsAhead (arc_value history.now.script) path.now ahead)) }
+{
+    let Some(steps) = history.next_fused(away)? else {
         return Ok(None);
     };
     let end = history.outcome(path)?;
-    Ok(Some((moves, end)))
+    let has_room = history.has_room();
+    Ok(Some(Ahead {
+        steps,
+        end,
+        has_room,
+    }))
 }
 
 impl Search {
@@ -167,17 +264,21 @@ impl Search {
         ensures limit { IfOk result (λ x. x.limit ≡ limit) }
         ensures sound { IfOk result (IsSound (arc_value script.now)) }
     {
+        let away = methods_look_away(alloc, script)?;
         Ok(Search {
             alloc,
             script: Arc::clone(script)?,
             limit,
+            away,
             nodes: Vec::new(alloc),
             keys: KeySet::new(alloc),
             outcomes: Vec::new(alloc),
             ends: KeySet::new(alloc),
             broken: None,
+            histories: HashMap::new(alloc),
             is_complete: true,
             met_limit: false,
+            ran_short: false,
         })
     }
 
@@ -186,13 +287,14 @@ impl Search {
         &mut self,
         history: SearchedHistory,
         before: usize,
-        step: Move,
+        moves: Vec<Move>,
     ) -> Result<(), AllocError>
         requires before { MayGoOn (paths_of self.old.nodes.items) before }
-        requires path { IsPath (arc_value self.old.script) (path_after (paths_of self.old.nodes.items) before step) history }
+        requires path { IsPath (arc_value self.old.script) (path_after (paths_of self.old.nodes.items) before moves.items) history }
         requires sound { IsSound (arc_value self.old.script) self.old }
         ensures keeps { OnOk result (Keeps self.old self.new history) }
     {
+        let spare = spare_copy(&self.histories, &history);
         let key = key_of(self.alloc, history)?;
         if self.keys.contains(&key) {
             return Ok(());
@@ -203,8 +305,9 @@ impl Search {
             return Ok(());
         }
         self.keys.add(key)?;
-        self.nodes.push(Node { before, step })?;
-        Ok(())
+        let place = self.nodes.len();
+        self.nodes.push(Node { before, moves })?;
+        put_history(&mut self.histories, place, spare)
     }
 
     // Writes the first turn that breaks an invariant: the last of these steps.
@@ -221,31 +324,69 @@ impl Search {
         Ok(())
     }
 
-    // Follows one more step than these, and keeps the history that it leads to.
-    fn try_step(&mut self, path: &[Move], before: usize, step: Move) -> Result<(), AllocError>
+    // Follows one more step than these, which were followed, and keeps the history that they lead to. It is known by the last ones, after
+    // another.
+    fn try_last(
+        &mut self,
+        history: SearchedHistory,
+        path: &[Move],
+        last: Move,
+        before: usize,
+        moves: Vec<Move>,
+    ) -> Result<(), AllocError>
         requires sound { IsSound (arc_value self.old.script) self.old }
+        requires followed { IsPath (arc_value self.old.script) path.now history }
+        requires before { MayGoOn (paths_of self.old.nodes.items) before }
+        requires path { path_after (paths_of self.old.nodes.items) before moves.items ≡ path.now ++ last ∷ [] }
+        ensures grown { OnOk result (HasGrown self.old self.new) }
+        ensures sound { OnOk result (IsSound (arc_value self.old.script) self.new) }
+        ensures tried { OnOk result (IsTrue self.new.is_complete → WasTriedLast (arc_value self.old.script) self.new path.now last) }
+    {
+        let mut next = history;
+        match follow_one(&mut next, path, last) {
+            Err(fault) => {
+                next.close();
+                Err(fault)
+            }
+            Ok(Followed::No) => {
+                next.close();
+                self.is_complete = false;
+                Ok(())
+            }
+            Ok(Followed::Yes) => self.keep(next, before, moves),
+            Ok(Followed::Broken) => {
+                self.keep(next, before, moves)?;
+                self.note_broken(path, last)
+            }
+        }
+    }
+
+    // Follows one more step than these, which were followed, in a copy of the history, and keeps where it leads.
+    fn try_step(
+        &mut self,
+        history: &SearchedHistory,
+        path: &[Move],
+        before: usize,
+        step: Step,
+    ) -> Result<(), AllocError>
+        requires sound { IsSound (arc_value self.old.script) self.old }
+        requires followed { IsPath (arc_value self.old.script) path.now history.now }
         requires path { slice_get (paths_of self.old.nodes.items) before ≡ Some path.now }
         ensures grown { OnOk result (HasGrown self.old self.new) }
         ensures sound { OnOk result (IsSound (arc_value self.old.script) self.new) }
         ensures tried { OnOk result (IsTrue self.new.is_complete → StepWasTried (arc_value self.old.script) self.new path.now step) }
     {
-        let mut history = SearchedHistory::new(self.alloc, &self.script)?;
-        match follow_one(&mut history, path, step) {
-            Err(fault) => {
-                history.close();
-                Err(fault)
-            }
-            Ok(Followed::No) => {
-                history.close();
-                self.is_complete = false;
-                Ok(())
-            }
-            Ok(Followed::Yes) => self.keep(history, before, step),
-            Ok(Followed::Broken) => {
-                self.keep(history, before, step)?;
-                self.note_broken(path, step)
-            }
-        }
+        let last = step.last();
+        let mut moves = Vec::new(self.alloc);
+        step.put_first(&mut moves)?;
+        let mut front = Vec::from_slice(self.alloc, path)?;
+        step.put_first(&mut front)?;
+        moves.push(last)?;
+        let Some(next) = first_followed(history, path, step)? else {
+            self.is_complete = false;
+            return Ok(());
+        };
+        self.try_last(next, &front, last, before, moves)
     }
 
     // Writes an outcome, where it is a new one.
@@ -291,38 +432,106 @@ impl Search {
         }
     }
 
-    // Follows each of these steps after a history, and keeps where it leads.
-    fn try_all(&mut self, path: &[Move], place: usize, moves: &[Move]) -> Result<(), AllocError>
+    // Follows each of these steps after a history to which the path has led, and keeps where it leads.
+    fn try_all(
+        &mut self,
+        history: &SearchedHistory,
+        path: &[Move],
+        place: usize,
+        steps: &[Step],
+    ) -> Result<(), AllocError>
         requires sound { IsSound (arc_value self.old.script) self.old }
+        requires followed { IsPath (arc_value self.old.script) path.now history.now }
         requires path { slice_get (paths_of self.old.nodes.items) place ≡ Some path.now }
         ensures grown { OnOk result (HasGrown self.old self.new) }
         ensures sound { OnOk result (IsSound (arc_value self.old.script) self.new) }
-        ensures tried { OnOk result (IsTrue self.new.is_complete → All (StepWasTried (arc_value self.old.script) self.new path.now) moves.now) }
+        ensures tried { OnOk result (IsTrue self.new.is_complete → All (StepWasTried (arc_value self.old.script) self.new path.now) steps.now) }
     {
-        for step in moves {
-            self.try_step(path, place, *step)?;
+        for step in steps {
+            self.try_step(history, path, place, *step)?;
         }
         Ok(())
+    }
+
+    // Says where there is no room for what turns may make.
+    fn note_room(&mut self, has_room: bool)
+        requires sound { IsSound (arc_value self.old.script) self.old }
+        requires short { has_room ≡ false → RunsShort (arc_value self.old.script) }
+        ensures grown { HasGrown self.old self.new }
+        ensures sound { IsSound (arc_value self.old.script) self.new }
+        ensures room { IsTrue self.new.is_complete → IsTrue has_room }
+    {
+        if !has_room {
+            self.is_complete = false;
+            self.ran_short = true;
+        }
     }
 
     // Goes on from a history to which these steps have led, where this is known of what comes after it.
     fn go_on(
         &mut self,
+        history: &SearchedHistory,
         path: &[Move],
         place: usize,
-        moves: &[Move],
-        end: End,
+        ahead: Ahead,
     ) -> Result<(), AllocError>
         requires sound { IsSound (arc_value self.old.script) self.old }
+        requires followed { IsPath (arc_value self.old.script) path.now history.now }
         requires path { slice_get (paths_of self.old.nodes.items) place ≡ Some path.now }
-        requires outcome { IfReached (IsOutcomeOf (arc_value self.old.script)) end }
-        requires ahead { IsAhead (arc_value self.old.script) path.now moves.now end }
+        requires ahead { IsAhead (arc_value self.old.script) path.now ahead }
         ensures grown { OnOk result (HasGrown self.old self.new) }
         ensures sound { OnOk result (IsSound (arc_value self.old.script) self.new) }
         ensures expanded { OnOk result (IsTrue self.new.is_complete → IsExpandedAt (arc_value self.old.script) self.new place) }
     {
+        let Ahead {
+            steps,
+            end,
+            has_room,
+        } = ahead;
+        self.note_room(has_room);
         self.note(end)?;
-        self.try_all(path, place, moves)
+        self.try_all(history, path, place, &steps)
+    }
+
+    // The history to which these steps lead: the one that was kept at this place, or else one that follows them.
+    fn history_at(
+        &mut self,
+        place: usize,
+        path: &[Move],
+    ) -> Result<Option<SearchedHistory>, AllocError>
+        requires sound { IsSound (arc_value self.old.script) self.old }
+        requires path { slice_get (paths_of self.old.nodes.items) place ≡ Some path.now }
+        ensures rest { self.new ≡ record self.old { histories = self.new.histories } }
+        ensures sound { IsSound (arc_value self.old.script) self.new }
+        ensures history { IfOk result (λ o. IfSome o (IsPath (arc_value self.old.script) path.now)) }
+    {
+        match take_history(&mut self.histories, place) {
+            Some(history) => Ok(Some(history)),
+            None => followed(self.alloc, &self.script, path),
+        }
+    }
+
+    // Goes on from a history to which these steps have led.
+    fn go_on_from(
+        &mut self,
+        history: &SearchedHistory,
+        path: &[Move],
+        place: usize,
+    ) -> Result<(), AllocError>
+        requires sound { IsSound (arc_value self.old.script) self.old }
+        requires followed { IsPath (arc_value self.old.script) path.now history.now }
+        requires path { slice_get (paths_of self.old.nodes.items) place ≡ Some path.now }
+        ensures grown { OnOk result (HasGrown self.old self.new) }
+        ensures sound { OnOk result (IsSound (arc_value self.old.script) self.new) }
+        ensures expanded { OnOk result (IsTrue self.new.is_complete → IsExpandedAt (arc_value self.old.script) self.new place) }
+    {
+        match look_ahead(history, &self.away, path)? {
+            Some(ahead) => self.go_on(history, path, place, ahead),
+            None => {
+                self.is_complete = false;
+                Ok(())
+            }
+        }
     }
 
     // Goes on from a history that is kept.
@@ -334,16 +543,13 @@ impl Search {
         ensures expanded { OnOk result (IsTrue self.new.is_complete → IsExpandedAt (arc_value self.old.script) self.new place) }
     {
         let path = path_to(self.alloc, &self.nodes, place)?;
-        let mut history = SearchedHistory::new(self.alloc, &self.script)?;
-        let seen = look_ahead(&mut history, &path);
+        let Some(history) = self.history_at(place, &path)? else {
+            self.is_complete = false;
+            return Ok(());
+        };
+        let done = self.go_on_from(&history, &path, place);
         history.close();
-        match seen? {
-            Some((moves, end)) => self.go_on(&path, place, &moves, end),
-            None => {
-                self.is_complete = false;
-                Ok(())
-            }
-        }
+        done
     }
 
     // Goes on from the history at a place and from those after it, from `more` at most. The place after the last of these.

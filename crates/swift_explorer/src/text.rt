@@ -254,6 +254,8 @@ fn end_of(found: &FoundOutcomes) -> &'static [u8]
         b", found by a search that came to its end after "
     } else if found.met_limit {
         b", and there may be more: the limit was met after "
+    } else if found.ran_short {
+        b", and there may be more: the room for tasks ran short after "
     } else {
         b", and there may be more: not every history was followed after "
     }

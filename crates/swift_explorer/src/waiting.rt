@@ -1,15 +1,15 @@
 //! What the next turn of each task begins with.
 
-ghost use Rattle.std.specs.Prelude.{◌≡◌, ℕ, [], None, Option, OnOk, map, slice_index_or, slice_set};
-ghost use Rattle.std.specs.List.{AllByRecursion};
+ghost use Rattle.std.specs.Prelude.{◌≡◌, ℕ, [], IfOk, None, Option, OnOk, map, slice_index_or, slice_set};
+ghost use Rattle.std.specs.List.{AllByRecursion, AllZip};
 ghost use Rattle.swift_history.specs.Histories.{with_jobs};
 ghost use Rattle.swift_history.specs.TurnEnds.{JobFacts};
 ghost use Rattle.swift_script.specs.Scripts.{ScriptView};
 ghost use Rattle.swift_tasks.specs.Books.{IsJobOf};
 ghost use Rattle.swift_history.specs.Jobs.{job_facts};
-ghost use Rattle.swift_explorer.specs.HistoryInside.{AreGiven, AreOf, given_at, with_given};
+ghost use Rattle.swift_explorer.specs.HistoryInside.{AreGiven, AreOf, IsSame, IsSameIf, given_at, with_given};
 
-use std::alloc::AllocError;
+use std::alloc::{AllocError, Global};
 use std::mem;
 use swift_job::Job;
 use swift_turn::Body;
@@ -36,6 +36,17 @@ impl Ready {
         Job::new(task, number, resume, body)
     }
 
+    /// The same again.
+    pub fn copy(&self) -> Result<Ready, AllocError>
+        ensures { IfOk result (IsSame self.now) }
+    {
+        Ok(Ready {
+            number: self.number,
+            resume: self.resume,
+            body: self.body.copy()?,
+        })
+    }
+
     /// A job's, and its task.
     pub fn from_job(job: Job<Body>) -> (TaskId, Ready)
         ensures task { result.0 ≡ job.task }
@@ -51,6 +62,27 @@ impl Ready {
             },
         )
     }
+}
+
+// The same again, where it is there.
+fn again(ready: &Option<Ready>) -> Result<Option<Ready>, AllocError>
+    ensures { IfOk result (IsSameIf ready.now) }
+{
+    match ready {
+        None => Ok(None),
+        Some(ready) => Ok(Some(ready.copy()?)),
+    }
+}
+
+/// What the next turn of each task begins with again.
+pub fn copy_all(alloc: Global, tasks: &[Option<Ready>]) -> Result<Vec<Option<Ready>>, AllocError>
+    ensures { IfOk result (λ copy. AllZip IsSameIf tasks.now copy.items) }
+{
+    let mut copy = Vec::with_capacity(alloc, tasks.len())?;
+    for ready in tasks {
+        copy.push(again(ready)?)?;
+    }
+    Ok(copy)
 }
 
 /// Takes what a task's next turn begins with, where it is there.

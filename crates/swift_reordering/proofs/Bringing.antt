@@ -20,12 +20,10 @@ use Rattle.swift_digest.proofs.Lines.{one_env}
 use Rattle.swift_digest.proofs.Outcomes.{lead_on}
 use Rattle.swift_digest.proofs.SameStands.{all_push}
 use Rattle.swift_reordering.specs.Fused.{RunsNext, BeginLate}
-use Rattle.swift_reordering.specs.FusedSteps.{HasRoom, HasExit}
+use Rattle.swift_reordering.specs.FusedSteps.{HasExit}
 use Rattle.swift_reordering.specs.Waiting.{IsOfOther}
 use Rattle.swift_reordering.specs.SilentTurns.{IsSilentTurn, Commutes, OwnNext, GoesFirst, SilentTurnsMayGoFirst}
 use Rattle.swift_reordering.proofs.Walks.{IsCourse, course_push}
-use Rattle.swift_reordering.proofs.Rooms.{room_free}
-use Rattle.swift_reordering.proofs.Reports.{few_before}
 use Rattle.swift_reordering.specs.Away.{job_looks_away}
 use Rattle.swift_reordering.proofs.Priorities.{cons_cases, cons_here, cons_more}
 use Rattle.swift_reordering.proofs.Carrying.{carry, late_rest, runs_like, plain_like}
@@ -39,7 +37,7 @@ like_many script (x ∷ xs) (y ∷ ys) like = (let rest = like_many script xs ys
 like_many script [] (y ∷ ys) like = absurd like
 like_many script (x ∷ xs) [] like = absurd like
 
-number_one : (g : Option LastJob) (n m : ℕ) → HasNumber g n → HasNumber g m → n ≡ m
+pub number_one : (g : Option LastJob) (n m : ℕ) → HasNumber g n → HasNumber g m → n ≡ m
 number_one None n m one two = absurd one
 number_one (Some g) n m one two = sym one ∙ two
 
@@ -155,36 +153,32 @@ module _ (script : ScriptView) (cps : List CheckpointView) (on : ActorsHaveExecu
       }
 
   -- past the first of some blocks, where it goes before the others
-  bring_past : (b : Block) (bs before : List Block) (env : Env) (r : RecordView) → IsCourse script cps before → AllStand script cps before (b ∷ bs) → AllAllowed (IsOrderly script) before (b ∷ bs) → HasRoom script (before ++ b ∷ bs)
+  bring_past : (b : Block) (bs before : List Block) (env : Env) (r : RecordView) → IsCourse script cps before → AllStand script cps before (b ∷ bs) → AllAllowed (IsOrderly script) before (b ∷ bs)
       → BeginLate script before (b ∷ bs) → IsSilentTurn script cps before t n env e r → IsOfOther t b
       → ((other : Env) → IsSilentTurn script cps (before ++ b ∷ []) t n other e (record r { env = other }) → GoesFirst script cps (before ++ b ∷ []) bs t n other e (record r { env = other }))
       → GoesFirst script cps before (b ∷ bs) t n env e r
-  bring_past b bs before env r course all may few late silent of_other others =
-      let few_here : HasRoom script before = few_before script cps on before (b ∷ bs) all few in
-      let few_next : HasRoom script (before ++ b ∷ []) = few_before script cps on (before ++ b ∷ []) bs all.1 (subst (HasRoom script) (sym (append_assoc before (b ∷ []) bs)) few) in
-      let next : IsCourse script cps (before ++ b ∷ []) = course_push script cps before b course all.0 may.0 in
-      let rooms = room_free script cps before course on few_here t ∙ sym (room_free script cps (before ++ b ∷ []) next on few_next t) in
-      let c = silent_commutes script cps before t n env e r b course.stand silent hold all.0 of_other rooms in
+  bring_past b bs before env r course all may late silent of_other others =
+      let c = silent_commutes script cps before t n env e r b course.stand silent hold all.0 of_other in
       past before bs env r b c course.stand silent all.0 may.0 of_other late (others c.other c.later)
 
-  pub bring : (rest before : List Block) (env : Env) (r : RecordView) → IsCourse script cps before → AllStand script cps before rest → AllAllowed (IsOrderly script) before rest → HasRoom script (before ++ rest) → BeginLate script before rest → IsSilentTurn script cps before t n env e r
+  pub bring : (rest before : List Block) (env : Env) (r : RecordView) → IsCourse script cps before → AllStand script cps before rest → AllAllowed (IsOrderly script) before rest → BeginLate script before rest → IsSilentTurn script cps before t n env e r
       → OwnNext t rest → GoesFirst script cps before rest t n env e r
-  bring [] before env r course all may few late silent own = absurd own
-  bring (added x ∷ bs) before env r course all may few late silent own =
-      bring_past (added x) bs before env r course all may few late silent own.0
-      (λ other later. bring bs (before ++ added x ∷ []) other (record r { env = other }) (course_push script cps before (added x) course all.0 may.0) all.1 may.1 (subst (HasRoom script) (sym (append_assoc before (added x ∷ []) bs)) few) (late_rest script cps _ bs before late) later own.1)
-  bring (ran k q ∷ bs) before env r course all may few late silent own =
-      bring_past (ran k q) bs before env r course all may few late silent own.0
-      (λ other later. bring bs (before ++ ran k q ∷ []) other (record r { env = other }) (course_push script cps before (ran k q) course all.0 may.0) all.1 may.1 (subst (HasRoom script) (sym (append_assoc before (ran k q ∷ []) bs)) few) (late_rest script cps _ bs before late) later own.1)
-  bring (folded k q ∷ bs) before env r course all may few late silent own = absurd own.0
-  bring (begun u m x ∷ bs) before env r course all may few late silent (inl own) =
+  bring [] before env r course all may late silent own = absurd own
+  bring (added x ∷ bs) before env r course all may late silent own =
+      bring_past (added x) bs before env r course all may late silent own.0
+      (λ other later. bring bs (before ++ added x ∷ []) other (record r { env = other }) (course_push script cps before (added x) course all.0 may.0) all.1 may.1 (late_rest script cps _ bs before late) later own.1)
+  bring (ran k q ∷ bs) before env r course all may late silent own =
+      bring_past (ran k q) bs before env r course all may late silent own.0
+      (λ other later. bring bs (before ++ ran k q ∷ []) other (record r { env = other }) (course_push script cps before (ran k q) course all.0 may.0) all.1 may.1 (late_rest script cps _ bs before late) later own.1)
+  bring (folded k q ∷ bs) before env r course all may late silent own = absurd own.0
+  bring (begun u m x ∷ bs) before env r course all may late silent (inl own) =
       let one : begun u m x ≡ begun t m x = ap (λ (v : ℕ). begun v m x) own.0 in
       subst (λ (b : Block). GoesFirst script cps before (b ∷ bs) t n env e r) (sym one)
       (own_first before bs env r m x course.stand silent (subst (λ (b : Block). AllStand script cps before (b ∷ bs)) one all) (subst (λ (b : Block). AllAllowed (IsOrderly script) before (b ∷ bs)) one may) (subst (λ (b : Block). BeginLate script before (b ∷ bs)) one late) own.1)
-  bring (begun u m x ∷ bs) before env r course all may few late silent (inr own) =
-      bring_past (begun u m x) bs before env r course all may few late silent own.0
-      (λ other later. bring bs (before ++ begun u m x ∷ []) other (record r { env = other }) (course_push script cps before (begun u m x) course all.0 may.0) all.1 may.1 (subst (HasRoom script) (sym (append_assoc before (begun u m x ∷ []) bs)) few) (late_rest script cps _ bs before late) later own.1)
+  bring (begun u m x ∷ bs) before env r course all may late silent (inr own) =
+      bring_past (begun u m x) bs before env r course all may late silent own.0
+      (λ other later. bring bs (before ++ begun u m x ∷ []) other (record r { env = other }) (course_push script cps before (begun u m x) course all.0 may.0) all.1 may.1 (late_rest script cps _ bs before late) later own.1)
 
 pub goes_first : SilentTurnsMayGoFirst
-goes_first script cps before rest t n env e r on stand orderly few late silent hold own =
-    bring script cps on t n e hold rest before env r (course_front script cps before rest stand orderly) (stand_after script cps before [] rest stand) (allowed_after (IsOrderly script) before [] rest orderly) few late silent own
+goes_first script cps before rest t n env e r on stand orderly late silent hold own =
+    bring script cps on t n e hold rest before env r (course_front script cps before rest stand orderly) (stand_after script cps before [] rest stand) (allowed_after (IsOrderly script) before [] rest orderly) late silent own

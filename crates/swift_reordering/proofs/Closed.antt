@@ -172,7 +172,7 @@ module _ (script : ScriptView) (on : ActorsHaveExecutors script) (cps : List Che
   first_one k is_kept lead = record { others = []; put_off = none_put_off script cps on; kept = k; is_kept = is_kept; lead = lead }
 
 -- what is near has the same outcome
-outcome_near : (script : ScriptView) (cps : List CheckpointView) (report : ReportView) (before others : List Block) → ArePutOff script cps AnyTask before others → IsOutcome script (state_of script cps before) report → IsOutcome script (state_of script cps others) report
+pub outcome_near : (script : ScriptView) (cps : List CheckpointView) (report : ReportView) (before others : List Block) → ArePutOff script cps AnyTask before others → IsOutcome script (state_of script cps before) report → IsOutcome script (state_of script cps others) report
 outcome_near script cps report before others was is =
     let same = was.close.near in
     record {

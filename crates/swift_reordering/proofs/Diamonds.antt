@@ -19,7 +19,6 @@ use Rattle.swift_events.specs.declared.event.Event.{Event}
 use Rattle.swift_events.specs.declared.event.Event.TheVariants.{Begin}
 use Rattle.swift_events.specs.declared.life.Life.{Life}
 use Rattle.swift_events.specs.declared.life.LastJob.{LastJob}
-use Rattle.swift_events.specs.declared.life.JobStage.{JobStage}
 use Rattle.swift_events.specs.declared.life.JobStage.TheVariants.{Given, Begun}
 use Rattle.swift_events.specs.Events.{tasks_of}
 use Rattle.swift_events.specs.Lives.{life_of, room_held, room_in}
@@ -209,22 +208,21 @@ fits_alone script t u a b c d callers (waiting x) is = absurd (false≢true is)
 fits_alone script t u a b c d callers (asking_next g) is = absurd (false≢true is)
 fits_alone script t u a b c d callers (closing g f) is = absurd (false≢true is)
 
-stands_fields : (script : ScriptView) (m : ℕ) (st : TurnStateView) (f g : List (List ℤ)) (after : Option FrameView) → StandsFor script m (record st { fields = f }) after → StandsFor script m (record st { fields = g }) after
-stands_fields script m st f g None is = is
-stands_fields script m st f g (Some p) is = (is.0, ap (λ (x : TurnStateView). record x { fields = g }) is.1)
+stands_fields : (script : ScriptView) (m : ℕ) (st : TurnStateView) (f g : List (List ℤ)) (i j : ℕ) (after : Option FrameView) → StandsFor script m (record st { fields = f; room = i }) after → StandsFor script m (record st { fields = g; room = j }) after
+stands_fields script m st f g i j None is = is
+stands_fields script m st f g i j (Some p) is = (is.0, ap (λ (x : TurnStateView). record x { fields = g; room = j }) is.1)
 
-after_fields : (script : ScriptView) (m : ℕ) (st : TurnStateView) (f g : List (List ℤ)) (exit : ExitView) (after : Option FrameView) → IsAfter script m (record st { fields = f }) exit after → IsAfter script m (record st { fields = g }) exit after
-after_fields script m st f g (returning v) after is = is
-after_fields script m st f g (failing x) after is = is
-after_fields script m st f g (calling i) after is = stands_fields script m st f g after is
-after_fields script m st f g (waiting x) after is = stands_fields script m st f g after is
-after_fields script m st f g (asking_next x) after is = stands_fields script m st f g after is
-after_fields script m st f g (closing x y) after is = stands_fields script m st f g after is
-after_fields script m st f g yielding after is = stands_fields script m st f g after is
+after_fields : (script : ScriptView) (m : ℕ) (st : TurnStateView) (f g : List (List ℤ)) (i j : ℕ) (exit : ExitView) (after : Option FrameView) → IsAfter script m (record st { fields = f; room = i }) exit after → IsAfter script m (record st { fields = g; room = j }) exit after
+after_fields script m st f g i j (returning v) after is = is
+after_fields script m st f g i j (failing x) after is = is
+after_fields script m st f g i j (calling c) after is = stands_fields script m st f g i j after is
+after_fields script m st f g i j (waiting x) after is = stands_fields script m st f g i j after is
+after_fields script m st f g i j (asking_next x) after is = stands_fields script m st f g i j after is
+after_fields script m st f g i j (closing x y) after is = stands_fields script m st f g i j after is
+after_fields script m st f g i j yielding after is = stands_fields script m st f g i j after is
 
 module _ (script : ScriptView) (cps : List CheckpointView) (before : List Block) (t n : ℕ) (env : Env) (e : ℕ) (r : RecordView) (silent : IsSilentTurn script cps before t n env e r) (stand : AllStand script cps [] before)
-    (hold : (bs : List Block) → AllStand script cps [] bs → InvariantsHold script cps bs e) (b : Block) (stands_b : Stands script cps before b) (of_other : IsOfOther t b)
-    (rooms : room_of (root_count script) t (after_blocks script (at_first script) before).log ≡ room_of (root_count script) t (after_blocks script (at_first script) (before ++ b ∷ [])).log) where
+    (hold : (bs : List Block) → AllStand script cps [] bs → InvariantsHold script cps bs e) (b : Block) (stands_b : Stands script cps before b) (of_other : IsOfOther t b) where
   abbrev at : List Block → Standing
   at bs = after_blocks script (at_first script) bs
 
@@ -284,14 +282,6 @@ module _ (script : ScriptView) (cps : List CheckpointView) (before : List Block)
   life_mid_b : life_of t mid_b.log ≡ record (life_of t (at hb).log) { stage = Some (Begun later_env) }
   life_mid_b = ap (λ (a : Standing). life_of t a.log) to_mid_b ∙ life_of-push_same t (at hb).log (Begin (task t) n later_env) refl
 
-  own_env : env ≡ r.env
-  own_env =
-      let is : ◌≡◌ {A = Option JobStage} (Some (Begun env)) (Some (Begun r.env)) = ap (λ (l : Life). l.stage) (sym life_mid) ∙ ap (stage_at mid.log) (sym silent.own) ∙ silent.runs.stands.has_begun in
-      cc is
-
-  room : r.env.room ≡ later_env.room
-  room = ap (λ (x : Env). x.room) (sym own_env) ∙ silent.begins.3.room ∙ rooms ∙ sym late.1.room
-
   mid_b_stand : AllStand script cps [] (hb ++ c ∷ [])
   mid_b_stand = all_push script cps hb [] c hb_stand begins_later
 
@@ -321,7 +311,7 @@ module _ (script : ScriptView) (cps : List CheckpointView) (before : List Block)
   runs_later =
       let f : List (List ℤ) = fields_of script cps e (before ++ begun t n env ∷ []) in
       let g : List (List ℤ) = fields_of script cps e (hb ++ c ∷ []) in
-      let p = played script cps before t n env e r silent (hold before stand) g later_env (hold (hb ++ c ∷ []) mid_b_stand) room in
+      let p = played script cps before t n env e r silent (hold before stand) g later_env (hold (hb ++ c ∷ []) mid_b_stand) in
       let lawful = silent.runs.lawful in
       record {
         job = silent.runs.job;
@@ -332,7 +322,7 @@ module _ (script : ScriptView) (cps : List CheckpointView) (before : List Block)
           exit = lawful.exit ∙ ap (λ (k : Played). k.exit) p.one ∙ ap (λ (k : Played). k.exit) (sym p.two);
           effects = lawful.effects ∙ ap (λ (k : Played). k.state.effects) p.one ∙ ap (λ (k : Played). k.state.effects) (sym p.two);
           after = subst (λ (k : Played). IsAfter script r.frame.method k.state r.exit r.after) (sym p.two)
-              (after_fields script r.frame.method p.state f g r.exit r.after (subst (λ (k : Played). IsAfter script r.frame.method k.state r.exit r.after) p.one lawful.after));
+              (after_fields script r.frame.method p.state f g r.env.room later_env.room r.exit r.after (subst (λ (k : Played). IsAfter script r.frame.method k.state r.exit r.after) p.one lawful.after));
         };
       }
 
@@ -456,14 +446,35 @@ module _ (script : ScriptView) (cps : List CheckpointView) (before : List Block)
     unused = both_unused;
   }
 
+  none_back : (x : Bool) → cons_option (if x then Some r else None) [] ≡ [] → cons_option (if x then Some later_turn else None) [] ≡ []
+  none_back true is = absurd (cc is)
+  none_back false is = refl
+
+  back_unused : (k : ℕ) → records_of k first_then ≡ [] → records_of k then_first ≡ []
+  back_unused k none =
+      let last = front_none script cps (records_of k after) (cons_option (record_in k b) []) (sym (records_push script cps k after b) ∙ none) in
+      let turn = front_none script cps (records_of k (before ++ begun t n env ∷ [])) (cons_option (record_in k (ran e r)) []) (sym (records_push script cps k (before ++ begun t n env ∷ []) (ran e r)) ∙ last.0) in
+      let begin = front_none script cps (records_of k before) (cons_option (record_in k (begun t n env)) []) (sym (records_push script cps k before (begun t n env)) ∙ turn.0) in
+      let hb_none : records_of k hb ≡ [] = records_push script cps k before b ∙ ap₂ (λ (xs ys : List RecordView). xs ++ ys) begin.0 last.1 in
+      let mid_none : records_of k (hb ++ c ∷ []) ≡ [] = records_push script cps k hb c ∙ ap (λ (xs : List RecordView). xs ++ []) hb_none in
+      records_push script cps k (hb ++ c ∷ []) (ran e later_turn) ∙ ap₂ (λ (xs ys : List RecordView). xs ++ ys) mid_none (none_back (e == k) turn.1)
+
+  pub both_back : LeadAlike script cps first_then then_first
+  both_back = record {
+    standing = record { digest = sym both_lead.standing.digest; held = sym both_lead.standing.held; jobs = λ u. sym (both_lead.standing.jobs u) };
+    fields = λ k. sym (both_lead.fields k);
+    unused = back_unused;
+  }
+
 pub silent_commutes : SilentTurnsCommute
-silent_commutes script cps before t n env e r b stand silent first stands_b of_other rooms =
+silent_commutes script cps before t n env e r b stand silent first stands_b of_other =
     let hold = hold_always script cps e first in
     record {
-      other = (late script cps before t n env e r silent stand hold b stands_b of_other rooms).0;
-      later = later_silent script cps before t n env e r silent stand hold b stands_b of_other rooms;
-      jobs = (beside script cps before t n env e r silent stand hold b stands_b of_other rooms).jobs;
-      orderly = orderly_after script cps before t n env e r silent stand hold b stands_b of_other rooms;
-      first = stands_after script cps before t n env e r silent stand hold b stands_b of_other rooms;
-      lead = both_lead script cps before t n env e r silent stand hold b stands_b of_other rooms;
+      other = (late script cps before t n env e r silent stand hold b stands_b of_other).0;
+      later = later_silent script cps before t n env e r silent stand hold b stands_b of_other;
+      jobs = (beside script cps before t n env e r silent stand hold b stands_b of_other).jobs;
+      orderly = orderly_after script cps before t n env e r silent stand hold b stands_b of_other;
+      first = stands_after script cps before t n env e r silent stand hold b stands_b of_other;
+      lead = both_lead script cps before t n env e r silent stand hold b stands_b of_other;
+      back = both_back script cps before t n env e r silent stand hold b stands_b of_other;
     }

@@ -26,3 +26,5 @@ pub mod Carrying
 pub mod Bringing
 pub mod SilentWalk
 pub mod SilentEnds
+pub mod RunAhead
+pub mod AheadWalk

@@ -25,14 +25,14 @@ use Rattle.swift_digest.proofs.Outcomes.{Made, NoneFolded, made, none_in, not_fo
 use Rattle.swift_digest.proofs.SameStands.{all_push}
 use Rattle.swift_reordering.specs.Blurred.{stage_at}
 use Rattle.swift_reordering.specs.Fused.{IsFused, RoomNeverBinds, no_env, done_in, done_by}
-use Rattle.swift_reordering.specs.FusedSteps.{MayStep, HasRoom, HasExit}
+use Rattle.swift_reordering.specs.FusedSteps.{MayStep, HasExit}
 use Rattle.swift_reordering.specs.SilentSearch.{AreClosedSilently, InvariantsStart, ClosedSilentlyHasEachOutcome, ClosedSilentlyHasEachExit}
 use Rattle.swift_reordering.proofs.Walks.{IsCourse}
 use Rattle.swift_reordering.proofs.Reports.{each_fused}
 use Rattle.swift_reordering.proofs.SilentWalk.{IsFinished, GoesToEnd, StepKept, StepsSilently, other_end, walk}
 
 -- at the end of a report no turn is under way
-finished : (script : ScriptView) (report : ReportView) (legal : IsLegal script report) → IsFinished script report.checkpoints legal.blocks
+pub finished : (script : ScriptView) (report : ReportView) (legal : IsLegal script report) → IsFinished script report.checkpoints legal.blocks
 finished script report legal t =
     let log = (after_blocks script (at_first script) legal.blocks).log in
     elim (slice_get_cases report.endings t).1 [
@@ -138,16 +138,11 @@ module _ (script : ScriptView) (tried : ℕ → ExitView → Bool) (histories : 
   goes : GoesToEnd script f.other.checkpoints [] f.legal.legal.blocks
   goes =
       let legal = f.legal.legal in
-      let tasks = legal.tasks in
-      let log = ap (tasks_of (root_count script)) legal.log in
-      let many = ap length f.endings in
-      let few : HasRoom script legal.blocks = omega (arith, room, tasks, log, many) in
       record {
         stand = legal.stand;
         may = f.legal.orderly;
         late = f.late;
         plain = plain_all script on f.other.checkpoints legal.blocks [] tt legal.stand m.none;
-        room = few;
         finished = finished script f.other legal;
       }
 

@@ -141,15 +141,15 @@ module _ (script : ScriptView) (cps : List CheckpointView) where
     hold_frame fields is = ap (λ (k : ℕ). all_hold (executor_invariants script k) fields) silent.runs.stands.on ∙ is
 
     -- the turn on its own fields, and on others
-    pub played : (g : List (List ℤ)) (other : Env) → all_hold (executor_invariants script e) g ≡ true → r.env.room ≡ other.room
-        → SamePlay r.outer r.env other f g (turn_of script f r) (turn_of script g (record r { env = other }))
-    played g other holds room = silent_turn script r.frame r.outer f g r.resume r.env other silent.quiet room (hold_frame f hold_mid) (hold_frame g holds)
+    pub played : (g : List (List ℤ)) (other : Env) → all_hold (executor_invariants script e) g ≡ true
+        → SamePlay r.outer r.env other f g r.env.room other.room (turn_of script f r) (turn_of script g (record r { env = other }))
+    played g other holds = silent_turn script r.frame r.outer f g r.resume r.env other silent.quiet (hold_frame f hold_mid) (hold_frame g holds)
 
     pub no_effects : r.effects ≡ []
-    no_effects = (let p = played f r.env hold_mid refl in silent.runs.lawful.effects ∙ ap (λ (k : Played). k.state.effects) p.one ∙ p.none)
+    no_effects = (let p = played f r.env hold_mid in silent.runs.lawful.effects ∙ ap (λ (k : Played). k.state.effects) p.one ∙ p.none)
 
     same_fields : (turn_of script f r).state.fields ≡ f
-    same_fields = (let p = played f r.env hold_mid refl in ap (λ (k : Played). k.state.fields) p.one)
+    same_fields = (let p = played f r.env hold_mid in ap (λ (k : Played). k.state.fields) p.one)
 
     abbrev frame_left : FrameView
     frame_left = left_as r.frame r.effects r.after

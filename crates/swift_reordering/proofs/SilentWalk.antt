@@ -4,7 +4,7 @@ use Rattle.std.specs.Prelude.{Contains, Some}
 use Rattle.std.specs.List.{AllByRecursion}
 use Rattle.std.proofs.lemmas.Bool.{cases_Bool, cases_eq, false≢true}
 use Rattle.swift_types.specs.declared.env.Env.{Env}
-use Rattle.swift_script.specs.Scripts.{ScriptView, root_count, executor_invariants}
+use Rattle.swift_script.specs.Scripts.{ScriptView, executor_invariants}
 use Rattle.swift_interpreter.specs.Turn.{ExitView, all_hold}
 use Rattle.swift_journal.specs.Records.{RecordView}
 use Rattle.swift_journal.specs.Checkpoints.{CheckpointView}
@@ -17,12 +17,12 @@ use Rattle.swift_laws.specs.Laws.{ActorsHaveExecutors}
 use Rattle.swift_digest.specs.Futures.{LeadAlike}
 use Rattle.swift_digest.specs.Explored.{IsNotFolded}
 use Rattle.swift_digest.proofs.Outcomes.{lead_on}
-use Rattle.swift_digest.proofs.SameLogs.{same_life, same_tasks}
+use Rattle.swift_digest.proofs.SameLogs.{same_life}
 use Rattle.swift_digest.proofs.SameStands.{all_push}
 use Rattle.swift_reordering.specs.Away.{job_looks_away}
 use Rattle.swift_reordering.specs.Blurred.{stage_at}
 use Rattle.swift_reordering.specs.Fused.{RunsNext, BeginLate}
-use Rattle.swift_reordering.specs.FusedSteps.{IsFusedStep, MayStep, HasRoom, HasExit}
+use Rattle.swift_reordering.specs.FusedSteps.{IsFusedStep, MayStep, HasExit}
 use Rattle.swift_reordering.specs.Waiting.{IsOfOther}
 use Rattle.swift_reordering.specs.SilentTurns.{IsSilentTurn, OwnNext}
 use Rattle.swift_reordering.proofs.Walks.{IsCourse}
@@ -47,7 +47,6 @@ module _ (script : ScriptView) (cps : List CheckpointView) where
     pub may : AllAllowed (IsOrderly script) h rest
     pub late : BeginLate script h rest
     pub plain : AllByRecursion IsNotFolded rest
-    pub room : HasRoom script (h ++ rest)
     pub finished : IsFinished (h ++ rest)
 
   front : (h : List Block) (b : Block) (bs : List Block) → GoesToEnd h (b ∷ bs) → GoesToEnd (h ++ b ∷ []) bs
@@ -56,7 +55,6 @@ module _ (script : ScriptView) (cps : List CheckpointView) where
     may = g.may.1;
     late = late_rest script cps b bs h g.late;
     plain = g.plain.1;
-    room = subst (HasRoom script) (sym (append_assoc h (b ∷ []) bs)) g.room;
     finished = subst IsFinished (sym (append_assoc h (b ∷ []) bs)) g.finished;
   }
 
@@ -96,8 +94,6 @@ module _ (script : ScriptView) (cps : List CheckpointView) where
   other_end h k rest all also lead g =
       let o = carry script cps rest h k all also lead g.stand g.may g.late in
       let same = o.lead.standing.digest in
-      let many = same_tasks (at (h ++ rest)).log (at (k ++ o.rest)).log same (root_count script) in
-      let few = g.room in
       record {
         others = o.rest;
         goes = record {
@@ -105,7 +101,6 @@ module _ (script : ScriptView) (cps : List CheckpointView) where
           may = o.orderly;
           late = o.late;
           plain = plain_like script cps rest o.rest o.like g.plain;
-          room = omega (arith, many, few);
           finished = λ t. ap (λ (l : Life). is_under_way l.stage) (sym (same_life (at (h ++ rest)).log (at (k ++ o.rest)).log same t)) ∙ g.finished t;
         };
         many = like_many script rest o.rest o.like;
@@ -183,20 +178,17 @@ module _ (script : ScriptView) (cps : List CheckpointView) where
     go_silent : (fuel : ℕ) (h rest : List Block) → Kept h → GoesToEnd h rest → length rest ≤ suc fuel → StepsSilently Kept Tried h → Walk fuel → Ends h rest
     go_silent fuel h rest kept g few x walk =
         let c = course h kept in
-        let f = bring script cps on x.t x.n x.e (hold x.e) rest h x.env x.r c g.stand g.may g.room g.late x.silent (own_next rest h x.t c.stand g x.silent.given x.away) in
+        let f = bring script cps on x.t x.n x.e (hold x.e) rest h x.env x.r c g.stand g.may g.late x.silent (own_next rest h x.t c.stand g x.silent.given x.away) in
         let mid : List Block = (h ++ begun x.t x.n x.env ∷ []) ++ ran x.e x.r ∷ [] in
         let far : mid ++ f.others ≡ h ++ begun x.t x.n x.env ∷ ran x.e x.r ∷ f.others = append_assoc (h ++ begun x.t x.n x.env ∷ []) (ran x.e x.r ∷ []) f.others ∙ append_assoc h (begun x.t x.n x.env ∷ []) (ran x.e x.r ∷ f.others) in
         let lead : LeadAlike script cps (h ++ rest) (mid ++ f.others) = subst (LeadAlike script cps (h ++ rest)) (sym far) f.lead in
         let same = lead.standing.digest in
-        let tasks = same_tasks (at (h ++ rest)).log (at (mid ++ f.others)).log same (root_count script) in
-        let room = g.room in
         let mid_stand : AllStand script cps [] mid = all_push script cps (h ++ begun x.t x.n x.env ∷ []) [] (ran x.e x.r) (all_push script cps h [] (begun x.t x.n x.env) c.stand x.silent.begins) x.silent.runs in
         let goes : GoesToEnd mid f.others = record {
           stand = f.stand.1.1;
           may = f.orderly;
           late = f.late;
           plain = f.plain g.plain;
-          room = omega (arith, tasks, room);
           finished = λ t. ap (λ (l : Life). is_under_way l.stage) (sym (same_life (at (h ++ rest)).log (at (mid ++ f.others)).log same t)) ∙ g.finished t;
         } in
         let o = other_end mid x.kept f.others mid_stand (course x.kept x.is_kept).stand x.lead goes in

@@ -6,3 +6,4 @@ pub mod Waiting
 pub mod Silent
 pub mod SilentTurns
 pub mod SilentSearch
+pub mod RunAhead

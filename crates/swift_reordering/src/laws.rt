@@ -3,6 +3,7 @@
 ghost use Rattle.swift_reordering.specs.Away.{InstructionsTell};
 ghost use Rattle.swift_reordering.specs.Fused.{EachIsFused};
 ghost use Rattle.swift_reordering.specs.FusedSteps.{ClosedHasEachExit, ClosedHasEachOutcome};
+ghost use Rattle.swift_reordering.specs.RunAhead.{ClosedAheadHasEachExit, ClosedAheadHasEachOutcome};
 ghost use Rattle.swift_reordering.specs.SilentSearch.{ClosedSilentlyHasEachExit, ClosedSilentlyHasEachOutcome};
 ghost use Rattle.swift_reordering.specs.SilentTurns.{SilentTurnsCommute, SilentTurnsMayGoFirst};
 ghost use Rattle.swift_reordering.specs.Waiting.{BeginsMayWait};
@@ -53,4 +54,15 @@ pub fn silently_closed_histories_have_each_outcome()
 /// Each turn of such a report ends as a turn does of a step that was tried (our own).
 pub fn silently_closed_histories_have_each_exit()
     ensures { ClosedSilentlyHasEachExit }
+{}
+
+/// A list of histories from each of which each step, with silent turns after it, leads as one of them, has the outcome of each legal report
+/// in order without folded turns, where there is room in each of them and the invariants hold at the start (our own).
+pub fn histories_closed_ahead_have_each_outcome()
+    ensures { ClosedAheadHasEachOutcome }
+{}
+
+/// Each turn of such a report ends as a turn does that was tried (our own).
+pub fn histories_closed_ahead_have_each_exit()
+    ensures { ClosedAheadHasEachExit }
 {}

@@ -1,12 +1,13 @@
 //! What a log says of tasks and groups, as numbers.
 
-ghost use Rattle.std.specs.Prelude.{◌≡◌, ◌+◌, ◌<◌, ◌≤◌, ◌^◌, ◌==◌, ◌||◌, if◌then◌else◌, [], ◌∷◌, ◌++◌, length, pos, IfOk, OnOk};
+ghost use Rattle.std.specs.Prelude.{◌≡◌, ◌+◌, ◌<◌, ◌≤◌, ◌^◌, ◌==◌, ◌||◌, if◌then◌else◌, false, ℕ, List, [], ◌∷◌, ◌++◌, length, pos, IfOk, OnOk};
 ghost use Rattle.std.specs.List.{cons_option};
+ghost use Rattle.swift_types.specs.declared.id.TaskId.{TaskId};
 ghost use Rattle.swift_events.specs.Events.{is_made, task_of};
 ghost use Rattle.swift_events.specs.Lives.{lived};
 ghost use Rattle.swift_events.specs.Relations.{asks, child_in, closes, ending_among, names_group, names_task, opens, own_in, waiter_in};
 ghost use Rattle.swift_groups.specs.Groups.{is_among};
-ghost use Rattle.swift_explorer.specs.CardsInside.{IsCard, IsKeyGroup, card_of_parts, group_of_parts};
+ghost use Rattle.swift_explorer.specs.CardsInside.{IsCard, IsKeyGroup, IsPast, IsPastGroup, card_of_parts, group_of_parts};
 ghost use Rattle.swift_explorer.specs.DigestNumbers.{IsWithin, IsWritten, card_numbers, ended_numbers, group_end, groups_numbers, head_numbers, other_of};
 ghost use Rattle.swift_digest.specs.Digests.{digest_of, one_if, own_link};
 ghost use Rattle.swift_explorer.specs.Numbers.{each_numbers, link_numbers, some_numbers, task_numbers};
@@ -204,6 +205,39 @@ fn group_end(event: Event) -> u64
     }
 }
 
+// Whether an event may say something for a task's card: most say nothing.
+#[tactic(auto, using(crate::proofs::Past::past))]
+fn may_change(task: TaskId, event: Event) -> bool
+    ensures { result ≡ false → IsPast task.0 event }
+{
+    if event.task().0 == task.0 {
+        return true;
+    }
+    other_of(event).0 == task.0
+}
+
+// Whether an event may say something for a group's card.
+fn may_change_groups(event: Event) -> bool
+    ensures { result ≡ false → (o g : ℕ) (children : List TaskId) → IsPastGroup o g children event }
+{
+    match event {
+        Event::Child { .. }
+        | Event::CancelGroup(_, _)
+        | Event::Next(_, _)
+        | Event::Close(_, _)
+        | Event::End(_, _) => true,
+        Event::Root(_, _)
+        | Event::Begin { .. }
+        | Event::Apply(_, _)
+        | Event::Free { .. }
+        | Event::Open(_, _)
+        | Event::Skip(_, _)
+        | Event::CancelTask(_)
+        | Event::Wait(_, _)
+        | Event::Give { .. } => false,
+    }
+}
+
 // What is there once one more event was read.
 
 fn life_noted(life: Life, task: TaskId, event: Event) -> Life
@@ -273,6 +307,7 @@ fn push_some(tasks: &mut Vec<TaskId>, task: Option<TaskId>) -> Result<(), AllocE
 }
 
 impl KeyCard {
+    #[tactic(auto, using(crate::proofs::Past::numbers_stay, crate::proofs::Past::flag_stays, crate::proofs::Past::count_stays))]
     fn note(&mut self, task: TaskId, event: Event) -> Result<(), AllocError>
         requires { self.old.opened < 2 ^ 63 }
         ensures life { OnOk result (self.new.life ≡ (if task_of event == task.0 then lived self.old.life event else self.old.life)) }
@@ -282,6 +317,9 @@ impl KeyCard {
         ensures named { OnOk result (self.new.named ≡ (self.old.named || names_task task.0 event)) }
         ensures opened { OnOk result (self.new.opened ≡ self.old.opened + one_if (opens task.0 event)) }
     {
+        if !may_change(task, event) {
+            return Ok(());
+        }
         self.life = life_noted(self.life, task, event);
         put_some_link(&mut self.links, own_link(task, event))?;
         put_some_task(&mut self.own, own_in(task, event))?;
@@ -293,6 +331,7 @@ impl KeyCard {
 }
 
 impl KeyGroup {
+    #[tactic(auto, using(crate::proofs::Past::numbers_stay, crate::proofs::Past::items_stay, crate::proofs::Past::flag_stays, crate::proofs::Past::count_stays))]
     fn note(&mut self, owner: TaskId, group: u32, event: Event) -> Result<(), AllocError>
         requires { self.old.asked < 2 ^ 63 }
         ensures children { OnOk result (self.new.children.items ≡ self.old.children.items ++ cons_option (child_in owner.0 group event) []) }
@@ -302,6 +341,9 @@ impl KeyGroup {
         ensures closed { OnOk result (self.new.closed ≡ (self.old.closed || closes owner.0 group event)) }
         ensures named { OnOk result (self.new.named ≡ (self.old.named || names_group owner.0 group event)) }
     {
+        if !may_change_groups(event) {
+            return Ok(());
+        }
         put_some_end(&mut self.ended, ending_among(&self.children, event))?;
         let child = child_in(owner, group, event);
         push_some(&mut self.children, child)?;

@@ -1,7 +1,7 @@
-use Rattle.std.proofs.Common.{ap}
+use Rattle.std.proofs.Common.{refl}
 use Rattle.std.specs.Arc.{arc_value}
 use Rattle.swift_explorer.specs.HistoryInside.{GoesOn}
-use Rattle.swift_explorer.proofs.Paths.{breaks_if, path_push, was_done}
+use Rattle.swift_explorer.proofs.Paths.{breaks_if, path_push, path_some}
 use Rattle.swift_explorer.proofs.Ran.{if_done}
 use Rattle.swift_explorer.proofs.Trying.{followed_by}
 use Rattle.swift_explorer.proofs.search.follow_one.Goals as goal
@@ -11,12 +11,14 @@ returns c =
     let script = arc_value c.args.history.now.script in
     let path = c.args.path.now in
     let m = c.args.step in
-    let x = c.follow.new.history in
+    let x = c.args.history.now in
     let y = c.step.new.self in
-    let own = ap arc_value c.follow.ensures.script in
-    let p = c.in_ok-follow.ensures.path (was_done c.in_ok-follow.field-0 c.in_default.not-No) in
+    let p = c.requires in
     record {
-      broken = breaks_if c.step.result script path m x y own p c.step.ensures.follows;
-      path = if_done c.step.result (GoesOn m x y) _ (λ f goes. path_push script path m x y f own goes p) c.step.ensures.follows;
-      last = if_done c.step.result (GoesOn m x y) _ (λ f goes. followed_by script path m x y f own goes p) c.step.ensures.follows;
+      broken = breaks_if c.step.result script path m x y refl p c.step.ensures.follows;
+      path = if_done c.step.result (GoesOn m x y) _ (λ f goes. path_push script path m x y f refl goes p) c.step.ensures.follows;
+      last = if_done c.step.result (GoesOn m x y) _ (λ f goes. followed_by script path m x y f refl goes p) c.step.ensures.follows;
     }
+
+pub step-requires : goal.step-requires
+step-requires c = path_some (arc_value c.args.history.now.script) c.args.path.now c.args.history.now refl c.requires

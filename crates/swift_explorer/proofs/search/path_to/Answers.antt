@@ -1,9 +1,7 @@
 use Rattle.std.proofs.Common.{◌≡◌, ◌∙◌, ℕ, List, ◌++◌, append-nil, reverse, sym, subst, ap, arith}
-use Rattle.std.specs.Prelude.{Some, slice_get, slice_index_or}
+use Rattle.std.specs.Prelude.{Some, slice_get}
 use Rattle.std.proofs.lemmas.Option.{slice_get-get_or}
 use Rattle.swift_explorer.specs.declared.moves.Move.{Move}
-use Rattle.swift_explorer.specs.declared.moves.Move.TheVariants as step
-use Rattle.swift_explorer.specs.declared.search.Node.{Node}
 use Rattle.swift_explorer.specs.SearchInside.{paths_of}
 use Rattle.swift_explorer.proofs.Nodes.{first_none, one_back, path_there}
 use Rattle.swift_explorer.proofs.search.path_to.Goals as goal
@@ -16,24 +14,25 @@ back-init c =
 pub back-preserved : goal.back-preserved
 back-preserved c =
     let ns = c.args.nodes.now in
-    let none : Node = record { before = 0; step = step.Add } in
-    let n : Node = slice_index_or ns c.back.at none in
     let old = c.back.invariant in
-    let there = slice_get-get_or ns c.back.at none old.inside in
+    let n = c.index-nodes-at.result in
+    let there = slice_get-get_or ns c.back.at n old.inside ∙ ap Some (sym c.index-nodes-at.is) in
     let back = one_back ns c.back.at c.args.place n old.path.0 c.back.path.items c.requires.on c.back-test.true there old.path.1 old.path.2 in
     let inside = old.inside in
     let less = back.0 in
+    let put = c.in_ok-push_back.ensures ∙ ap (λ (ms : List Move). c.back.path.items ++ reverse ms) c.deref.ensures.value in
     record {
       inside = omega (arith, inside, less);
-      path = (back.1.0, back.1.1, back.1.2 ∙ ap (λ (ms : List Move). Some (back.1.0 ++ reverse ms)) (sym c.in_ok-push.ensures.items));
+      path = (back.1.0, back.1.1, back.1.2 ∙ ap (λ (ms : List Move). Some (back.1.0 ++ reverse ms)) (sym put));
     }
 
 pub back-smaller : goal.back-smaller
 back-smaller c =
     let ns = c.args.nodes.now in
-    let none : Node = record { before = 0; step = step.Add } in
     let old = c.back.invariant in
-    (one_back ns c.back.at c.args.place (slice_index_or ns c.back.at none) old.path.0 c.back.path.items c.requires.on c.back-test.true (slice_get-get_or ns c.back.at none old.inside) old.path.1 old.path.2).0
+    let n = c.index-nodes-at.result in
+    let there = slice_get-get_or ns c.back.at n old.inside ∙ ap Some (sym c.index-nodes-at.is) in
+    (one_back ns c.back.at c.args.place n old.path.0 c.back.path.items c.requires.on c.back-test.true there old.path.1 old.path.2).0
 
 pub returns : goal.returns
 returns c =

@@ -1,7 +1,9 @@
 use Rattle.std.proofs.Common.{rules, ◌≡◌, ◌<◌, length, true, arith}
 use Rattle.std.specs.List.{list_any}
 use Rattle.std.specs.Str.{bytes_eq}
+use Rattle.std.proofs.lemmas.Result.{on_ok_weaker}
 use Rattle.swift_explorer.specs.declared.search.Node.{Node}
+use Rattle.swift_explorer.specs.declared.search.Search.{Search}
 use Rattle.swift_explorer.proofs.Keeping.{keeps_known, keeps_full, keeps_new}
 use Rattle.swift_explorer.proofs.search.Search.keep.Goals as goal
 
@@ -19,6 +21,12 @@ pub returns : goal.returns
 returns c =
     let x = c.args.self.now in
     let key = c.in_ok-key.key.items in
-    let n : Node = record { before = c.args.before; step = c.args.step } in
+    let n : Node = record { before = c.args.before; moves = c.args.moves } in
     let room : length x.nodes.items < x.limit = omega (arith, c.if-len-self.false, c.len.ensures) in
-    record { keeps = keeps_new x c.args.history key n c.push.new.self c.add.new.self c.requires.sound c.in_ok-key.ensures c.requires.before c.requires.path c.in_ok-push.ensures.items (λ k has. (c.in_ok-add.ensures.ok k).0 has) room }
+    let z : Search = record x { histories = c.put_history.new.histories } in
+    record {
+      keeps = on_ok_weaker c.put_history.result (λ there.
+          keeps_new x c.args.history key n c.push.new.self c.add.new.self c.requires.sound c.in_ok-key.ensures c.requires.before c.requires.path c.in_ok-push.ensures.items (λ k has. (c.in_ok-add.ensures.ok k).0 has) room
+          z c.len-place.result c.spare_copy-spare.result (omega (arith, c.len-place.ensures)) c.spare_copy-spare.ensures there)
+          c.put_history.ensures;
+    }

@@ -4,7 +4,9 @@ use Rattle.std.specs.Arc.{arc_value}
 use Rattle.std.proofs.lemmas.List.{take_more}
 use Rattle.std.proofs.lemmas.List.Elements.{All-nil, All-push, All-weaker}
 use Rattle.swift_script.specs.Scripts.{ScriptView}
-use Rattle.swift_explorer.specs.declared.moves.Move.TheVariants as step
+use Rattle.swift_explorer.specs.declared.moves.Move.TheVariants.{Add}
+use Rattle.swift_explorer.specs.declared.fused.Step.TheVariants.{One}
+use Rattle.swift_explorer.specs.HistoryInside.{IsPath}
 use Rattle.swift_explorer.specs.SearchInside.{IsSound, StepWasTried}
 use Rattle.swift_explorer.proofs.Growing.{grown_none, grown_on, step_grown}
 use Rattle.swift_explorer.proofs.search.Search.try_all.Goals as goal
@@ -19,7 +21,12 @@ try_step-requires c =
     let x = c.args.self.now in
     let s = c.loop-step.self in
     let old = c.loop-step.invariant in
-    record { sound = subst (λ (sc : ScriptView). IsSound sc s) (sym (ap arc_value old.grown.script)) old.sound; path = old.grown.paths c.args.place c.args.path.now c.requires.path }
+    let own = sym (ap arc_value old.grown.script) in
+    record {
+      sound = subst (λ (sc : ScriptView). IsSound sc s) own old.sound;
+      followed = subst (λ (sc : ScriptView). IsPath sc c.args.path.now c.args.history.now) own c.requires.followed;
+      path = old.grown.paths c.args.place c.args.path.now c.requires.path;
+    }
 
 pub loop-step-preserved : goal.loop-step-preserved
 loop-step-preserved c =
@@ -27,9 +34,9 @@ loop-step-preserved c =
     let s = c.loop-step.self in
     let z = c.try_step.new.self in
     let path = c.args.path.now in
-    let moves = c.args.moves.now in
+    let steps = c.args.steps.now in
     let k = c.loop-step.step-index in
-    let m = slice_index_or moves k step.Add in
+    let m = slice_index_or steps k (One Add) in
     let script = arc_value x.script in
     let old = c.loop-step.invariant in
     let made = c.in_ok-try_step.ensures in
@@ -37,9 +44,9 @@ loop-step-preserved c =
     record {
       grown = grown_on x s z old.grown made.grown;
       sound = subst (λ (sc : ScriptView). IsSound sc z) own made.sound;
-      tried = λ is. subst (All (StepWasTried script z path)) (sym (take_more moves k step.Add c.loop-step-test.true))
-          (All-push (StepWasTried script z path) (take k moves) m
-          (All-weaker (StepWasTried script s path) (StepWasTried script z path) (λ n was. step_grown script s z path n made.grown was) (take k moves) (old.tried (made.grown.complete is)))
+      tried = λ is. subst (All (StepWasTried script z path)) (sym (take_more steps k (One Add) c.loop-step-test.true))
+          (All-push (StepWasTried script z path) (take k steps) m
+          (All-weaker (StepWasTried script s path) (StepWasTried script z path) (λ n was. step_grown script s z path n made.grown was) (take k steps) (old.tried (made.grown.complete is)))
           (subst (λ (sc : ScriptView). StepWasTried sc z path m) own (made.tried is)));
     }
 
@@ -49,5 +56,5 @@ returns c =
     record {
       grown = old.grown;
       sound = old.sound;
-      tried = λ is. subst (All (StepWasTried (arc_value c.args.self.now.script) c.loop-step.self c.args.path.now)) (take_all c.loop-step.step-index c.args.moves.now (omega (arith, c.loop-step-test.false))) (old.tried is);
+      tried = λ is. subst (All (StepWasTried (arc_value c.args.self.now.script) c.loop-step.self c.args.path.now)) (take_all c.loop-step.step-index c.args.steps.now (omega (arith, c.loop-step-test.false))) (old.tried is);
     }

@@ -8,5 +8,5 @@ abbrev pub invariant-loop-step : goal.invariant-loop-step
 invariant-loop-step l = record {
   grown : HasGrown l.fn.self l.self;
   sound : IsSound (arc_value l.fn.self.script) l.self;
-  tried : IsTrue l.self.is_complete → All (StepWasTried (arc_value l.fn.self.script) l.self l.path) (take l.step-index l.moves);
+  tried : IsTrue l.self.is_complete → All (StepWasTried (arc_value l.fn.self.script) l.self l.path) (take l.step-index l.steps);
 }

@@ -1,0 +1,12 @@
+use Rattle.std.proofs.Common.{◌≡◌, true, take_all, subst, sym, arith}
+use Rattle.std.specs.Prelude.{All}
+use Rattle.script_code.specs.declared.instruction.Instruction.{Instruction}
+use Rattle.swift_reordering.specs.Away.{instruction_looks_away}
+use Rattle.swift_explorer.proofs.LooksAway.{lines_push}
+use Rattle.swift_explorer.proofs.away.all_look_away.Goals as goal
+
+pub loop-line-preserved : goal.loop-line-preserved
+loop-line-preserved c = lines_push c.args.lines.now c.loop-line.line-index c.line-item.result c.loop-line-test.true c.line-item.is c.loop-line.invariant (sym c.if-not-instruction_looks_away.ensures)
+
+pub returns : goal.returns
+returns c = λ _. subst (All (λ (line : Instruction). instruction_looks_away line ≡ true)) (take_all c.loop-line.line-index c.args.lines.now (omega (arith, c.loop-line-test.false))) c.loop-line.invariant

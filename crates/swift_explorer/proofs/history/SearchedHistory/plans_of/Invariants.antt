@@ -1,0 +1,7 @@
+use Rattle.std.proofs.Common.{take}
+use Rattle.std.specs.Arc.{arc_value}
+use Rattle.swift_explorer.specs.FusedInside.{ArePlansOf, AreTold}
+use Rattle.swift_explorer.proofs.history.SearchedHistory.plans_of.Given as goal
+
+abbrev pub invariant-loop-step : goal.invariant-loop-step
+invariant-loop-step l = AreTold (arc_value l.self.script) l.away → ArePlansOf l.self (take l.step-index l.moves) l.steps.items

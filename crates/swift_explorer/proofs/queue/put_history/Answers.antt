@@ -1,0 +1,11 @@
+use Rattle.std.proofs.Common.{◌≡◌, ◌∙◌, ap, sym, inl, inr, eqb-true}
+use Rattle.std.specs.Prelude.{Some, nat_eq}
+use Rattle.swift_explorer.proofs.HistoriesTaken.{filled}
+use Rattle.swift_explorer.proofs.queue.put_history.Goals as goal
+
+pub returns : goal.returns
+returns c = λ q k at.
+    elim (filled (nat_eq c.args.place q) _ _ c.in-Some.kept (c.in_ok-insert.ensures.updates.0 q) k at) [
+      | inl old ↦ inl old
+      | inr new ↦ inr (sym (eqb-true c.args.place q new.0), c.in-Some.is ∙ ap Some new.1)
+    ]

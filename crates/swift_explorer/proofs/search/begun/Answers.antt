@@ -1,0 +1,13 @@
+use Rattle.std.proofs.Common.{sym, subst}
+use Rattle.swift_explorer.specs.HistoryInside.{WasDone}
+use Rattle.swift_explorer.proofs.search.begun.Goals as goal
+
+pub returns-in-Ok-Yes : goal.returns-in-Ok-Yes
+returns-in-Ok-Yes c =
+    let done : WasDone c.in-Ok-Yes.field-0 = subst WasDone (sym c.in-Ok-Yes.field-0-is) tt in
+    c.in-Ok-Yes.ensures.path done
+
+pub returns-in-Ok-Broken : goal.returns-in-Ok-Broken
+returns-in-Ok-Broken c =
+    let done : WasDone c.in-Ok-Broken.field-0 = subst WasDone (sym c.in-Ok-Broken.field-0-is) tt in
+    c.in-Ok-Broken.ensures.path done

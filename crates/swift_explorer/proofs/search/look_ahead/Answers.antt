@@ -1,0 +1,13 @@
+use Rattle.std.proofs.Common.{rules, refl}
+use Rattle.std.specs.Arc.{arc_value}
+use Rattle.swift_explorer.specs.declared.search.Ahead.{Ahead}
+use Rattle.swift_explorer.specs.FusedInside.{AreTold, HasEachStep}
+use Rattle.swift_explorer.proofs.Trying.{ahead_is}
+use Rattle.swift_explorer.proofs.search.look_ahead.Goals as goal
+
+pub returns : goal.returns
+returns c =
+    let x = c.args.history.now in
+    let a : Ahead = record { steps = c.in-Some.steps; end = c.in_ok-end.end; has_room = c.has_room-has_room.result } in
+    let next : AreTold (arc_value x.script) c.args.away.now → HasEachStep x a.steps.items = search rules in
+    ahead_is (arc_value x.script) c.args.path.now a x refl c.requires.path (next c.requires.told) c.in_ok-end.ensures.reached c.in_ok-end.ensures.known c.has_room-has_room.ensures

@@ -1,0 +1,60 @@
+-- Steps of a search in which turns that look away begin and run at once. No public clause names these.
+use Rattle.std.specs.Prelude.{◌≡◌, ◌+◌, ◌*◌, ◌≤◌, ◌⊎◌, ℕ, Bool, true, false, List, [], ◌∷◌, slice_index_or, Contains}
+use Rattle.std.specs.Option.{option_map}
+use Rattle.std.specs.Arc.{arc_value}
+use Rattle.swift_types.specs.declared.id.TaskId.{TaskId}
+use Rattle.swift_types.specs.declared.limits.TheConstants.{TASKS, MADE}
+use Rattle.swift_script.specs.Scripts.{ScriptView, executor_count, method_code, root_count}
+use Rattle.swift_events.specs.Events.{tasks_of}
+use Rattle.swift_history.specs.Histories.{Block, Stands}
+use Rattle.swift_history.specs.Orderly.{IsOrderly}
+use Rattle.swift_course.specs.Course.{standing, starts}
+use Rattle.swift_digest.specs.Explored.{IsNotFolded}
+use Rattle.swift_reordering.specs.Away.{code_looks_away, job_looks_away}
+use Rattle.swift_explorer.specs.declared.moves.Move.{Move}
+use Rattle.swift_explorer.specs.declared.moves.Move.TheVariants as step
+use Rattle.swift_explorer.specs.declared.fused.Step.{Step}
+use Rattle.swift_explorer.specs.declared.fused.Step.TheVariants.{One, Turn}
+use Rattle.swift_explorer.specs.declared.history.SearchedHistory.{SearchedHistory}
+use Rattle.swift_explorer.specs.HistoryInside.{IsHistory, IsMoveOf, given_at, given_view}
+
+-- each method of which it is told that it looks away does
+abbrev pub AreTold : ScriptView → List Bool → Type 0
+AreTold script away = (m : ℕ) → slice_index_or away m false ≡ true → code_looks_away (method_code script m) ≡ true
+
+-- what a step of a search does last, and before that
+abbrev pub last_half : Step → Move
+last_half (One m) = m
+last_half (Turn t) = step.Run t
+
+abbrev pub first_half : Step → List Move
+first_half (One m) = []
+first_half (Turn t) = step.Begin t ∷ []
+
+-- the next turn of a task looks away
+abbrev pub LooksAway : SearchedHistory → TaskId → Type 0
+LooksAway x t = job_looks_away (arc_value x.script) (option_map (given_view t.0) (given_at x.tasks.items t.0)) ≡ true
+
+-- a step of a search does this step of a history first: alone, or the turn that it begins looks away, and runs at once
+abbrev pub IsPlanOf : SearchedHistory → Move → Step → Type 0
+IsPlanOf x m (One k) = k ≡ m
+IsPlanOf x m (Turn t) = (m ≡ step.Begin t) × LooksAway x t
+
+-- for each of these there is one
+abbrev pub ArePlansOf : SearchedHistory → List Move → List Step → Type 0
+ArePlansOf x moves steps = (m : Move) → Contains moves m → (s : Step) × Contains steps s × IsPlanOf x m s
+
+-- A block after others is what one of these steps does; or the turn that it begins looks away, and one of these steps begins it and runs it.
+abbrev pub IsChosen : ScriptView → List Step → List Block → Block → Type 0
+IsChosen script steps blocks b =
+    ((m : Move) × Contains steps (One m) × IsMoveOf m b)
+    ⊎ ((t : TaskId) × Contains steps (Turn t) × IsMoveOf (step.Begin t) b × (job_looks_away script ((standing script blocks).jobs t.0) ≡ true))
+
+-- Each block in order that may follow a history is chosen.
+abbrev pub HasEachStep : SearchedHistory → List Step → Type 0
+HasEachStep x steps = (blocks : List Block) (b : Block) → IsHistory (arc_value x.script) blocks x
+    → IsNotFolded b → Stands (arc_value x.script) (starts (arc_value x.script)) blocks b → IsOrderly (arc_value x.script) blocks b → IsChosen (arc_value x.script) steps blocks b
+
+-- so few tasks that turns at all executors, and one more, may each make 16
+abbrev pub IsRoomy : SearchedHistory → Type 0
+IsRoomy x = tasks_of (root_count x.book.script) x.book.log + MADE * (executor_count (arc_value x.script) + 1) ≤ TASKS

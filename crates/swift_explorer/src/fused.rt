@@ -1,0 +1,121 @@
+//! Steps of a search: a turn that looks away begins and runs at once.
+
+ghost use Rattle.std.specs.Prelude.{◌≡◌, ◌++◌, ◌↔◌, IfOk, IfSome, IsTrue, OnOk, true};
+ghost use Rattle.std.specs.Arc.{arc_value};
+ghost use Rattle.swift_script.specs.Scripts.{ScriptView};
+ghost use Rattle.swift_turn.specs.Body.{IsRunning};
+ghost use Rattle.swift_reordering.specs.Away.{frames_look_away};
+ghost use Rattle.swift_explorer.specs.FusedInside.{ArePlansOf, AreTold, HasEachStep, IsPlanOf, IsRoomy, LooksAway, first_half, last_half};
+
+use crate::history::SearchedHistory;
+use crate::moves::Move;
+use std::alloc::{AllocError, Global};
+use swift_turn::Body;
+use swift_types::TaskId;
+use swift_types::limits::{MADE, TASKS};
+
+// One step of a search.
+#[derive(Clone, Copy)]
+pub(crate) enum Step {
+    // A step of the history.
+    One(Move),
+    // The next turn of a task, which looks away, begins, and runs at once.
+    Turn(TaskId),
+}
+
+impl Step {
+    // What it does last.
+    pub(crate) fn last(self) -> Move
+        ensures { result ≡ last_half self }
+    {
+        match self {
+            Step::One(step) => step,
+            Step::Turn(task) => Move::Run(task),
+        }
+    }
+
+    // Writes what it does before that.
+    pub(crate) fn put_first(self, path: &mut Vec<Move>) -> Result<(), AllocError>
+        ensures { OnOk result (path.new.items ≡ path.old.items ++ first_half self) }
+    {
+        match self {
+            Step::One(_) => Ok(()),
+            Step::Turn(task) => {
+                path.push(Move::Begin(task))?;
+                Ok(())
+            }
+        }
+    }
+}
+
+// Whether the next turn of a task with these frames looks away.
+fn body_looks_away(body: &Body, away: &[bool]) -> bool
+    requires { IsRunning body.now }
+    ensures { IsTrue result → (script : ScriptView) → AreTold script away.now → frames_look_away script body.now.task.frames ≡ true }
+{
+    let frame = body.top();
+    if frame.pending.is_some() {
+        return true;
+    }
+    match away.get(frame.method.0 as usize) {
+        Some(is_away) => *is_away,
+        None => false,
+    }
+}
+
+impl SearchedHistory {
+    // Whether the next turn of a task looks away.
+    fn looks_away(&self, away: &[bool], task: TaskId) -> bool
+        ensures { IsTrue result → AreTold (arc_value self.now.script) away.now → LooksAway self.now task }
+    {
+        let place = task.0 as usize;
+        if place >= self.tasks.len() {
+            return false;
+        }
+        let Some(ready) = &self.tasks[place] else {
+            return false;
+        };
+        ready.body.is_running() && body_looks_away(&ready.body, away)
+    }
+
+    // The step of a search that does this first.
+    fn plan_of(&self, away: &[bool], step: Move) -> Step
+        ensures { AreTold (arc_value self.now.script) away.now → IsPlanOf self.now step result }
+    {
+        match step {
+            Move::Begin(task) if self.looks_away(away, task) => Step::Turn(task),
+            _ => Step::One(step),
+        }
+    }
+
+    // The same of each of these.
+    fn plans_of(&self, away: &[bool], moves: &[Move]) -> Result<Vec<Step>, AllocError>
+        ensures { IfOk result (λ steps. AreTold (arc_value self.now.script) away.now → ArePlansOf self.now moves.now steps.items) }
+    {
+        let mut steps = Vec::with_capacity(self.alloc, moves.len())?;
+        for step in moves {
+            steps.push(self.plan_of(away, *step))?;
+        }
+        Ok(steps)
+    }
+
+    /// The steps of a search that may follow, in the order of `next`. None is left out. Nothing where there are more tasks than numbers
+    /// for them.
+    pub(crate) fn next_fused(&self, away: &[bool]) -> Result<Option<Vec<Step>>, AllocError>
+        ensures { IfOk result (λ o. IfSome o (λ steps. AreTold (arc_value self.now.script) away.now → HasEachStep self.now steps.items)) }
+    {
+        match self.next()? {
+            Some(moves) => Ok(Some(self.plans_of(away, &moves)?)),
+            None => Ok(None),
+        }
+    }
+
+    /// Whether there is room: so few tasks that turns at all executors, and one more, may each make 16.
+    pub(crate) fn has_room(&self) -> bool
+        ensures { IsTrue result ↔ IsRoomy self.now }
+    {
+        self.script.facts();
+        let most = MADE * (self.script.executor_count() + 1);
+        most <= TASKS && self.book.tasks() <= TASKS - most
+    }
+}

@@ -1,0 +1,82 @@
+//! Histories that are kept beside the nodes that the search has still to go on from.
+
+ghost use Rattle.std.specs.Prelude.{◌≡◌, ◌==◌, ℕ, if◌then◌else◌, nat_eq, IfSome, OnOk, Some, None};
+ghost use Rattle.std.specs.HashMap.{get};
+ghost use Rattle.swift_explorer.specs.declared.queue.KeptHistory.{KeptHistory};
+ghost use Rattle.swift_explorer.specs.HistoryInside.{IsCopy};
+ghost use Rattle.swift_explorer.specs.QueueInside.{WasThere};
+
+use crate::history::SearchedHistory;
+use std::alloc::AllocError;
+use std::collections::HashMap;
+
+// So many are kept. One takes some 60 kilobytes: a book has room for the numbers of 1,024 tasks.
+const HISTORIES: usize = 512;
+
+/// A history that is given up when it is dropped.
+pub struct KeptHistory {
+    /// The history.
+    pub history: SearchedHistory,
+}
+
+impl Drop for KeptHistory {
+    fn drop(self) {
+        let KeptHistory { history } = self;
+        history.close();
+    }
+}
+
+impl KeptHistory {
+    // What was kept.
+    fn into_history(self) -> SearchedHistory
+        ensures { result ≡ self.history }
+    {
+        let KeptHistory { history } = self;
+        history
+    }
+}
+
+/// A copy of a history, where there is room for one more. None, too, where no memory is left for it: it is followed again then.
+pub fn spare_copy(
+    histories: &HashMap<usize, KeptHistory>,
+    history: &SearchedHistory,
+) -> Option<KeptHistory>
+    ensures { IfSome result (λ kept. IsCopy history.now kept.history) }
+{
+    if histories.len() >= HISTORIES {
+        return None;
+    }
+    match history.copy() {
+        Ok(history) => Some(KeptHistory { history }),
+        Err(_) => None,
+    }
+}
+
+/// Puts a history to the others, where there is one. Out of memory, what was there means nothing.
+pub fn put_history(
+    histories: &mut HashMap<usize, KeptHistory>,
+    place: usize,
+    kept: Option<KeptHistory>,
+) -> Result<(), AllocError>
+    ensures { OnOk result ((q : ℕ) (k : KeptHistory) → get nat_eq histories.new q ≡ Some k → WasThere (get nat_eq histories.old) place kept q k) }
+{
+    let Some(kept) = kept else {
+        return Ok(());
+    };
+    histories.insert(place, kept)?;
+    Ok(())
+}
+
+/// Takes the history at a place, if it is there.
+pub fn take_history(
+    histories: &mut HashMap<usize, KeptHistory>,
+    place: usize,
+) -> Option<SearchedHistory>
+    ensures found { IfSome result (λ h. (k : KeptHistory) × (get nat_eq histories.old place ≡ Some k) × (k.history ≡ h)) }
+    ensures rest { (q : ℕ) (k : KeptHistory) → get nat_eq histories.new q ≡ Some k → get nat_eq histories.old q ≡ Some k }
+{
+    match histories.remove(&place) {
+        Some(kept) => Some(kept.into_history()),
+        None => None,
+    }
+}

@@ -1,0 +1,5 @@
+use Rattle.swift_reordering.proofs.AheadWalk.{closed_ahead_exits}
+use Rattle.swift_reordering.proofs.laws.histories_closed_ahead_have_each_exit.Goals as goal
+
+pub returns : goal.returns
+returns c = closed_ahead_exits
