@@ -33,7 +33,7 @@ fn put_outcome(
     say(out, b"}")
 }
 
-fn put_outcomes(
+pub(crate) fn put_outcomes(
     alloc: Global,
     out: &mut Vec<u8>,
     script: &Script,
@@ -47,7 +47,7 @@ fn put_outcomes(
     Ok(())
 }
 
-fn answer_word(answer: Answer) -> &'static [u8]
+pub(crate) fn answer_word(answer: Answer) -> &'static [u8]
     ensures { result.now ≡ answer_word answer }
 {
     match answer {
@@ -71,7 +71,7 @@ fn end_of(found: &FoundOutcomes) -> &'static [u8]
 }
 
 // How far the search came.
-fn put_search(out: &mut Vec<u8>, found: &FoundOutcomes) -> Result<(), AllocError>
+pub(crate) fn put_search(out: &mut Vec<u8>, found: &FoundOutcomes) -> Result<(), AllocError>
     ensures { OnOk result (out.new.items ≡ out.old.items ++ search_json found.now) }
 {
     say(out, end_of(found))?;

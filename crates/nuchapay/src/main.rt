@@ -9,6 +9,8 @@
 
 // Outcomes of orders of turns.
 mod explore;
+// Outcomes of orders of turns of a Swift file.
+mod explore_swift;
 // The text of a script.
 mod input;
 // What the program writes, and how it ends.
@@ -31,6 +33,7 @@ mod turn_answers;
 mod values;
 
 use crate::explore::{explored, rerun_text};
+use crate::explore_swift::explored_swift;
 use crate::input::{is_swift, name_of, say_no_script, script};
 use crate::output::{tell, write_out, write_said};
 use crate::schedule_answers::{say_broken, say_scheduled};
@@ -127,10 +130,14 @@ where
             expected,
             without_fault,
             json,
-        } => say_explored(
-            host,
-            explored(host, text, limit, &expected, without_fault, json),
-        ),
+        } => {
+            let search = if is_swift(name) {
+                explored_swift(host, text, limit, &expected, without_fault, json)
+            } else {
+                explored(host, text, limit, &expected, without_fault, json)
+            };
+            say_explored(host, search)
+        }
         Question::ExploreBroken(limit) => say_broken(host, limit, broken_line(host, text, limit)),
         Question::Rerun { limit, outcome } => {
             say_rerun(host, outcome, rerun_text(host, text, limit, outcome))
