@@ -14,4 +14,5 @@ mod string;
 // All that a search says.
 mod text;
 
+pub use string::put_string;
 pub use text::answer_json;
