@@ -45,10 +45,6 @@ mod schedule_words;
 mod source;
 // What can be explained.
 mod topic;
-// A script's protocol as a Swift program, from its tree.
-pub mod swift;
-// A script as a Swift program, from its text.
-mod translated;
 // The pages of the faults of a turn.
 mod turn_faults;
 // How a turn is named.
@@ -68,6 +64,5 @@ pub use requests::{
     Source,
 };
 pub use topic::{RunRefusal, Topic, TurnFault, find_topic};
-pub use translated::translate;
 pub use turn_names::{TurnName, TurnWord, turn_name, turn_word};
 pub use words::request;
