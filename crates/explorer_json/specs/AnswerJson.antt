@@ -56,9 +56,13 @@ answer_word answer.Holds = codes "{\"answer\":\"holds\""
 answer_word answer.Fails = codes "{\"answer\":\"fails\""
 answer_word answer.Undecided = codes "{\"answer\":\"undecided\""
 
+-- the sum of a script's text
+abbrev pub sum_json : List ℕ → List ℕ
+sum_json sum = codes ",\n\"script\":\"" ++ sum ++ codes "\""
+
 -- of which script it is: the sum of its text
 abbrev pub script_json : List ℕ → List ℕ
-script_json text = codes ",\n\"script\":\"" ++ script_sum text ++ codes "\""
+script_json text = sum_json (script_sum text)
 
 -- the answer, and of which script it is
 abbrev pub start_json : List ℕ → Answer → List ℕ

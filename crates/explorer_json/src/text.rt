@@ -1,7 +1,7 @@
 //! All that a search says.
 
 ghost use Rattle.std.specs.Prelude.{◌≡◌, ◌<◌, ◌^◌, ◌++◌, IfOk, OnOk};
-ghost use Rattle.explorer_json.specs.AnswerJson.{answer_json, answer_word, end_json, outcome_json, outcomes_json, script_json, search_json, start_json};
+ghost use Rattle.explorer_json.specs.AnswerJson.{answer_json, answer_word, end_json, outcome_json, outcomes_json, script_json, search_json, start_json, sum_json};
 
 use crate::append::{comma, labelled, say};
 use crate::asked::put_expectations;
@@ -58,14 +58,21 @@ fn answer_word(answer: Answer) -> &'static [u8]
     }
 }
 
+// A sum.
+fn put_sum(out: &mut Vec<u8>, sum: &[u8]) -> Result<(), AllocError>
+    ensures { OnOk result (out.new.items ≡ out.old.items ++ sum_json sum.now) }
+{
+    say(out, b",\n\"script\":\"")?;
+    say(out, sum)?;
+    say(out, b"\"")
+}
+
 // Of which script it is.
 fn put_script(alloc: Global, out: &mut Vec<u8>, text: &[u8]) -> Result<(), AllocError>
     ensures { OnOk result (out.new.items ≡ out.old.items ++ script_json text.now) }
 {
     let sum = script_sum(alloc, text)?;
-    say(out, b",\n\"script\":\"")?;
-    say(out, sum.as_bytes())?;
-    say(out, b"\"")
+    put_sum(out, sum.as_bytes())
 }
 
 // The answer, and of which script it is.
