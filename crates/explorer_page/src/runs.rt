@@ -1,6 +1,6 @@
 //! The runs that a page shows.
 
-ghost use Rattle.std.specs.Prelude.{IfOk, take};
+ghost use Rattle.std.specs.Prelude.{◌≡◌, IfOk, take};
 ghost use Rattle.std.specs.Arc.{arc_value};
 ghost use Rattle.explorer_page.specs.Runs.{AreRuns, IsRunOf};
 
@@ -70,5 +70,8 @@ pub(crate) fn runs_of(
 pub(crate) fn shown(outcomes: &[RunOutcome]) -> &[RunOutcome]
     ensures { result.now ≡ take SHOWN outcomes.now }
 {
-    &outcomes[..SHOWN.min(outcomes.len())]
+    if outcomes.len() <= SHOWN {
+        return outcomes;
+    }
+    &outcomes[..SHOWN]
 }

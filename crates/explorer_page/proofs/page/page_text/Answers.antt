@@ -21,10 +21,10 @@ returns c =
       runs = runs;
       are = subst (λ (os : List RunOutcome). AreRuns p os runs) (c.shown.ensures ∙ ap (take SHOWN) c.deref.ensures.value) c.in_ok-runs.ensures;
       is =
-        c.in_ok-parts.ensures
-        ∙ ap (λ (xs : List ℕ). xs ++ page_bytes h c.deref-2.result.now asked f c.deref-3.result.now) c.new-out.ensures.items
-        ∙ ap (λ (q : ScriptView). page_bytes h q asked f c.deref-3.result.now) c.deref-2.ensures
-        ∙ ap (λ (rs : List Report). page_bytes h p asked f rs) c.deref-3.ensures.value;
+          c.in_ok-parts.ensures
+          ∙ ap (λ (xs : List ℕ). xs ++ page_bytes h c.deref-2.result.now asked f c.deref-3.result.now) c.new-out.ensures.items
+          ∙ ap (λ (q : ScriptView). page_bytes h q asked f c.deref-3.result.now) c.deref-2.ensures
+          ∙ ap (λ (rs : List Report). page_bytes h p asked f rs) c.deref-3.ensures.value;
       plain_answer = plain (answer_json h.text.now p asked f);
       plain_more = plain (more_json p h runs);
     }

@@ -15,7 +15,7 @@ loop-outcome-preserved c =
     let o = c.outcome-item.result in
     let front = take k outcomes in
     let more : AreRuns p (front ++ o ∷ []) c.push.new.self.items =
-      subst (λ (rs : List Report). AreRuns p (front ++ o ∷ []) rs) (sym c.in_ok-push.ensures.items)
-      (runs_more p front c.loop-outcome.runs.items o c.in_ok-run.run c.loop-outcome.invariant c.in_ok-run.ensures) in
+    subst (λ (rs : List Report). AreRuns p (front ++ o ∷ []) rs) (sym c.in_ok-push.ensures.items)
+    (runs_more p front c.loop-outcome.runs.items o c.in_ok-run.run' c.loop-outcome.invariant c.in_ok-run.ensures) in
     subst (λ (os : List RunOutcome). AreRuns p os c.push.new.self.items)
     (ap (λ (x : RunOutcome). front ++ x ∷ []) c.outcome-item.is ∙ sym (take_more outcomes k o c.loop-outcome-test.true)) more
