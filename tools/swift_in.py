@@ -9,7 +9,7 @@ ends with status 0.
 
 Of a file that nuchapay refuses, it says whether the compiler does, too. Another one has to be compiled. It is run N times (60), each fifth
 time on one core, and with short delays of random length at the beginning of statements, so that other orders come. The numbers, true and
-false that a run prints are compared with the fields p0_, p1_ .. of the outcomes that explore lists for what `nuchapay print` prints, without
+false that a run prints are compared with the fields print_lineN, print_lineN_2 .. of the outcomes that explore lists for what `nuchapay print` prints, without
 its invariants: Swift undoes nothing. A run that traps is inside where a precondition fails or a sum overflows in an outcome. Files that
 print a value more than once, or not always, are not compared; nor are those of more than STATES states (100,000).
 
@@ -66,22 +66,22 @@ def without_invariants(script: str) -> str:
     return "\n".join(line for line in script.split("\n") if not line.lstrip().startswith("invariant "))
 
 
-def main_of(script: str) -> tuple[str, int]:
-    """The name of the actor that `main` became, and how many values it prints."""
+def main_of(script: str) -> tuple[str, list[str]]:
+    """The name of the actor that `main` became, and the fields of the values that it prints, in order."""
     found = re.search(r"^root main = (\w+)\.main\(\);$", script, re.MULTILINE)
     if not found:
-        return "", 0
+        return "", []
     body = script[script.rindex(f"\nactor {found.group(1)} "):]
-    return found.group(1), len(re.findall(r"^ *var p\d+_ = 0;$", body, re.MULTILINE))
+    return found.group(1), re.findall(r"^ *var (print_line\d+(?:_\d+)?) = 0;$", body, re.MULTILINE)
 
 
-def listed(said: str, name: str, many: int) -> set[Outcome]:
+def listed(said: str, name: str, fields: list[str]) -> set[Outcome]:
     """The values that are printed in each outcome of what explore says; also `trap`, where one ends the process in Swift."""
     found: set[Outcome] = set()
     for block in re.split(r"^outcome \d+$", said, flags=re.MULTILINE)[1:]:
-        values = dict(re.findall(rf"^{name}\.p(\d+)_ (-?\d+)$", block, re.MULTILINE))
-        is_trapped = re.search(r"\.ok_ 0$|fault overflow$", block, re.MULTILINE)
-        found.add((TRAP,) if is_trapped else tuple(int(values.get(str(place), 0)) for place in range(many)))
+        values = dict(re.findall(rf"^{name}\.(\w+) (-?\d+)$", block, re.MULTILINE))
+        is_trapped = re.search(r"\.precondition_line_ [1-9]|fault overflow$", block, re.MULTILINE)
+        found.add((TRAP,) if is_trapped else tuple(int(values.get(field, 0)) for field in fields))
     return found
 
 
@@ -146,11 +146,11 @@ def compare(row: Row, program: str, script: str, runs: int, limit: int) -> None:
     """Runs what was built, and compares."""
     seen = collections.Counter(run_once(row.name, place) for place in range(runs))
     said = explored(program, script, limit)
-    name, many = main_of(script)
-    if said is None or any(each != (TRAP,) and len(each) != many for each in seen):
+    name, fields = main_of(script)
+    if said is None or any(each != (TRAP,) and len(each) != len(fields) for each in seen):
         row.note = f"not compared, {len(seen)} seen"
         return
-    found = listed(said, name, many)
+    found = listed(said, name, fields)
     outside = [f"{times} runs print {each}" for each, times in seen.items() if each not in found]
     if outside:
         row.fail("; ".join(outside) + f"; listed are {sorted(map(str, found))}")

@@ -295,18 +295,19 @@ class OneCore(Folder):
 
 SCRIPT = """
 actor a {
-    var p0_ = 1;
+    var print_line1 = 1;
     var n = 0;
     invariant n >= 0;
 }
 
 actor Main {
-    var p0_ = 0;
-    var p1_ = 0;
-    func main() { p0_ = 1; }
+    var print_line9 = 0;
+    var print_line9_2 = 0;
+    func main() { print_line9 = 1; }
 }
 root main = Main.main();
 """
+PRINTED = ["print_line9", "print_line9_2"]
 
 
 class SwiftIn(unittest.TestCase):
@@ -315,15 +316,15 @@ class SwiftIn(unittest.TestCase):
         self.assertEqual(swift_in.printed(""), ())
 
     def test_the_script(self):
-        self.assertEqual(swift_in.main_of(SCRIPT), ("Main", 2))
-        self.assertEqual(swift_in.main_of("actor A { }"), ("", 0))
+        self.assertEqual(swift_in.main_of(SCRIPT), ("Main", PRINTED))
+        self.assertEqual(swift_in.main_of("actor A { }"), ("", []))
         self.assertNotIn("invariant", swift_in.without_invariants(SCRIPT))
 
     def test_what_is_listed(self):
-        first = "2 outcomes\n\noutcome 1\nfields\na.p0_ 9\nMain.p0_ 1\nMain.p1_ -2\n"
-        self.assertEqual(swift_in.listed(first, "Main", 2), {(1, -2)})
-        for trap in ("a.ok_ 0\n", "t0 root main fault overflow\n"):
-            self.assertEqual(swift_in.listed(first + "outcome 2\n" + trap, "Main", 2), {(1, -2), (swift_in.TRAP,)})
+        first = "2 outcomes\n\noutcome 1\nfields\na.print_line9 9\nMain.print_line9 1\nMain.print_line9_2 -2\n"
+        self.assertEqual(swift_in.listed(first, "Main", PRINTED), {(1, -2)})
+        for trap in ("a.precondition_line_ 14\n", "t0 root main fault overflow\n"):
+            self.assertEqual(swift_in.listed(first + "outcome 2\n" + trap, "Main", PRINTED), {(1, -2), (swift_in.TRAP,)})
 
     def test_delays(self):
         text = "actor A {\n    let n = 1\n    func f() {\n        let x = n\n        n = 2\n    }\n}\n"

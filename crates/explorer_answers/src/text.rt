@@ -9,7 +9,7 @@ use std::alloc::{AllocError, Global};
 use swift_explorer::{FoundOutcomes, RunOutcome, found_text, put_schedule};
 use swift_script::Script;
 
-fn put_number(out: &mut Vec<u8>, number: usize) -> Result<(), AllocError>
+pub(crate) fn put_number(out: &mut Vec<u8>, number: usize) -> Result<(), AllocError>
     ensures { OnOk result (out.new.items ≡ out.old.items ++ decimal number) }
 {
     let mut buffer = Buffer::new();
@@ -27,7 +27,7 @@ fn put_place(out: &mut Vec<u8>, place: usize) -> Result<(), AllocError>
 }
 
 // An expectation that fails in the outcome at a place.
-fn put_fails(
+pub(crate) fn put_fails(
     alloc: Global,
     out: &mut Vec<u8>,
     script: &Script,
@@ -55,7 +55,7 @@ fn put_fails(
 }
 
 // What comes of an expectation in an outcome.
-fn verdict_at(
+pub(crate) fn verdict_at(
     alloc: Global,
     script: &Script,
     expectation: &Expectation,
@@ -116,7 +116,7 @@ fn put_failures(
 }
 
 // That none of the expectations fails.
-fn none_said(is_complete: bool, asked: &[Expectation]) -> &'static [u8]
+pub(crate) fn none_said(is_complete: bool, asked: &[Expectation]) -> &'static [u8]
     ensures { result.now ≡ none_text is_complete asked.now }
 {
     match asked {

@@ -1,3 +1,4 @@
 pub mod Strings
 pub mod Schedules
 pub mod AnswerJson
+pub mod SwiftJson

@@ -11,8 +11,11 @@ mod ended;
 mod schedule;
 // Strings.
 mod string;
+// All that a search of a Swift file's script says.
+mod swift;
 // All that a search says.
 mod text;
 
 pub use string::put_string;
+pub use swift::swift_answer_json;
 pub use text::answer_json;

@@ -34,7 +34,7 @@ fn put_outcome(
     say(out, b"}")
 }
 
-fn put_outcomes(
+pub(crate) fn put_outcomes(
     alloc: Global,
     out: &mut Vec<u8>,
     script: &Script,
@@ -76,7 +76,7 @@ fn put_script(alloc: Global, out: &mut Vec<u8>, text: &[u8]) -> Result<(), Alloc
 }
 
 // The answer, and of which script it is.
-fn put_start(
+pub(crate) fn put_start(
     alloc: Global,
     out: &mut Vec<u8>,
     text: &[u8],
@@ -102,7 +102,7 @@ fn end_of(found: &FoundOutcomes) -> &'static [u8]
 }
 
 // How far the search came.
-fn put_search(out: &mut Vec<u8>, found: &FoundOutcomes) -> Result<(), AllocError>
+pub(crate) fn put_search(out: &mut Vec<u8>, found: &FoundOutcomes) -> Result<(), AllocError>
     ensures { OnOk result (out.new.items ≡ out.old.items ++ search_json found.now) }
 {
     say(out, end_of(found))?;

@@ -1,3 +1,4 @@
 mod Records
 pub mod OfRuns
 pub mod Meeting
+pub mod SwiftEnds

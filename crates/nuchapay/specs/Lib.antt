@@ -2,3 +2,4 @@ pub mod Runs
 pub mod Scheduled
 pub mod Schedules
 pub mod Searches
+pub mod SwiftSearches

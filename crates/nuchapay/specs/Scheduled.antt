@@ -123,10 +123,10 @@ IsBrokenLine bytes (line.Line text) = IsLineOfBroken bytes text.items
 IsBrokenLine bytes (line.None all) = NeverBreaksIf bytes all
 
 -- What comes of the schedule that a file has: a run whose first steps are its steps, or why there is none.
-pub record IsFollowed (bytes file : List ℕ) (choice : SavedChoice) (script : ScriptView) (run : ChosenRun) : Type 0 where
+pub record IsFollowed (bytes file : List ℕ) (choice : SavedChoice) (script : ScriptView) (found : ChosenRun) : Type 0 where
   pub steps : Vec Move Global
   pub saved : IsSavedAs file bytes choice (Steps steps)
-  pub run : IsCompleted script steps.items run
+  pub run : IsCompleted script steps.items found
 
 -- what comes of the schedule that is meant, or what the file has in its place
 abbrev pub IsSavedOrNone : List ℕ → List ℕ → SavedChoice → ScriptView → SavedRun → Type 0

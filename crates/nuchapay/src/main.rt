@@ -9,6 +9,8 @@
 
 // Outcomes of orders of turns.
 mod explore;
+// Outcomes of orders of turns of a Swift file.
+mod explore_swift;
 // The text of a script.
 mod input;
 // What the program writes, and how it ends.
@@ -31,6 +33,7 @@ mod turn_answers;
 mod values;
 
 use crate::explore::{explored, rerun_text};
+use crate::explore_swift::explored_swift;
 use crate::input::{is_swift, name_of, say_no_script, script};
 use crate::output::{tell, write_out, write_said};
 use crate::schedule_answers::{say_broken, say_saved, say_scheduled};
@@ -133,15 +136,27 @@ where
         } => {
             let heading = SearchHeading { name, text };
             let keeps = save.is_some();
-            let found = explored(
-                host,
-                heading,
-                limit,
-                &expected,
-                without_fault,
-                format,
-                keeps,
-            );
+            let found = if is_swift(name) {
+                explored_swift(
+                    host,
+                    heading,
+                    limit,
+                    &expected,
+                    without_fault,
+                    format,
+                    keeps,
+                )
+            } else {
+                explored(
+                    host,
+                    heading,
+                    limit,
+                    &expected,
+                    without_fault,
+                    format,
+                    keeps,
+                )
+            };
             say_explored(host, save, found)
         }
         Question::ExploreBroken(limit) => say_broken(host, limit, broken_line(host, text, limit)),

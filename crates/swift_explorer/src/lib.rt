@@ -32,4 +32,4 @@ pub use keys::laws;
 pub use moves::Move;
 pub use outcome::RunOutcome;
 pub use schedule::schedule_report;
-pub use text::{found_text, put_schedule, schedule_text};
+pub use text::{found_text, put_ended, put_many, put_schedule, schedule_text, search_end};

@@ -22,8 +22,12 @@ fn put_number(out: &mut Vec<u8>, number: usize) -> Result<(), AllocError>
     out.extend_from_slice(buffer.format(number).as_bytes())
 }
 
-// So many of these, in a word.
-fn put_many(out: &mut Vec<u8>, number: usize, one: &[u8], many: &[u8]) -> Result<(), AllocError>
+/// Appends so many of these, in a word: `one` where there is one.
+///
+/// # Errors
+///
+/// `AllocError` where no memory is left for them, of which a part may be there.
+pub fn put_many(out: &mut Vec<u8>, number: usize, one: &[u8], many: &[u8]) -> Result<(), AllocError>
     ensures { OnOk result (out.new.items ≡ out.old.items ++ many_text number one.now many.now) }
 {
     put_number(out, number)?;
@@ -187,8 +191,12 @@ fn ended_report(alloc: Global, outcome: &RunOutcome) -> Result<Report, AllocErro
     })
 }
 
-// The tasks and the fields of an outcome, as a report without journals has them.
-fn put_ended(
+/// Appends the tasks and the fields of an outcome, as a report without journals has them.
+///
+/// # Errors
+///
+/// `AllocError` where no memory is left for them.
+pub fn put_ended(
     alloc: Global,
     out: &mut Vec<u8>,
     script: &Script,
@@ -246,8 +254,8 @@ fn put_broken(out: &mut Vec<u8>, found: &FoundOutcomes) -> Result<(), AllocError
     }
 }
 
-// Whether the search came to its end, and else why not.
-fn end_of(found: &FoundOutcomes) -> &'static [u8]
+/// Whether a search came to its end, and else why not.
+pub fn search_end(found: &FoundOutcomes) -> &'static [u8]
     ensures { result.now ≡ end_text found.now }
 {
     if found.is_complete {
@@ -264,7 +272,7 @@ fn put_search(out: &mut Vec<u8>, found: &FoundOutcomes) -> Result<(), AllocError
     ensures { OnOk result (out.new.items ≡ out.old.items ++ search_text found.now) }
 {
     put_many(out, found.outcomes.len(), b"outcome", b"outcomes")?;
-    out.extend_from_slice(end_of(found))?;
+    out.extend_from_slice(search_end(found))?;
     put_many(out, found.states, b"state\n", b"states\n")
 }
 

@@ -2,7 +2,7 @@
 
 use crate::code::{Instruction, Kind, NONE, Target, UnitKind, Value, Wait};
 use crate::lowering::{Fallback, Lowering};
-use crate::naming::{actor_of, instance_named, method_at, method_named};
+use crate::naming::{actor_of, instance_named, method_at, method_named, refuse_hidden};
 use crate::operands::Operands;
 use crate::scope::{Standing, binding_at, find};
 use crate::typed::{Typed, kind_of, refused, with_kind};
@@ -120,7 +120,13 @@ fn scope_method(lowering: &mut Lowering<'_>, place: usize, token: usize) -> Meth
 /// What a call names.
 pub(crate) fn method_of(lowering: &mut Lowering<'_>, receiver: Receiver, token: usize) -> Method {
     let of = match receiver {
-        Receiver::Nobody | Receiver::Own => return own_method(lowering, token),
+        Receiver::Nobody => {
+            if find(lowering, token).is_some() {
+                lowering.refuse(Rule::NameTwice, token);
+            }
+            return own_method(lowering, token);
+        }
+        Receiver::Own => return own_method(lowering, token),
         Receiver::Named(of) => of,
     };
     if let Some(place) = find(lowering, of) {
@@ -133,6 +139,7 @@ pub(crate) fn method_of(lowering: &mut Lowering<'_>, receiver: Receiver, token: 
         lowering.refuse(Rule::UnknownName, of);
         return as_method(Called::Nothing);
     };
+    refuse_hidden(lowering, of);
     let actor = actor_of(lowering, instance);
     match method_named(lowering, actor, token) {
         Some(place) => as_method(Called::Other(instance, place)),

@@ -1,5 +1,6 @@
 //! The instructions.
 
+use crate::lines::Spot;
 use std::alloc::Global;
 use swift_types::{Operator, Priority};
 
@@ -90,8 +91,8 @@ pub enum Instruction {
     SetField(usize, usize),
     /// A value is printed, at a place among those that are.
     Print(usize, usize),
-    /// A value has to hold.
-    Require(usize),
+    /// A value has to hold, by what is said on a line.
+    Require(usize, usize),
     /// A wait; the value stands for its result where it ends with a fault, unless there is none.
     Wait(Target, Wait, usize),
     /// A method of the own actor, with the first of its operands, is put in here.
@@ -158,6 +159,10 @@ pub struct Unit {
     pub token: usize,
     /// The token behind its last one.
     pub end: usize,
+    /// The token of the name of the method in whose text it stands, or `NONE` where that is `main`.
+    pub method: usize,
+    /// Where it stands, if it is a closure.
+    pub spot: Spot,
 }
 
 /// A variable.
@@ -197,8 +202,8 @@ pub struct Code {
     pub variables: Vec<Variable>,
     /// The units. That of a method has the method's place.
     pub units: Vec<Unit>,
-    /// How many values `main` prints.
-    pub printed: usize,
+    /// Where the values stand that `main` prints, in order.
+    pub printed: Vec<Spot>,
     /// The values of invariants, in the order of the tree's.
     pub invariants: Vec<usize>,
     /// The values of expectations, in the order of the tree's.
@@ -214,7 +219,7 @@ impl Code {
             operands: Vec::new(alloc),
             variables: Vec::new(alloc),
             units: Vec::new(alloc),
-            printed: 0,
+            printed: Vec::new(alloc),
             invariants: Vec::new(alloc),
             expectations: Vec::new(alloc),
         }

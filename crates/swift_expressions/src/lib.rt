@@ -8,6 +8,8 @@ mod call;
 mod code;
 // Which expressions do something.
 mod effect;
+// Lines of a file.
+mod lines;
 // A lowering under way.
 mod lowering;
 // What names stand for, as values.
@@ -30,11 +32,12 @@ pub use code::{
     Callee, Code, Instruction, Kind, NONE, Operand, Target, Unit, UnitKind, Value, Variable, Wait,
 };
 pub use effect::DEPTH;
+pub use lines::Spot;
 pub use lowering::{Fallback, Lowering, Returns, Setting, setting_of};
 pub use name::{field_kind, local_kind, priority_named};
 pub use naming::{
-    actor_of, constant_named, field_at, field_named, instance_at, instance_named, is_kept,
-    local_named, method_at, method_named,
+    actor_of, constant_named, field_at, field_named, has_member, instance_at, instance_named,
+    is_hidden, is_kept, local_named, method_at, method_named, refuse_hidden,
 };
 pub use operands::Operands;
 pub use scope::{

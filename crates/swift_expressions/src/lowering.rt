@@ -1,6 +1,7 @@
 //! A lowering under way.
 
 use crate::code::{Code, Instruction, Kind, NONE, Operand, Unit, UnitKind, Value, Variable};
+use crate::lines::{Lines, Spot};
 use crate::scope::Binding;
 use crate::typed::Typed;
 use std::alloc::Global;
@@ -65,6 +66,12 @@ pub struct Setting {
     pub groups: usize,
 }
 
+// That there is no memory is no token's fault.
+const NO_MEMORY: Breach = Breach {
+    rule: Rule::Memory,
+    token: 0,
+};
+
 /// What was lowered, and where.
 #[derive(Drop)]
 pub struct Lowering<'a> {
@@ -74,6 +81,8 @@ pub struct Lowering<'a> {
     pub tokens: &'a [Token],
     /// Its tree.
     pub tree: &'a Tree,
+    /// The lines of the tokens.
+    pub lines: Lines,
     /// What was lowered.
     pub code: Code,
     /// The names in scope, those of inner blocks last.
@@ -110,14 +119,19 @@ pub fn setting_of(unit: usize, actor: usize) -> Setting {
 impl<'a> Lowering<'a> {
     /// Nothing of a file is lowered.
     pub fn new(alloc: Global, text: &'a [u8], tokens: &'a [Token], tree: &'a Tree) -> Lowering<'a> {
+        let (lines, refused) = match Lines::of(alloc, text, tokens) {
+            Ok(lines) => (lines, None),
+            Err(_) => (Lines::new(alloc), Some(NO_MEMORY)),
+        };
         Lowering {
             text,
             tokens,
             tree,
+            lines,
             code: Code::new(alloc),
             scope: Vec::new(alloc),
             setting: setting_of(NONE, NONE),
-            refused: None,
+            refused,
         }
     }
 
@@ -285,9 +299,30 @@ impl<'a> Lowering<'a> {
         self.note(is_grown);
     }
 
-    /// A unit, put into its table. Its place.
-    pub fn unit(&mut self, kind: UnitKind, actor: usize, token: usize) -> usize {
+    /// Notes where the next value stands that `main` prints by the `print` at a token. Its place among them.
+    pub fn print_at(&mut self, token: usize) -> usize {
+        let place = self.code.printed.len();
+        let spot = self.lines.printed(token);
+        let is_grown = self.code.printed.push(spot).is_ok();
+        self.note(is_grown);
+        place
+    }
+
+    // Where a unit stands that begins at a token.
+    fn spot(&mut self, kind: UnitKind, token: usize) -> Spot {
+        match kind {
+            UnitKind::Closure => self.lines.closure(token),
+            UnitKind::Method(_) | UnitKind::Main => Spot {
+                line: self.lines.line(token),
+                before: 0,
+            },
+        }
+    }
+
+    /// A unit of the method with the name of a token, put into its table. Its place.
+    pub fn unit(&mut self, kind: UnitKind, actor: usize, method: usize, token: usize) -> usize {
         let place = self.code.units.len();
+        let spot = self.spot(kind, token);
         let is_grown = self
             .code
             .units
@@ -300,6 +335,8 @@ impl<'a> Lowering<'a> {
                 returns_inside: false,
                 token,
                 end: token,
+                method,
+                spot,
             })
             .is_ok();
         self.note(is_grown);

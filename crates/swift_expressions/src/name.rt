@@ -2,7 +2,9 @@
 
 use crate::code::{Kind, Value};
 use crate::lowering::Lowering;
-use crate::naming::{constant_named, field_at, field_named, instance_named, local_named};
+use crate::naming::{
+    constant_named, field_at, field_named, instance_named, local_named, refuse_hidden,
+};
 use crate::scope::{Standing, binding_at, find};
 use crate::typed::{Typed, kind_of, literal, refused, with_kind};
 use crate::waits::{field_of, getter, next_child, task_value};
@@ -31,6 +33,7 @@ fn global_name(lowering: &mut Lowering<'_>, token: usize) -> Typed {
         return with_kind(lowering, Value::Field(field), kind);
     }
     if let Some(place) = constant_named(lowering, token) {
+        refuse_hidden(lowering, token);
         let value = lowering.tree.constants.get(place).map_or(0, |c| c.value);
         let (number, kind) = literal(lowering, value);
         return with_kind(lowering, Value::Number(number), kind);
@@ -110,11 +113,15 @@ pub(crate) fn member(lowering: &mut Lowering<'_>, of: usize, token: usize) -> Ty
         return task_member(lowering, token);
     }
     if let Some(local) = local_named(lowering, of, token) {
+        refuse_hidden(lowering, of);
         let kind = local_kind(lowering, local);
         return with_kind(lowering, Value::Local(local), kind);
     }
     match instance_named(lowering, of) {
-        Some(instance) => getter(lowering, instance, token),
+        Some(instance) => {
+            refuse_hidden(lowering, of);
+            getter(lowering, instance, token)
+        }
         None => refused(lowering, Rule::UnknownName, of),
     }
 }

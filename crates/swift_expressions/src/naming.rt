@@ -2,7 +2,7 @@
 
 use crate::code::NONE;
 use crate::lowering::Lowering;
-use swift_syntax::{FieldDecl, InstanceDecl, MethodDecl};
+use swift_syntax::{FieldDecl, InstanceDecl, MethodDecl, Rule};
 
 /// The place of the method of an actor with the bytes of a token.
 pub fn method_named(lowering: &Lowering<'_>, actor: usize, token: usize) -> Option<usize> {
@@ -59,6 +59,44 @@ pub fn actor_of(lowering: &Lowering<'_>, instance: usize) -> usize {
     {
         Some(actor) => actor,
         None => NONE,
+    }
+}
+
+/// Whether an actor has a member with the bytes of a token. Each has an `unownedExecutor`, and perhaps an `invariant`.
+pub fn has_member(lowering: &Lowering<'_>, actor: usize, token: usize) -> bool {
+    method_named(lowering, actor, token).is_some()
+        || field_named(lowering, actor, token).is_some()
+        || lowering.spells(token, "unownedExecutor")
+        || lowering.spells(token, "invariant")
+}
+
+// The actor in whose text stands what is lowered, also in a closure, or `NONE` in that of `main`.
+fn home(lowering: &Lowering<'_>) -> usize {
+    if lowering.setting.actor != NONE {
+        return lowering.setting.actor;
+    }
+    match lowering.code.units.get(lowering.setting.unit) {
+        Some(unit) => unit.actor,
+        None => NONE,
+    }
+}
+
+/// Whether a global name that stands here means a member of the type around it, as in Swift, also in a closure. An expectation stands in
+/// no type.
+pub fn is_hidden(lowering: &Lowering<'_>, token: usize) -> bool {
+    if lowering.setting.is_expectation {
+        return false;
+    }
+    match home(lowering) {
+        NONE => lowering.spells(token, "main"),
+        actor => has_member(lowering, actor, token),
+    }
+}
+
+/// Refuses a global name that means a member here.
+pub fn refuse_hidden(lowering: &mut Lowering<'_>, token: usize) {
+    if is_hidden(lowering, token) {
+        lowering.refuse(Rule::NameTwice, token);
     }
 }
 

@@ -4,7 +4,7 @@ use crate::catching::{Held, begin_held};
 use crate::tasks::give_result;
 use swift_expressions::{
     Instruction, Kind, Lowering, NONE, Returns, Standing, Typed, Value, declare, expression,
-    field_at, field_kind, field_named, kind_of, standing_at, want, with_kind,
+    field_at, field_kind, field_named, kind_of, refuse_hidden, standing_at, want, with_kind,
 };
 use swift_syntax::{Assigning, ExprForm, Into, Rule, Stmt, StmtForm};
 use swift_types::Operator;
@@ -200,7 +200,10 @@ fn case_number(lowering: &mut Lowering<'_>, of: usize, name: usize) -> i64 {
         .find(|c| lowering.are_same(c.of, of) && lowering.are_same(c.name, name))
         .map(|c| c.place);
     match found {
-        Some(place) => i64::try_from(place).unwrap_or(0),
+        Some(place) => {
+            refuse_hidden(lowering, of);
+            i64::try_from(place).unwrap_or(0)
+        }
         None => {
             lowering.refuse(Rule::UnknownName, name);
             0

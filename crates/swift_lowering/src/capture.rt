@@ -2,7 +2,8 @@
 
 use crate::closure::ClosureBody;
 use swift_expressions::{
-    Lowering, NONE, Standing, Typed, Value, constant_named, declare, instance_named, standing_at,
+    Lowering, NONE, Standing, Typed, Value, constant_named, declare, instance_named, refuse_hidden,
+    standing_at,
 };
 use swift_syntax::{Rule, Sign, TokenKind};
 
@@ -85,6 +86,14 @@ fn capture(
     operand
 }
 
+// Refuses a name that is not global, or that means a member here.
+fn want_global(lowering: &mut Lowering<'_>, token: usize) {
+    if instance_named(lowering, token).is_none() && constant_named(lowering, token).is_none() {
+        lowering.refuse(Rule::UnknownName, token);
+    }
+    refuse_hidden(lowering, token);
+}
+
 /// Refuses names in a closure's list that stand for nothing.
 pub(crate) fn refuse_unknown(lowering: &mut Lowering<'_>, captures: usize) {
     let mut place = captures;
@@ -93,10 +102,8 @@ pub(crate) fn refuse_unknown(lowering: &mut Lowering<'_>, captures: usize) {
             return;
         };
         let label = argument.label;
-        let is_global = instance_named(lowering, label).is_some()
-            || constant_named(lowering, label).is_some();
-        if !is_global && standing_at(lowering, label).is_none() {
-            lowering.refuse(Rule::UnknownName, label);
+        if standing_at(lowering, label).is_none() {
+            want_global(lowering, label);
         }
         place = argument.next;
     }

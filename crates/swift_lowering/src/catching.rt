@@ -93,12 +93,14 @@ fn rewired(lowering: &mut Lowering<'_>, what: Wait, token: usize) -> (Wait, usiz
     }
 }
 
-// The statements that leave 0 free: one is added to a value that is not below 0. That this is possible has to hold.
-fn free_zero(lowering: &mut Lowering<'_>, variable: usize) {
+// The statements that leave 0 free, of what is called at a token: one is added to a value that is not below 0. That this is possible has to
+// hold.
+fn free_zero(lowering: &mut Lowering<'_>, variable: usize, token: usize) {
     let value = lowering.value(Value::Variable(variable));
     let most = lowering.number(i64::MAX);
     let is_less = lowering.value(Value::Binary(Operator::Less, value, most));
-    lowering.put(Instruction::Require(is_less));
+    let line = lowering.lines.line(token);
+    lowering.put(Instruction::Require(is_less, line));
     let zero = lowering.number(0);
     let test = lowering.value(Value::Binary(Operator::AtLeast, value, zero));
     lowering.put(Instruction::If(test));
@@ -116,7 +118,7 @@ fn wrap(lowering: &mut Lowering<'_>, place: usize, target: Target, what: Wait, t
     let (inner, first) = rewired(lowering, what, token);
     let variable = lowering.temporary();
     lowering.put(Instruction::Wait(Target::Declare(variable), inner, NONE));
-    free_zero(lowering, variable);
+    free_zero(lowering, variable, token);
     lowering.setting.unit = outer;
     end_unit(lowering, begun, token);
     let zero = lowering.number(0);

@@ -1,8 +1,8 @@
 //! What has to hold of a file as a whole.
 
 use swift_expressions::{
-    Kind, Lowering, NONE, actor_of, field_kind, has_label, instance_at, instance_named, is_kept,
-    kind_of, literal,
+    Kind, Lowering, NONE, actor_of, field_kind, has_label, has_member, instance_at, instance_named,
+    is_kept, kind_of, literal,
 };
 use swift_syntax::{ExprForm, FieldDecl, FieldStart, Rule, ValueType};
 
@@ -20,25 +20,15 @@ fn refuse_kept(lowering: &mut Lowering<'_>, name: usize) {
     }
 }
 
-// Refuses the name of a member that would stand for what is global, or for what Swift itself has.
+// Refuses the name of a member that would stand for what Swift itself has. One that is a global name too is refused where that is used.
 fn check_member(lowering: &mut Lowering<'_>, name: usize) {
-    let tree = lowering.tree;
-    for instance in tree.instances.iter() {
-        refuse_same(lowering, name, instance.name);
-    }
-    for constant in tree.constants.iter() {
-        refuse_same(lowering, name, constant.name);
-    }
-    for local in tree.locals.iter() {
-        refuse_same(lowering, name, local.of);
-    }
     refuse_kept(lowering, name);
     if lowering.spells(name, "_") {
         lowering.refuse(Rule::UnknownName, name);
     }
 }
 
-/// Refuses methods and fields of one actor with one name, and names that would hide others.
+/// Refuses methods and fields of one actor with one name, and names that Swift itself has.
 pub(crate) fn check_members(lowering: &mut Lowering<'_>) {
     let tree = lowering.tree;
     for method in tree.methods.iter() {
@@ -239,10 +229,13 @@ fn check_executor(lowering: &mut Lowering<'_>, of: usize, arguments: usize) {
     }
 }
 
-// Refuses an actor's executor, 0 for none, that is no instance of a class of executors.
-fn check_seat(lowering: &mut Lowering<'_>, executor: usize) {
+// Refuses an actor's executor, 0 for none, that is no instance of a class of executors, or whose name means a member of the actor.
+fn check_seat(lowering: &mut Lowering<'_>, actor: usize, executor: usize) {
     if executor == 0 {
         return;
+    }
+    if has_member(lowering, actor, executor) {
+        lowering.refuse(Rule::NameTwice, executor);
     }
     let is_seat = match instance_named(lowering, executor) {
         Some(instance) => actor_of(lowering, instance) == NONE,
@@ -265,8 +258,8 @@ pub(crate) fn check_whole(lowering: &mut Lowering<'_>) {
     for instance in 0..tree.instances.len() {
         check_instance(lowering, instance);
     }
-    for actor in tree.actors.iter() {
-        check_seat(lowering, actor.executor);
+    for (place, actor) in tree.actors.iter().enumerate() {
+        check_seat(lowering, place, actor.executor);
     }
     match tree.mains.as_slice() {
         [_] => {}

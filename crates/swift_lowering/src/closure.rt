@@ -4,8 +4,8 @@ use crate::capture::{capture_all, refuse_unknown};
 use crate::returns::exits;
 use swift_expressions::{
     Callee, Instruction, Kind, Lowering, NONE, Setting, Standing, UnitKind, actor_of,
-    call_operands, constant_named, expression, instance_named, kind_of, leave, method_at,
-    method_named, setting_of, standing_at, want_arguments,
+    call_operands, constant_named, expression, instance_named, is_hidden, kind_of, leave,
+    method_at, method_named, setting_of, standing_at, want_arguments,
 };
 use swift_syntax::{Access, ExprForm, Into, MethodDecl, Receiver, Rule, StmtForm};
 
@@ -100,7 +100,9 @@ fn is_fixed(lowering: &Lowering<'_>, value: usize) -> bool {
         ExprForm::Number(_) | ExprForm::Truth(_) => true,
         ExprForm::Name => match standing_at(lowering, expr.token) {
             Some(found) => found.standing == Standing::Constant,
-            None => constant_named(lowering, expr.token).is_some(),
+            None => {
+                constant_named(lowering, expr.token).is_some() && !is_hidden(lowering, expr.token)
+            }
         },
         _ => false,
     }
@@ -126,7 +128,10 @@ fn are_fixed(lowering: &Lowering<'_>, first: usize) -> bool {
 fn called_instance(lowering: &Lowering<'_>, place: usize) -> Option<usize> {
     match lowering.tree.expr(place).form {
         ExprForm::Call(Receiver::Named(of), first) => {
-            if standing_at(lowering, of).is_some() || !are_fixed(lowering, first) {
+            if standing_at(lowering, of).is_some()
+                || is_hidden(lowering, of)
+                || !are_fixed(lowering, first)
+            {
                 return None;
             }
             instance_named(lowering, of)
@@ -232,11 +237,11 @@ pub(crate) struct OpenUnit {
 
 /// A unit that a closure becomes begins here, at a token.
 pub(crate) fn begin_unit(lowering: &mut Lowering<'_>, token: usize) -> OpenUnit {
-    let actor = match lowering.code.units.get(lowering.setting.unit) {
-        Some(outer) => outer.actor,
-        None => NONE,
+    let (actor, method) = match lowering.code.units.get(lowering.setting.unit) {
+        Some(outer) => (outer.actor, outer.method),
+        None => (NONE, NONE),
     };
-    let unit = lowering.unit(UnitKind::Closure, actor, token);
+    let unit = lowering.unit(UnitKind::Closure, actor, method, token);
     let skip = lowering.here();
     lowering.put(Instruction::Skip(0));
     OpenUnit { unit, skip }

@@ -26,7 +26,7 @@ fn effect(lowering: &mut Lowering<'_>, place: usize) {
         ExprForm::TryOptional(inner) => ignore_fault(lowering, inner),
         ExprForm::Call(_, first) if is_said(lowering, place) => {
             if lowering.spells(expr.token, "print") {
-                print(lowering, first);
+                print(lowering, first, expr.token);
             } else {
                 require(lowering, first, expr.token);
             }

@@ -77,10 +77,15 @@ fn lower_method(lowering: &mut Lowering<'_>, unit: usize, method: MethodDecl) {
 fn lower_methods(lowering: &mut Lowering<'_>) {
     let tree = lowering.tree;
     for (place, method) in tree.methods.iter().enumerate() {
-        lowering.unit(UnitKind::Method(place), method.actor, method.name);
+        lowering.unit(
+            UnitKind::Method(place),
+            method.actor,
+            method.name,
+            method.name,
+        );
     }
     for main in tree.mains.iter() {
-        lowering.unit(UnitKind::Main, NONE, main.name);
+        lowering.unit(UnitKind::Main, NONE, NONE, main.name);
     }
     for (place, method) in tree.methods.iter().enumerate() {
         lower_method(lowering, place, *method);

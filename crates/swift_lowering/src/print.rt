@@ -3,8 +3,8 @@
 use swift_expressions::{Instruction, Kind, Lowering, NONE, UnitKind, expression, keep, want};
 use swift_syntax::{Argument, ExprForm, Rule};
 
-/// The values that `main` prints become fields, when all of them are computed; elsewhere they are only computed.
-pub(crate) fn print(lowering: &mut Lowering<'_>, first: usize) {
+/// The values that `main` prints by the `print` at a token become fields, when all of them are computed; elsewhere they are only computed.
+pub(crate) fn print(lowering: &mut Lowering<'_>, first: usize, token: usize) {
     let mut place = first;
     let mut values = NONE;
     let mut last = NONE;
@@ -26,7 +26,7 @@ pub(crate) fn print(lowering: &mut Lowering<'_>, first: usize) {
         }
     }
     if is_main(lowering) {
-        print_values(lowering, values);
+        print_values(lowering, values, token);
     }
 }
 
@@ -56,15 +56,14 @@ fn printed(lowering: &mut Lowering<'_>, place: usize, last: usize) -> usize {
     lowering.operand(kept, last)
 }
 
-// Prints the values of operands.
-fn print_values(lowering: &mut Lowering<'_>, first: usize) {
+// Prints the values of operands, by the `print` at a token.
+fn print_values(lowering: &mut Lowering<'_>, first: usize, token: usize) {
     let mut place = first;
     for _ in 0..lowering.code.operands.len() {
         let Some(operand) = lowering.operand_at(place) else {
             return;
         };
-        let number = lowering.code.printed;
-        lowering.code.printed = number.saturating_add(1);
+        let number = lowering.print_at(token);
         lowering.put(Instruction::Print(number, operand.value));
         place = operand.next;
     }
@@ -101,5 +100,6 @@ pub(crate) fn require(lowering: &mut Lowering<'_>, first: usize, token: usize) {
     let found = expression(lowering, argument.value);
     lowering.setting = outer;
     want(lowering, found, Kind::Bool, token);
-    lowering.put(Instruction::Require(found.value));
+    let line = lowering.lines.line(token);
+    lowering.put(Instruction::Require(found.value, line));
 }

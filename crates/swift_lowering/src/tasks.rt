@@ -4,7 +4,7 @@ use crate::closure::{ClosureBody, MadeClosure, lone_value};
 use swift_expressions::{
     Binding, Instruction, Kind, Lowering, NONE, Returns, Standing, Target, Typed, Value, Wait,
     binding_at, count_down, count_up, declare, declare_as, expression, find, has_child, local_kind,
-    local_named, mark_partial, mark_used, priority_named, want, with_kind,
+    local_named, mark_partial, mark_used, priority_named, refuse_hidden, want, with_kind,
 };
 use swift_syntax::{Into, Rule, Stmt, TaskForm};
 use swift_types::Priority;
@@ -254,6 +254,7 @@ pub(crate) fn begin_bind(lowering: &mut Lowering<'_>, of: usize, name: usize, gi
     let found = expression(lowering, given);
     match local_named(lowering, of, name) {
         Some(local) => {
+            refuse_hidden(lowering, of);
             let kind = local_kind(lowering, local);
             want(lowering, found, kind, name);
             lowering.put(Instruction::Bind(local, found.value));

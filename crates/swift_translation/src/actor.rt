@@ -2,7 +2,7 @@
 
 use crate::frame::write_body;
 use crate::naming::{
-    write_getter, write_instance, write_made, write_name, write_unit, write_variable,
+    PRECONDITION, write_instance, write_name, write_printed, write_unit, write_variable,
 };
 use crate::value::write_value;
 use crate::writing::Writing;
@@ -190,17 +190,23 @@ fn has_require(writing: &Writing<'_>, unit: Unit) -> bool {
         .iter()
         .take(unit.to)
         .skip(unit.from)
-        .any(|i| matches!(i, Instruction::Require(_)))
+        .any(|i| matches!(i, Instruction::Require(..)))
+}
+
+// The field for the line of a precondition that fails.
+fn write_precondition(writing: &mut Writing<'_>) {
+    writing.say("\n    var ");
+    writing.say(PRECONDITION);
+    writing.say(" = 0;\n    invariant ");
+    writing.say(PRECONDITION);
+    writing.say(" == 0");
 }
 
 // What has to hold of an actor, with what was required in its methods.
-fn write_invariants(writing: &mut Writing<'_>, actor: usize, has_ok: bool) {
-    if has_ok {
-        writing.say("\n    var ok_ = 1;");
-    }
+fn write_invariants(writing: &mut Writing<'_>, actor: usize, has_precondition: bool) {
     let mut is_first = true;
-    if has_ok {
-        writing.say("\n    invariant ok_");
+    if has_precondition {
+        write_precondition(writing);
         is_first = false;
     }
     for place in 0..writing.tree.invariants.len() {
@@ -224,7 +230,7 @@ fn write_invariants(writing: &mut Writing<'_>, actor: usize, has_ok: bool) {
 // The method that reads a field.
 fn write_read(writing: &mut Writing<'_>, field: FieldDecl) {
     writing.say("\n    func ");
-    write_getter(writing, field.name);
+    write_name(writing, field.name);
     writing.say("() { return ");
     write_name(writing, field.name);
     writing.say("; }");
@@ -272,8 +278,8 @@ fn write_actor(writing: &mut Writing<'_>, instance: usize, actor: usize) {
     }
     writing.say(" {");
     write_fields(writing, instance, actor);
-    let has_ok = has_requirement(writing, actor, false);
-    write_invariants(writing, actor, has_ok);
+    let has_precondition = has_requirement(writing, actor, false);
+    write_invariants(writing, actor, has_precondition);
     write_methods(writing, actor);
     write_reads(writing, actor);
     writing.say("\n}\n");
@@ -309,9 +315,10 @@ pub(crate) fn write_pool(writing: &mut Writing<'_>) {
     if !is_wanted {
         return;
     }
-    writing.say("\n// Closures run here.\nactor Pool_ {");
+    writing.say("\n// Closures run here.\nactor Task {");
     if has_requirement(writing, NONE, true) {
-        writing.say("\n    var ok_ = 1;\n    invariant ok_;");
+        write_precondition(writing);
+        writing.say(";");
     }
     for instance in 0..writing.tree.instances.len() {
         if let Some(actor) = actor_of(writing, instance) {
@@ -333,13 +340,14 @@ pub(crate) fn write_main(writing: &mut Writing<'_>) {
     writing.say("\nactor ");
     write_name(writing, main.name);
     writing.say(" {");
-    for place in 0..writing.code.printed {
+    for place in 0..writing.code.printed.len() {
         writing.say("\n    var ");
-        write_made(writing, "p", place);
+        write_printed(writing, place);
         writing.say(" = 0;");
     }
     if has_requirement(writing, NONE, false) {
-        writing.say("\n    var ok_ = 1;\n    invariant ok_;");
+        write_precondition(writing);
+        writing.say(";");
     }
     let place = writing.tree.methods.len();
     if let Some(unit) = writing.unit_at(place) {

@@ -6,7 +6,7 @@ ghost use Rattle.swift_translation.specs.Translations.{IfRefused, IfScript};
 
 use crate::actor::{literal, write_actors, write_main, write_pool};
 use crate::naming::{write_instance, write_name};
-use crate::value::write_value;
+use crate::value::write_bare;
 use crate::writing::Writing;
 use std::alloc::{AllocError, Global};
 use swift_expressions::Code;
@@ -88,7 +88,7 @@ fn write_expectations(writing: &mut Writing<'_>) {
         };
         writing.say("//: expect ");
         let before = writing.out.text.len();
-        write_value(writing, value, 0);
+        write_bare(writing, value);
         if writing.out.text.len().saturating_sub(before) > EXPECTED {
             writing.refuse(Rule::TooLarge, declared.token);
         }

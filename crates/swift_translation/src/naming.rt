@@ -1,27 +1,24 @@
 //! The names of a script.
 //!
-//! A name of the file keeps its bytes, but for a keyword of scripts and a name that ends in `_`, which get one `_` more. All other names end
-//! in one `_`, so they are none of these.
+//! A name of the file keeps its bytes, but for a keyword of scripts and a name that ends in `_` or begins as those of printed values, which
+//! get one `_` more. All other names of variables and of fields of instances end in one `_`, so they are none of these. A method that reads
+//! a field has the name of the field, which no method of its actor has. Closures are methods of the actor `Task`, a name that no file may
+//! give, and printed values are fields of that of `main`; both have their lines in their names.
 
 use crate::word::is_kept;
 use crate::writing::Writing;
-use swift_expressions::Variable;
+use swift_expressions::{NONE, Spot, Variable};
+
+// How the names of fields begin that hold printed values.
+const PRINTED: &[u8] = b"print_line";
 
 /// The name of a token.
 pub(crate) fn write_name(writing: &mut Writing<'_>, token: usize) {
     let bytes = writing.bytes(token);
     writing.out.bytes(bytes);
-    if is_kept(bytes) || bytes.ends_with(b"_") {
+    if is_kept(bytes) || bytes.ends_with(b"_") || bytes.starts_with(PRINTED) {
         writing.say("_");
     }
-}
-
-/// The name of the getter of a field.
-pub(crate) fn write_getter(writing: &mut Writing<'_>, token: usize) {
-    writing.say("get_");
-    let bytes = writing.bytes(token);
-    writing.out.bytes(bytes);
-    writing.say("_");
 }
 
 /// A word, a number and `_`.
@@ -84,15 +81,43 @@ pub(crate) fn write_instance(writing: &mut Writing<'_>, instance: usize) {
     }
 }
 
-/// The method that a closure became.
-pub(crate) fn write_unit(writing: &mut Writing<'_>, unit: usize) {
-    write_made(writing, "child", unit);
-    let is_actors = match writing.unit_at(unit) {
-        Some(found) => found.actor != swift_expressions::NONE,
-        None => false,
-    };
-    if is_actors {
-        let instance = writing.instance;
-        write_made(writing, "", instance);
+// The number of a line, and which of its kind it is there where others come before it.
+fn write_spot(writing: &mut Writing<'_>, spot: Spot) {
+    let alloc = writing.alloc;
+    writing.out.place(alloc, spot.line);
+    if spot.before > 0 {
+        writing.say("_");
+        writing.out.place(alloc, spot.before.saturating_add(1));
     }
+}
+
+/// The name of the field that holds a value that `main` prints.
+pub(crate) fn write_printed(writing: &mut Writing<'_>, place: usize) {
+    writing.out.bytes(PRINTED);
+    if let Some(spot) = writing.code.printed.get(place).copied() {
+        write_spot(writing, spot);
+    }
+}
+
+/// The name of the field that holds the line of a precondition that fails.
+pub(crate) const PRECONDITION: &str = "precondition_line_";
+
+/// The name of the method that a closure became: that of the method in which it stands, behind its instance, and its line.
+pub(crate) fn write_unit(writing: &mut Writing<'_>, unit: usize) {
+    let Some(found) = writing.unit_at(unit) else {
+        return;
+    };
+    if found.method == NONE {
+        writing.say("main");
+    } else {
+        if let Some(declared) = writing.tree.instances.get(writing.instance).copied() {
+            let instance = writing.bytes(declared.name);
+            writing.out.bytes(instance);
+            writing.say("_");
+        }
+        let method = writing.bytes(found.method);
+        writing.out.bytes(method);
+    }
+    writing.say("_line");
+    write_spot(writing, found.spot);
 }

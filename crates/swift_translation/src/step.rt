@@ -2,7 +2,7 @@
 
 use crate::frame::{Frame, ResultPlace, put_in, skip_to};
 use crate::naming::{
-    write_getter, write_instance, write_made, write_name, write_unit, write_variable,
+    PRECONDITION, write_instance, write_made, write_name, write_printed, write_unit, write_variable,
 };
 use crate::value::{write_operands, write_value};
 use crate::writing::Writing;
@@ -60,17 +60,28 @@ fn write_field_set(writing: &mut Writing<'_>, field: usize, value: usize, serial
 
 fn write_print(writing: &mut Writing<'_>, place: usize, value: usize, serial: usize) {
     writing.line();
-    write_made(writing, "p", place);
+    write_printed(writing, place);
     writing.say(" = ");
     write_value(writing, value, serial);
     writing.say(";");
 }
 
-fn write_require(writing: &mut Writing<'_>, value: usize, serial: usize) {
+// The first value that does not hold leaves its line.
+fn write_require(writing: &mut Writing<'_>, value: usize, line: usize, serial: usize) {
+    let alloc = writing.alloc;
     writing.line();
-    writing.say("ok_ = (ok_ && ");
+    writing.say("if (");
+    writing.say(PRECONDITION);
+    writing.say(" == 0 && (!");
     write_value(writing, value, serial);
-    writing.say(");");
+    writing.say(")) {");
+    open(writing, true);
+    writing.line();
+    writing.say(PRECONDITION);
+    writing.say(" = ");
+    writing.out.place(alloc, line);
+    writing.say(";");
+    close(writing);
 }
 
 // A method of an instance. One of the own instance would end the turn where Swift does not: it is refused, and so are its fields.
@@ -110,7 +121,7 @@ fn write_wait(writing: &mut Writing<'_>, what: Wait, serial: usize) {
                 if instance == writing.instance && !is_closure(writing) {
                     writing.refuse(Rule::NotYet, declared.name);
                 }
-                write_getter(writing, declared.name);
+                write_name(writing, declared.name);
             }
             writing.say("()");
         }
@@ -124,7 +135,7 @@ fn write_wait(writing: &mut Writing<'_>, what: Wait, serial: usize) {
             write_arguments(writing, first, serial);
         }
         Wait::Unit(unit, first) => {
-            writing.say("Pool_.");
+            writing.say("Task.");
             write_unit(writing, unit);
             write_arguments(writing, first, serial);
         }
@@ -170,7 +181,7 @@ fn write_callee(writing: &mut Writing<'_>, callee: Callee, serial: usize) {
             write_arguments(writing, first, serial);
         }
         Callee::Unit(unit, first) => {
-            writing.say("Pool_.");
+            writing.say("Task.");
             write_unit(writing, unit);
             write_arguments(writing, first, serial);
         }
@@ -353,7 +364,7 @@ fn step_set(writing: &mut Writing<'_>, serial: usize, instruction: Instruction) 
         Instruction::Set(variable, value) => write_set(writing, "", variable, value, serial),
         Instruction::SetField(field, value) => write_field_set(writing, field, value, serial),
         Instruction::Print(place, value) => write_print(writing, place, value, serial),
-        Instruction::Require(value) => write_require(writing, value, serial),
+        Instruction::Require(value, line) => write_require(writing, value, line, serial),
         _ => {}
     }
 }
@@ -366,7 +377,7 @@ pub(crate) fn step(writing: &mut Writing<'_>, frame: Frame, instruction: Instruc
         | Instruction::Set(..)
         | Instruction::SetField(..)
         | Instruction::Print(..)
-        | Instruction::Require(_) => step_set(writing, serial, instruction),
+        | Instruction::Require(..) => step_set(writing, serial, instruction),
         Instruction::Wait(target, what, otherwise) => {
             wait(writing, target, what, otherwise, serial);
         }

@@ -102,6 +102,18 @@ pub(crate) fn write_value(writing: &mut Writing<'_>, place: usize, serial: usize
     write_at(writing, place, serial, 400);
 }
 
+/// A value that stands alone, as somebody would write it: without parentheses around all of it.
+pub(crate) fn write_bare(writing: &mut Writing<'_>, place: usize) {
+    match writing.value_at(place) {
+        Value::Binary(operator, left, right) => {
+            write_value(writing, left, 0);
+            writing.say(spelling(operator));
+            write_value(writing, right, 0);
+        }
+        _ => write_value(writing, place, 0),
+    }
+}
+
 /// Values that are handed over, with commas between them.
 pub(crate) fn write_operands(writing: &mut Writing<'_>, first: usize, serial: usize) {
     let mut place = first;

@@ -1,0 +1,5 @@
+use Rattle.std.proofs.Common.{length}
+use Rattle.explorer_answers.proofs.meaning.+at_limit.Given as goal
+
+abbrev pub decreases-at_limit : goal.decreases-at_limit
+decreases-at_limit l = length l.endings.now

@@ -1,0 +1,6 @@
+use Rattle.std.proofs.Common.{◌≡◌, map, take}
+use Rattle.explorer_answers.specs.SwiftAnswers.{swift_verdicts_in}
+use Rattle.explorer_answers.proofs.swift_answer.swift_judged.Given as goal
+
+abbrev pub invariant-loop-outcome : goal.invariant-loop-outcome
+invariant-loop-outcome l = map (λ row. row.items) l.all.items ≡ swift_verdicts_in l.script l.asked (take l.outcome-index l.outcomes)

@@ -1,0 +1,19 @@
+use Rattle.std.proofs.Common.{ℕ, ◌+◌, ◌++◌, List, drop, sym, ap, ◌∙◌, append_assoc}
+use Rattle.std.proofs.lemmas.List.{at_drop_more}
+use Rattle.explorer_answers.specs.SwiftText.{swift_failures_text, swift_first_text}
+use Rattle.explorer_answers.proofs.swift_text.put_failures.Goals as goal
+
+pub loop-place-preserved : goal.loop-place-preserved
+loop-place-preserved c =
+    let p = c.args.script.now in
+    let outcomes = c.args.outcomes.now in
+    let asked = c.args.asked.now in
+    let k = c.loop-place.place in
+    let old = c.loop-place.out.items in
+    let e = c.index-asked-place.result in
+    let rest = swift_failures_text p outcomes (drop (k + 1) asked) in
+    ap (λ (xs : List ℕ). xs ++ rest) c.in_ok-put_first.ensures
+    ∙ append_assoc old (swift_first_text p e 0 outcomes) rest
+    ∙ ap (λ other. old ++ (swift_first_text p other 0 outcomes ++ rest)) c.index-asked-place.is
+    ∙ sym (at_drop_more (λ es. old ++ swift_failures_text p outcomes es) asked k e c.loop-place-test.true)
+    ∙ c.loop-place.invariant

@@ -1,0 +1,16 @@
+use Rattle.std.proofs.Common.{◌≡◌, List, ◌++◌, subst}
+use Rattle.std.specs.Prelude.{OnOk, codes}
+use Rattle.swift_tool.proofs.Joined.{three_joined}
+use Rattle.explorer_json.specs.AnswerJson.{search_json}
+use Rattle.explorer_json.specs.SwiftJson.{meanings_json}
+use Rattle.explorer_json.proofs.swift.put_head.Goals as goal
+
+pub returns : goal.returns
+returns c =
+    let f = c.args.found.now in
+    let x2 = c.say.new.out.items in
+    let x3 = c.put_meanings.new.out.items in
+    three_joined c.put_meanings.result c.args.out.now.items c.put_search.new.out.items x2 x3
+    (search_json f) (codes ",\n\"swift\":[") (meanings_json 0 f.outcomes.items)
+    c.in_ok-put_search.ensures c.in_ok-say.ensures
+    (subst (λ (os : List _). OnOk c.put_meanings.result (x3 ≡ x2 ++ meanings_json 0 os)) c.deref.ensures.value c.put_meanings.ensures)
