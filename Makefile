@@ -84,6 +84,7 @@ reports: $(DAILY)
 # Whether the pages of the examples are as they have to be, in a browser too where Chromium is on the PATH: make page ARGS="--pictures FOLDER"
 page: $(DAILY)
 	@tools/run_page_check.py $(ARGS) $(DAILY)
+	@tools/explorer_page_check.py $(ARGS) $(DAILY)
 
 # Puts both programs, the examples, the manual page, the completions and what editors have into PREFIX: make install PREFIX=~/.local
 PREFIX = /usr/local
@@ -112,7 +113,8 @@ tools:
 	@tools/tools_test.py
 	@tools/outcomes_test.py
 	@tools/run_page.py && echo "the statics of run_page are what its page's files give"
-	@cd tools && python3 -B -m unittest -q try_test editors_test completions_test run_page_test
+	@tools/explorer_page.py && echo "the statics of explorer_page are what its page's files give"
+	@cd tools && python3 -B -m unittest -q try_test editors_test completions_test run_page_test explorer_page_test
 
 # Runs both programs on the cases of scripts, and compares what they write with what has to be written: make cases AREAS="runs limits" (all).
 cases: $(PROGRAM) $(DAILY)

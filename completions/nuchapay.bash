@@ -6,7 +6,7 @@ _nuchapay() {
     for ((at = 1; at < COMP_CWORD; at++)); do
         each=${COMP_WORDS[at]}
         case $each in
-            --workers | --format | --outcome | --schedule | --limit | --color | --expect) if [[ ${COMP_WORDS[at + 1]} == = ]]; then ((at += 2)); else ((at++)); fi ;;
+            --workers | --format | --outcome | --schedule | --limit | --from | --color | --expect | --save) if [[ ${COMP_WORDS[at + 1]} == = ]]; then ((at += 2)); else ((at++)); fi ;;
             -?*) ;;
             *) if [[ -z $command ]]; then command=$each; else ((place++)); fi ;;
         esac
@@ -17,10 +17,12 @@ _nuchapay() {
         run:--outcome) words='' ;;
         run:--schedule) words='' ;;
         run:--limit) words='' ;;
+        run:--from) files='*' ;;
         why:--workers) words='1 2 3 4 5 6 7 8' ;;
         why:--outcome) words='' ;;
         why:--schedule) words='' ;;
         why:--limit) words='' ;;
+        why:--from) files='*' ;;
         check:--color) words='always never' ;;
         check:--format) words='text json' ;;
         show:--workers) words='1 2 3 4 5 6 7 8' ;;
@@ -28,17 +30,20 @@ _nuchapay() {
         show:--outcome) words='' ;;
         show:--schedule) words='' ;;
         show:--limit) words='' ;;
+        show:--from) files='*' ;;
         explore:--limit) words='' ;;
         explore:--schedule) words='' ;;
         explore:--expect) words='' ;;
-        explore:--format) words='text json' ;;
+        explore:--format) words='text json html' ;;
+        explore:--save) files='*' ;;
+        explore:--from) files='*' ;;
         *)
             case $command:$word:$place in
                 :-*) words='--version --help' ;;
                 :*:0) words='run why check explain print show swift explore help' ;;
-                run:-*) words='--workers --quiet --values --format --outcome --schedule --broken --limit --help' ;;
+                run:-*) words='--workers --quiet --values --format --outcome --schedule --broken --limit --from --help' ;;
                 run:*:0) files='*.actors' ;;
-                why:-*) words='--workers --outcome --schedule --broken --limit --help' ;;
+                why:-*) words='--workers --outcome --schedule --broken --limit --from --help' ;;
                 why:*:0) files='*.actors' ;;
                 check:-*) words='--color --format --help' ;;
                 check:*:0) files='*.actors' ;;
@@ -46,11 +51,11 @@ _nuchapay() {
                 explain:*:0) words='S1 S2 S3 S4 S5 S6 S7 S8 S9 S10 S11 S12 S13 S14 N1 N2 N3 N4 N5 thrown cancelled invariant overflow steps tasks isolation empty depth turns' ;;
                 print:-*) words='--pretty --help' ;;
                 print:*:0) files='*.actors' ;;
-                show:-*) words='--workers --format --outcome --schedule --broken --limit --help' ;;
+                show:-*) words='--workers --format --outcome --schedule --broken --limit --from --help' ;;
                 show:*:0) files='*.actors' ;;
                 swift:-*) words='--help' ;;
                 swift:*:0) files='*.actors' ;;
-                explore:-*) words='--limit --broken --schedule --expect --no-fault --format --help' ;;
+                explore:-*) words='--limit --broken --schedule --expect --no-fault --format --save --from --help' ;;
                 explore:*:0) files='*.actors' ;;
                 help:-*) words='--help' ;;
                 help:*:0) words='run why check explain print show swift explore help' ;;

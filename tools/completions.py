@@ -40,12 +40,14 @@ class Program(NamedTuple):
 WORKERS = Option("workers", "Runs the tasks on N threads, from 1 to 8", "N", tuple("12345678"))
 QUIET = Option("quiet", "Leaves the journals out of the report")
 LIMIT = Option("limit", "Keeps at most N states, from 1 to 10000000", "N")
+FROM = Option("from", "Takes the schedule from FILE, which explore --save has written, without a search", "FILE")
 # By which schedule a run is made.
 SCHEDULES = (
     Option("outcome", "Takes the schedule of outcome K, as explore lists it", "K"),
     Option("schedule", "Takes this schedule, as explore prints it: 't0.0 t1.0 t0.1'", "TURNS"),
     Option("broken", "Takes a schedule to a turn that an invariant undoes, as explore finds it"),
     LIMIT,
+    FROM,
 )
 # Refusals of scripts and of runs, and the words of faults.
 TOPICS = (
@@ -95,7 +97,9 @@ NUCHAPAY = (
             Option("schedule", "Runs the schedule of outcome K again, and prints the whole report", "K"),
             Option("expect", "Fails where EXPR, over Actor.field and the values of roots, is 0 in an outcome", "EXPR"),
             Option("no-fault", "Fails where a root ends with a fault in an outcome"),
-            Option("format", "Prints what was found as text, or as JSON", "FORMAT", ("text", "json")),
+            Option("format", "Prints what was found as text, as JSON, or as a page for a browser", "FORMAT", ("text", "json", "html")),
+            Option("save", "Keeps what was found in FILE as JSON too, for --from", "FILE"),
+            FROM,
         ),
     ),
     Command("help", "Print this message or the help of the given subcommand(s)", ("[COMMAND]",)),

@@ -125,7 +125,9 @@ class Completions(unittest.TestCase):
                 words = [program.name, *([command.name] if command in program.commands else [])]
                 self.assertEqual(self.complete(*words, "--"), ["--" + option.name for option in options_of(command)])
                 for option in command.options:
-                    if option.value:
+                    if option.value == "FILE":
+                        self.assertIn("account.actors", self.complete(*words, "--" + option.name, ""))
+                    elif option.value:
                         self.assertEqual(self.complete(*words, "--" + option.name, ""), list(option.words))
 
     def test_bash(self):

@@ -32,7 +32,7 @@ def faults(document):
         if not os.path.exists(full):
             yield f"{target} is not there"
             continue
-        if os.path.isdir(full):
+        if os.path.isdir(full) or full.endswith(".png"):
             continue
         with open(full, encoding="utf8") as lines:
             found = lines.read()

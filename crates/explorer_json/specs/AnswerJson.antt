@@ -1,5 +1,6 @@
 -- What a search says to what is asked, as JSON (the format is our own): its bytes.
 use Rattle.std.specs.Prelude.{ℕ, ◌+◌, if◌then◌else◌, List, [], ◌∷◌, ◌++◌, codes, decimal}
+use Rattle.script_sums.specs.Sums.{script_sum}
 use Rattle.swift_script.specs.Scripts.{ScriptView, actor_count}
 use Rattle.swift_explorer.specs.declared.exploration.FoundOutcomes.{FoundOutcomes}
 use Rattle.swift_explorer.specs.declared.outcome.RunOutcome.{RunOutcome}
@@ -55,6 +56,18 @@ answer_word answer.Holds = codes "{\"answer\":\"holds\""
 answer_word answer.Fails = codes "{\"answer\":\"fails\""
 answer_word answer.Undecided = codes "{\"answer\":\"undecided\""
 
+-- the sum of a script's text
+abbrev pub sum_json : List ℕ → List ℕ
+sum_json sum = codes ",\n\"script\":\"" ++ sum ++ codes "\""
+
+-- of which script it is: the sum of its text
+abbrev pub script_json : List ℕ → List ℕ
+script_json text = sum_json (script_sum text)
+
+-- the answer, and of which script it is
+abbrev pub start_json : List ℕ → Answer → List ℕ
+start_json text answer = answer_word answer ++ script_json text
+
 -- that the search came to its end, or why there may be more: the limit was met, or not every history was followed
 abbrev pub end_json : FoundOutcomes → List ℕ
 end_json f = if f.is_complete then codes ",\n\"search\":\"complete\"" else (if f.met_limit then codes ",\n\"search\":\"limit\"" else codes ",\n\"search\":\"partial\"")
@@ -63,7 +76,7 @@ end_json f = if f.is_complete then codes ",\n\"search\":\"complete\"" else (if f
 abbrev pub search_json : FoundOutcomes → List ℕ
 search_json f = end_json f ++ codes ",\"states\":" ++ decimal f.states ++ codes ",\n\"undone\":" ++ broken_json f.broken
 
--- What a search says: the answer, how far it came, what comes of each expectation in each outcome, and the outcomes.
-abbrev pub answer_json : ScriptView → List Expectation → FoundOutcomes → List ℕ
-answer_json p asked found =
-    answer_word (answer_of p asked found) ++ search_json found ++ codes ",\n\"expectations\":[" ++ expectations_json p found.outcomes.items 0 asked ++ codes "],\n\"outcomes\":[" ++ outcomes_json p 0 found.outcomes.items ++ codes "]}\n"
+-- What a search of the script that a text spells says: the answer, the text's sum, how far it came, what comes of each expectation in each outcome, and the outcomes.
+abbrev pub answer_json : List ℕ → ScriptView → List Expectation → FoundOutcomes → List ℕ
+answer_json text p asked found =
+    start_json text (answer_of p asked found) ++ search_json found ++ codes ",\n\"expectations\":[" ++ expectations_json p found.outcomes.items 0 asked ++ codes "],\n\"outcomes\":[" ++ outcomes_json p 0 found.outcomes.items ++ codes "]}\n"

@@ -6,7 +6,7 @@ ghost use Rattle.explorer_answers.specs.AnswerText.{verdict_at};
 ghost use Rattle.explorer_json.specs.AnswerJson.{expectation_json, expectations_json, verdict_json, verdicts_json};
 
 use crate::append::{comma, say};
-use crate::string::string;
+use crate::string::put_string;
 use expectations::{Expectation, Verdict, verdict};
 use std::alloc::{AllocError, Global};
 use swift_explorer::RunOutcome;
@@ -74,7 +74,7 @@ fn put_expectation(
 {
     comma(out, place)?;
     say(out, b"\n{\"text\":")?;
-    string(out, expectation.said())?;
+    put_string(out, expectation.said())?;
     say(out, b",\"verdicts\":[")?;
     put_verdicts(alloc, out, script, expectation, outcomes)?;
     say(out, b"]}")

@@ -16,5 +16,6 @@ mod swift;
 // All that a search says.
 mod text;
 
+pub use string::put_string;
 pub use swift::swift_answer_json;
 pub use text::answer_json;

@@ -53,7 +53,7 @@ fn put_bytes(out: &mut Vec<u8>, text: &[u8]) -> Result<(), AllocError>
 }
 
 /// Appends a text between quotation marks, with a backslash where JSON wants one (RFC 8259).
-pub(crate) fn string(out: &mut Vec<u8>, text: &[u8]) -> Result<(), AllocError>
+pub fn put_string(out: &mut Vec<u8>, text: &[u8]) -> Result<(), AllocError>
     ensures { OnOk result (out.new.items ≡ out.old.items ++ string_json text.now) }
 {
     say(out, b"\"")?;

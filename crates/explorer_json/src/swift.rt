@@ -7,7 +7,7 @@ ghost use Rattle.explorer_json.specs.SwiftJson.{meaning_json, meanings_json, swi
 
 use crate::append::{comma, say};
 use crate::asked::put_expectations;
-use crate::text::{answer_word, put_outcomes, put_search};
+use crate::text::{put_outcomes, put_search, put_start};
 use expectations::Expectation;
 use explorer_answers::{SwiftMeaning, swift_answered, swift_meaning};
 use std::alloc::{AllocError, Global};
@@ -55,14 +55,15 @@ fn put_head(out: &mut Vec<u8>, found: &FoundOutcomes) -> Result<(), AllocError>
 fn put_answer(
     alloc: Global,
     out: &mut Vec<u8>,
+    text: &[u8],
     script: &Script,
     asked: &[Expectation],
     found: &FoundOutcomes,
 ) -> Result<(), AllocError>
-    ensures { OnOk result (out.new.items ≡ out.old.items ++ swift_answer_json script.now asked.now found.now) }
+    ensures { OnOk result (out.new.items ≡ out.old.items ++ swift_answer_json text.now script.now asked.now found.now) }
 {
     let answer = swift_answered(alloc, script, asked, found)?;
-    say(out, answer_word(answer))?;
+    put_start(alloc, out, text, answer)?;
     put_head(out, found)?;
     say(out, b"],\n\"expectations\":[")?;
     put_expectations(alloc, out, script, &found.outcomes, asked)?;
@@ -71,7 +72,7 @@ fn put_answer(
     say(out, b"]}\n")
 }
 
-/// What a search of the script of a Swift file says to expectations, as `answer_json` has it (the format is our own), with what each outcome
+/// What a search of the script that `text` spells, which a Swift file has become, says to expectations, as `answer_json` has it (the format is our own), with what each outcome
 /// says of Swift: `outcome`, `ends` where the process ends before it, or `spins` where it is at a limit that Swift does not have.
 ///
 /// # Errors
@@ -79,13 +80,14 @@ fn put_answer(
 /// `AllocError` where no memory is left for the text.
 pub fn swift_answer_json(
     alloc: Global,
+    text: &[u8],
     script: &Script,
     asked: &[Expectation],
     found: &FoundOutcomes,
 ) -> Result<Vec<u8>, AllocError>
-    ensures { IfOk result (λ text. text.items ≡ swift_answer_json script.now asked.now found.now) }
+    ensures { IfOk result (λ json. json.items ≡ swift_answer_json text.now script.now asked.now found.now) }
 {
     let mut out = Vec::new(alloc);
-    put_answer(alloc, &mut out, script, asked, found)?;
+    put_answer(alloc, &mut out, text, script, asked, found)?;
     Ok(out)
 }

@@ -1,7 +1,7 @@
 //! All that a search says.
 
 ghost use Rattle.std.specs.Prelude.{◌≡◌, ◌<◌, ◌^◌, ◌++◌, IfOk, OnOk};
-ghost use Rattle.explorer_json.specs.AnswerJson.{answer_json, answer_word, end_json, outcome_json, outcomes_json, search_json};
+ghost use Rattle.explorer_json.specs.AnswerJson.{answer_json, answer_word, end_json, outcome_json, outcomes_json, script_json, search_json, start_json, sum_json};
 
 use crate::append::{comma, labelled, say};
 use crate::asked::put_expectations;
@@ -9,6 +9,7 @@ use crate::ended::put_ended;
 use crate::schedule::{put_broken, put_schedule};
 use expectations::{Answer, Expectation};
 use explorer_answers::answered;
+use script_sums::script_sum;
 use std::alloc::{AllocError, Global};
 use swift_explorer::{FoundOutcomes, RunOutcome};
 use swift_script::Script;
@@ -47,7 +48,7 @@ pub(crate) fn put_outcomes(
     Ok(())
 }
 
-pub(crate) fn answer_word(answer: Answer) -> &'static [u8]
+fn answer_word(answer: Answer) -> &'static [u8]
     ensures { result.now ≡ answer_word answer }
 {
     match answer {
@@ -55,6 +56,36 @@ pub(crate) fn answer_word(answer: Answer) -> &'static [u8]
         Answer::Fails => b"{\"answer\":\"fails\"",
         Answer::Undecided => b"{\"answer\":\"undecided\"",
     }
+}
+
+// A sum.
+fn put_sum(out: &mut Vec<u8>, sum: &[u8]) -> Result<(), AllocError>
+    ensures { OnOk result (out.new.items ≡ out.old.items ++ sum_json sum.now) }
+{
+    say(out, b",\n\"script\":\"")?;
+    say(out, sum)?;
+    say(out, b"\"")
+}
+
+// Of which script it is.
+fn put_script(alloc: Global, out: &mut Vec<u8>, text: &[u8]) -> Result<(), AllocError>
+    ensures { OnOk result (out.new.items ≡ out.old.items ++ script_json text.now) }
+{
+    let sum = script_sum(alloc, text)?;
+    put_sum(out, sum.as_bytes())
+}
+
+// The answer, and of which script it is.
+pub(crate) fn put_start(
+    alloc: Global,
+    out: &mut Vec<u8>,
+    text: &[u8],
+    answer: Answer,
+) -> Result<(), AllocError>
+    ensures { OnOk result (out.new.items ≡ out.old.items ++ start_json text.now answer) }
+{
+    say(out, answer_word(answer))?;
+    put_script(alloc, out, text)
 }
 
 // Whether the search came to its end, and else why not.
@@ -84,14 +115,15 @@ pub(crate) fn put_search(out: &mut Vec<u8>, found: &FoundOutcomes) -> Result<(),
 fn put_answer(
     alloc: Global,
     out: &mut Vec<u8>,
+    text: &[u8],
     script: &Script,
     asked: &[Expectation],
     found: &FoundOutcomes,
 ) -> Result<(), AllocError>
-    ensures { OnOk result (out.new.items ≡ out.old.items ++ answer_json script.now asked.now found.now) }
+    ensures { OnOk result (out.new.items ≡ out.old.items ++ answer_json text.now script.now asked.now found.now) }
 {
     let answer = answered(alloc, script, asked, found)?;
-    say(out, answer_word(answer))?;
+    put_start(alloc, out, text, answer)?;
     put_search(out, found)?;
     say(out, b",\n\"expectations\":[")?;
     put_expectations(alloc, out, script, &found.outcomes, asked)?;
@@ -100,8 +132,8 @@ fn put_answer(
     say(out, b"]}\n")
 }
 
-/// What a search says to expectations, as one JSON value (the format is our own): the answer; whether the search came to its end, and how
-/// many histories it kept; a schedule to a turn that `invariant` undoes, or `null`; each expectation, with what comes of it in each
+/// What a search of the script that `text` spells says to expectations, as one JSON value (the format is our own): the answer; the sum of
+/// the text; whether the search came to its end, and how many histories it kept; a schedule to a turn that `invariant` undoes, or `null`; each expectation, with what comes of it in each
 /// outcome; and the outcomes, each with its schedule, and with its tasks and fields as `report_json` has them. All of it is UTF-8 where
 /// the expectations are, and ASCII but for these. Linear in the tasks and fields of the outcomes, times the expectations, and in the
 /// schedules, times the length of each.
@@ -111,13 +143,14 @@ fn put_answer(
 /// `AllocError` where no memory is left for the text.
 pub fn answer_json(
     alloc: Global,
+    text: &[u8],
     script: &Script,
     asked: &[Expectation],
     found: &FoundOutcomes,
 ) -> Result<Vec<u8>, AllocError>
-    ensures { IfOk result (λ text. text.items ≡ answer_json script.now asked.now found.now) }
+    ensures { IfOk result (λ json. json.items ≡ answer_json text.now script.now asked.now found.now) }
 {
     let mut out = Vec::new(alloc);
-    put_answer(alloc, &mut out, script, asked, found)?;
+    put_answer(alloc, &mut out, text, script, asked, found)?;
     Ok(out)
 }

@@ -22,6 +22,13 @@ use Rattle.nuchapay.specs.declared.scheduled.NoRun.TheVariants.{NoOutcome, NoneB
 use Rattle.nuchapay.specs.declared.scheduled.ScheduledRun.{ScheduledRun}
 use Rattle.nuchapay.specs.Schedules.{AreSpelled}
 use Rattle.explorer_answers.specs.Found.{IsFound}
+use Rattle.std.specs.declared.vec.Vec.{Vec}
+use Rattle.std.specs.declared.alloc.Global.{Global}
+use Rattle.explorer_files.specs.Saved.{IsSavedAs}
+use Rattle.explorer_files.specs.declared.saved.SavedChoice.{SavedChoice}
+use Rattle.explorer_files.specs.declared.saved.SavedSchedule.TheVariants.{Steps}
+use Rattle.nuchapay.specs.declared.scheduled.SavedRun.{SavedRun}
+use Rattle.nuchapay.specs.declared.scheduled.SavedRun.TheVariants as kept
 
 -- A report is that of a schedule: it is legal, and its log is that of the schedule's steps.
 pub record IsScheduledReport (script : ScriptView) (schedule : List Move) (report : Report) : Type 0 where
@@ -114,3 +121,20 @@ pub record NeverBreaksIf (bytes : List ℕ) (all : Bool) : Type 0 where
 abbrev pub IsBrokenLine : List ℕ → BrokenLine → Type 0
 IsBrokenLine bytes (line.Line text) = IsLineOfBroken bytes text.items
 IsBrokenLine bytes (line.None all) = NeverBreaksIf bytes all
+
+-- What comes of the schedule that a file has: a run whose first steps are its steps, or why there is none.
+pub record IsFollowed (bytes file : List ℕ) (choice : SavedChoice) (script : ScriptView) (found : ChosenRun) : Type 0 where
+  pub steps : Vec Move Global
+  pub saved : IsSavedAs file bytes choice (Steps steps)
+  pub run : IsCompleted script steps.items found
+
+-- what comes of the schedule that is meant, or what the file has in its place
+abbrev pub IsSavedOrNone : List ℕ → List ℕ → SavedChoice → ScriptView → SavedRun → Type 0
+IsSavedOrNone bytes file choice script (kept.Followed run) = IsFollowed bytes file choice script run
+IsSavedOrNone bytes file choice script (kept.NotThere found) = IsSavedAs file bytes choice found
+
+-- The run by a schedule of a file, of the script that these bytes spell, or why there is none.
+pub record IsSavedRun (bytes file : List ℕ) (choice : SavedChoice) (found : SavedRun) : Type 0 where
+  pub script : ScriptView
+  pub accepted : IsAccepted bytes script
+  pub is : IsSavedOrNone bytes file choice script found

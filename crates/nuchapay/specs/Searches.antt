@@ -1,11 +1,17 @@
 -- What commands say of a search.
-use Rattle.std.specs.Prelude.{◌≡◌, ◌⊎◌, ◌<◌, ℕ, ◌+◌, Bool, Some, false, true, List, length, slice_get}
+use Rattle.std.specs.Prelude.{◌≡◌, ◌⊎◌, ◌<◌, ℕ, ◌+◌, Bool, Option, Some, None, false, true, List, length, slice_get}
+use Rattle.std.specs.declared.vec.Vec.{Vec}
+use Rattle.std.specs.declared.alloc.Global.{Global}
 use Rattle.expectations.specs.declared.answer.Answer.{Answer}
 use Rattle.expectations.specs.declared.expectation.Expectation.{Expectation}
 use Rattle.explorer_answers.specs.Answered.{IsAnswer}
 use Rattle.explorer_answers.specs.AnswerText.{answer_text}
 use Rattle.explorer_answers.specs.Found.{IsFoundOf}
 use Rattle.explorer_json.specs.AnswerJson.{answer_json}
+use Rattle.explorer_page.specs.Pages.{IsPage}
+use Rattle.explorer_page.specs.declared.more.SearchHeading.{SearchHeading}
+use Rattle.nuchapay_tool.specs.declared.requests.SearchFormat.{SearchFormat}
+use Rattle.nuchapay_tool.specs.declared.requests.SearchFormat.TheVariants.{Text, Json, Html}
 use Rattle.swift_script.specs.Scripts.{ScriptView}
 use Rattle.swift_history.specs.Histories.{IsLegal}
 use Rattle.swift_certificate.specs.Reports.{report_view}
@@ -25,16 +31,25 @@ pub record IsScheduleText (script : ScriptView) (schedule : List Move) (text : L
   pub log : IsLogOf script schedule report.log.events
   pub printed : text ≡ report_text script report false
 
--- what is printed of an answer to what is asked, and of all that was found: JSON or text
-abbrev pub said_of : Bool → ScriptView → List Expectation → FoundOutcomes → List ℕ
-said_of true script asked found = answer_json script asked found
-said_of false script asked found = answer_text script asked found
+-- what is printed of an answer to what is asked, and of all that was found: text, JSON, or a page
+abbrev pub IsSaidOf : SearchFormat → SearchHeading → ScriptView → List Expectation → FoundOutcomes → List ℕ → Type 0
+IsSaidOf Text h script asked found text = text ≡ answer_text script asked found
+IsSaidOf Json h script asked found text = text ≡ answer_json h.text.now script asked found
+IsSaidOf Html h script asked found text = IsPage h script asked found text
 
--- What a search says of the script that these bytes spell, of whose histories at most `limit` are kept, to the expectations of these words
--- and of its comments, and perhaps that no root ends with a fault: the answer, and a text of it and of all that was found, as JSON or not.
-pub record IsExplored (bytes : List ℕ) (limit : ℕ) (words : List (List ℕ)) (without_fault json : Bool) (answer : Answer) (text : List ℕ) : Type 0 where
-  pub is : IsAnswer bytes limit words without_fault answer
-  pub printed : text ≡ said_of json is.script is.asked is.found
+-- this is kept in a file, where something is
+abbrev pub IsKept : Bool → List ℕ → Option (Vec ℕ Global) → Type 0
+IsKept true json (Some kept) = kept.items ≡ json
+IsKept true json None = ⊥
+IsKept false json kept = Unit {0}
+
+-- What a search says of the script that the text of a heading spells, of whose histories at most `limit` are kept, to the expectations of
+-- these words and of its comments, and perhaps that no root ends with a fault: the answer, what is printed of it and of all that was found
+-- in this format, and what is kept of the same in a file.
+pub record IsExplored (h : SearchHeading) (limit : ℕ) (words : List (List ℕ)) (without_fault : Bool) (format : SearchFormat) (save : Bool) (answer : Answer) (text : List ℕ) (kept : Option (Vec ℕ Global)) : Type 0 where
+  pub is : IsAnswer h.text.now limit words without_fault answer
+  pub printed : IsSaidOf format h is.script is.asked is.found text
+  pub saved : IsKept save (answer_json h.text.now is.script is.asked is.found) kept
 
 -- A text is that of the schedule of the outcome with this number, of those that were found, from 1.
 pub record IsTextOfOutcome (bytes : List ℕ) (limit number : ℕ) (text : List ℕ) : Type 0 where

@@ -1,20 +1,30 @@
 -- What `explore` says of a Swift file.
-use Rattle.std.specs.Prelude.{◌≡◌, ℕ, Bool, false, true, List}
+use Rattle.std.specs.Prelude.{◌≡◌, ℕ, Bool, Option, List}
+use Rattle.std.specs.declared.vec.Vec.{Vec}
+use Rattle.std.specs.declared.alloc.Global.{Global}
 use Rattle.expectations.specs.declared.answer.Answer.{Answer}
 use Rattle.expectations.specs.declared.expectation.Expectation.{Expectation}
 use Rattle.explorer_answers.specs.SwiftAnswers.{IsSwiftAnswer}
 use Rattle.explorer_answers.specs.SwiftText.{swift_answer_text}
 use Rattle.explorer_json.specs.SwiftJson.{swift_answer_json}
+use Rattle.explorer_page.specs.Pages.{IsPage}
+use Rattle.explorer_page.specs.declared.more.SearchHeading.{SearchHeading}
+use Rattle.nuchapay_tool.specs.declared.requests.SearchFormat.{SearchFormat}
+use Rattle.nuchapay_tool.specs.declared.requests.SearchFormat.TheVariants.{Text, Json, Html}
+use Rattle.nuchapay.specs.Searches.{IsKept}
 use Rattle.swift_script.specs.Scripts.{ScriptView}
 use Rattle.swift_explorer.specs.declared.exploration.FoundOutcomes.{FoundOutcomes}
 
--- what is printed of an answer to what is asked, and of all that was found: JSON or text
-abbrev pub swift_said_of : Bool → ScriptView → List Expectation → FoundOutcomes → List ℕ
-swift_said_of true script asked found = swift_answer_json script asked found
-swift_said_of false script asked found = swift_answer_text script asked found
+-- what is printed of an answer to what is asked, and of all that was found: text, JSON, or the page of the script
+abbrev pub IsSwiftSaidOf : SearchFormat → SearchHeading → ScriptView → List Expectation → FoundOutcomes → List ℕ → Type 0
+IsSwiftSaidOf Text h script asked found text = text ≡ swift_answer_text script asked found
+IsSwiftSaidOf Json h script asked found text = text ≡ swift_answer_json h.text.now script asked found
+IsSwiftSaidOf Html h script asked found text = IsPage h script asked found text
 
--- What a search says of the script of a Swift file that these bytes spell, of whose histories at most `limit` are kept, to the expectations
--- of these words and of its comments, and perhaps that no root ends with a fault: the answer, and a text of it and of all that was found.
-pub record IsSwiftExplored (bytes : List ℕ) (limit : ℕ) (words : List (List ℕ)) (without_fault json : Bool) (answer : Answer) (text : List ℕ) : Type 0 where
-  pub is : IsSwiftAnswer bytes limit words without_fault answer
-  pub printed : text ≡ swift_said_of json is.script is.asked is.found
+-- What a search says of the script of a Swift file that the text of a heading spells, of whose histories at most `limit` are kept, to the
+-- expectations of these words and of its comments, and perhaps that no root ends with a fault: the answer, what is printed of it and of all
+-- that was found in this format, and what is kept of the same in a file.
+pub record IsSwiftExplored (h : SearchHeading) (limit : ℕ) (words : List (List ℕ)) (without_fault : Bool) (format : SearchFormat) (save : Bool) (answer : Answer) (text : List ℕ) (kept : Option (Vec ℕ Global)) : Type 0 where
+  pub is : IsSwiftAnswer h.text.now limit words without_fault answer
+  pub printed : IsSwiftSaidOf format h is.script is.asked is.found text
+  pub saved : IsKept save (swift_answer_json h.text.now is.script is.asked is.found) kept

@@ -3,18 +3,22 @@
 ghost use Rattle.std.specs.Prelude.{◌≡◌, ◌⊎◌, ◌<◌, ◌+◌, IfOk, IfSome, None, map};
 ghost use Rattle.std.specs.Arc.{arc_value};
 ghost use Rattle.explorer_answers.specs.Found.{IsFound};
-ghost use Rattle.nuchapay.specs.Searches.{IsExplored, IsRerun, IsScheduleText, said_of};
+ghost use Rattle.explorer_json.specs.AnswerJson.{answer_json as json_of};
+ghost use Rattle.nuchapay.specs.Searches.{IsExplored, IsKept, IsRerun, IsSaidOf, IsScheduleText};
 
 use crate::scheduled::scheduled_report;
 use expectations::{Answer, Expectation, ExpectationError, Misread, ask};
 use explorer_answers::{answer_text, answered};
 use explorer_json::answer_json;
+use explorer_page::{PageError, SearchHeading, page_text};
+use nuchapay_tool::SearchFormat;
 use std::alloc::{AllocError, AllocFailed, Global};
 use std::sync::Arc;
 use swift_explorer::{Exploration, FoundOutcomes, Move};
 use swift_report::report_text;
 use swift_script::{Script, ScriptFault, read};
 use swift_tool::ToolFault;
+use swift_workers::RunFault;
 
 // Each time that a search has gone on from this many histories more, it says how far it is: a small script takes a second for them.
 const PART: usize = 8_192;
@@ -51,8 +55,10 @@ pub(crate) fn search_all(
 pub struct SearchAnswer {
     /// What it says to what was expected.
     pub answer: Answer,
-    /// That, and what it has found, as a text.
+    /// That, and what it has found, as it is to be printed.
     pub text: Vec<u8>,
+    /// The same as JSON, where it is to be kept in a file.
+    pub saved: Option<Vec<u8>>,
 }
 
 /// Why a search was not made, or not to its end.
@@ -62,6 +68,8 @@ pub enum ExploreFault {
     Script(ScriptFault),
     /// What is expected is none of this script.
     Misread(Misread),
+    /// The run of a schedule that was found was refused.
+    Run(RunFault),
     /// No memory was left.
     Memory,
 }
@@ -93,43 +101,79 @@ impl From<ExpectationError> for ExploreFault {
     }
 }
 
-// What a search says that has found this, as JSON or as text.
-fn said_of(
-    alloc: Global,
-    script: &Script,
-    asked: &[Expectation],
-    found: &FoundOutcomes,
-    json: bool,
-) -> Result<Vec<u8>, AllocError>
-    ensures { IfOk result (λ text. text.items ≡ said_of json script.now asked.now found.now) }
-{
-    if json {
-        answer_json(alloc, script, asked, found)
-    } else {
-        answer_text(alloc, script, asked, found)
+impl From<PageError> for ExploreFault {
+    fn from(error: PageError) -> ExploreFault {
+        match error {
+            PageError::Memory => ExploreFault::Memory,
+            PageError::Unfinished => ExploreFault::Run(RunFault::Unfinished),
+            PageError::Illegal => ExploreFault::Run(RunFault::Illegal),
+        }
     }
 }
 
-/// What a search of the histories of a script says, of which at most `limit` are kept, to the expectations of these words and of the
-/// script's comments, and perhaps that no root ends with a fault; as JSON where this says so. How far it is, it says on standard error now
-/// and then.
+// What a search says that has found this, in a format.
+fn said_of(
+    alloc: Global,
+    heading: SearchHeading<'_>,
+    script: &Arc<Script>,
+    asked: &[Expectation],
+    found: &FoundOutcomes,
+    format: SearchFormat,
+) -> Result<Vec<u8>, ExploreFault>
+    ensures { IfOk result (λ text. IsSaidOf format heading.entry (arc_value script.now) asked.now found.now text.items) }
+{
+    let text = match format {
+        SearchFormat::Text => answer_text(alloc, script, asked, found)?,
+        SearchFormat::Json => answer_json(alloc, heading.text, script, asked, found)?,
+        SearchFormat::Html => page_text(alloc, heading, script, asked, found)?,
+    };
+    Ok(text)
+}
+
+// What is kept in a file, where something is.
+fn kept_of(
+    alloc: Global,
+    text: &[u8],
+    script: &Script,
+    asked: &[Expectation],
+    found: &FoundOutcomes,
+    save: bool,
+) -> Result<Option<Vec<u8>>, AllocError>
+    ensures { IfOk result (IsKept save (json_of text.now script.now asked.now found.now)) }
+{
+    if !save {
+        return Ok(None);
+    }
+    let json = answer_json(alloc, text, script, asked, found)?;
+    Ok(Some(json))
+}
+
+/// What a search of the histories of the script that `heading.text` spells says, of which at most `limit` are kept, to the expectations of
+/// these words and of the script's comments, and perhaps that no root ends with a fault; in this format, and where this says so as JSON
+/// beside it, to be kept. How far it is, it says on standard error now and then.
 pub fn explored(
     rt: &HostRuntime,
-    text: &[u8],
+    heading: SearchHeading<'_>,
     limit: u32,
     words: &[&str],
     without_fault: bool,
-    json: bool,
+    format: SearchFormat,
+    save: bool,
 ) -> Result<SearchAnswer, ExploreFault>
-    ensures { IfOk result (λ x. IsExplored text.now limit (map (λ w. w.now) words.now) without_fault json x.answer x.text.items) }
+    ensures { IfOk result (λ x. IsExplored heading.entry limit (map (λ w. w.now) words.now) without_fault format save x.answer x.text.items x.saved) }
 {
     let alloc = rt.alloc();
-    let script = Arc::new(alloc, read(alloc, text)?)?;
-    let asked = ask(alloc, &script, text, words, without_fault)?;
+    let script = Arc::new(alloc, read(alloc, heading.text)?)?;
+    let asked = ask(alloc, &script, heading.text, words, without_fault)?;
     let found = search_all(rt, &script, limit as usize)?;
     let answer = answered(alloc, &script, &asked, &found)?;
-    let text = said_of(alloc, &script, &asked, &found, json)?;
-    Ok(SearchAnswer { answer, text })
+    let text = said_of(alloc, heading, &script, &asked, &found, format)?;
+    let saved = kept_of(alloc, heading.text, &script, &asked, &found, save)?;
+    Ok(SearchAnswer {
+        answer,
+        text,
+        saved,
+    })
 }
 
 /// The run of an outcome's schedule.

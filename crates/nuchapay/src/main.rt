@@ -36,12 +36,13 @@ use crate::explore::{explored, rerun_text};
 use crate::explore_swift::explored_swift;
 use crate::input::{is_swift, name_of, say_no_script, script};
 use crate::output::{tell, write_out, write_said};
-use crate::schedule_answers::{say_broken, say_scheduled};
+use crate::schedule_answers::{say_broken, say_saved, say_scheduled};
 use crate::scheduled::broken_line;
 use crate::search_answers::{say_explored, say_rerun};
 use crate::show::show_run;
 use crate::turn_answers::say_turn;
 use crate::values::{explained_turn, report_of};
+use explorer_page::SearchHeading;
 use nuchapay_tool::{
     Checked, Question, Request, Topic, check, check_json, explain, page_of, pretty, print, request,
 };
@@ -124,19 +125,39 @@ where
             tell(host, show_run(rt, text, name, workers, format, out))
         }
         Question::Scheduled(schedule, form) => say_scheduled(host, name, text, schedule, form),
+        Question::Saved(place, form) => say_saved(host, name, text, place, form),
         Question::Swift => tell(host, write_swift(host, text)),
         Question::Explore {
             limit,
             expected,
             without_fault,
-            json,
+            format,
+            save,
         } => {
-            let search = if is_swift(name) {
-                explored_swift(host, text, limit, &expected, without_fault, json)
+            let heading = SearchHeading { name, text };
+            let keeps = save.is_some();
+            let found = if is_swift(name) {
+                explored_swift(
+                    host,
+                    heading,
+                    limit,
+                    &expected,
+                    without_fault,
+                    format,
+                    keeps,
+                )
             } else {
-                explored(host, text, limit, &expected, without_fault, json)
+                explored(
+                    host,
+                    heading,
+                    limit,
+                    &expected,
+                    without_fault,
+                    format,
+                    keeps,
+                )
             };
-            say_explored(host, search)
+            say_explored(host, save, found)
         }
         Question::ExploreBroken(limit) => say_broken(host, limit, broken_line(host, text, limit)),
         Question::Rerun { limit, outcome } => {

@@ -1,15 +1,20 @@
 //! What is said of runs by a schedule.
 
 use crate::output::{tell, write_out};
-use crate::scheduled::{BrokenLine, ChosenRun, NoRun, ScheduledRun, chosen_run};
+use crate::scheduled::{
+    BrokenLine, ChosenRun, NoRun, SavedRun, ScheduledRun, chosen_run, saved_run,
+};
+use crate::schedules::has_parted_turn;
 use crate::show::show_report;
 use crate::told::{chosen_text, no_run_text};
 use crate::turn_answers::{say_explained, say_no_task};
 use crate::values::AskedTurn;
+use explorer_files::{SavedChoice, SavedSchedule};
 use nuchapay_runs::Explained;
-use nuchapay_tool::{RunForm, ScheduleChoice, TurnWord};
+use nuchapay_tool::{RunForm, SavedPlace, SavedWord, ScheduleChoice, TurnWord};
 use run_page::Heading;
 use std::alloc::AllocError;
+use std::fs;
 use swift_report::write_all;
 use swift_tool::ToolFault;
 
@@ -22,20 +27,76 @@ pub fn say_scheduled(
     form: RunForm<'_>,
 ) -> u8 {
     match chosen_run(rt, text, schedule) {
-        Ok(ChosenRun::Run(run)) => {
-            let heading = Heading {
-                name: path,
-                workers: 1,
-                source: text,
-            };
-            match chosen_text(rt.alloc(), &run) {
-                Ok(said) => say_after(rt, heading, &run, form, said),
-                Err(fault) => tell(rt, Err(ToolFault::from(fault))),
-            }
-        }
+        Ok(ChosenRun::Run(run)) => say_run(rt, path, text, &run, form),
         Ok(ChosenRun::None(why)) => say_no_run(rt, schedule, why),
         Err(fault) => tell(rt, Err(fault)),
     }
+}
+
+// Says this of a run of the script with this text. The status to end with.
+fn say_run(rt: &HostRuntime, path: &str, text: &[u8], run: &ScheduledRun, form: RunForm<'_>) -> u8 {
+    let heading = Heading {
+        name: path,
+        workers: 1,
+        source: text,
+    };
+    match chosen_text(rt.alloc(), run) {
+        Ok(said) => say_after(rt, heading, run, form, said),
+        Err(fault) => tell(rt, Err(ToolFault::from(fault))),
+    }
+}
+
+/// Says this of a run by a schedule of a file. The status to end with: 2 where the file is of another script, or has no such schedule.
+pub fn say_saved(
+    rt: &HostRuntime,
+    path: &str,
+    text: &[u8],
+    place: SavedPlace<'_>,
+    form: RunForm<'_>,
+) -> u8 {
+    let file = match fs::read(rt, place.path) {
+        Ok(file) => file,
+        Err(error) => {
+            let name = place.path;
+            let _ = eprintln!(rt; "nuchapay: {name}: {error}");
+            return 4;
+        }
+    };
+    let choice = match place.word {
+        SavedWord::Outcome(number) => SavedChoice::Outcome(number),
+        SavedWord::Broken => SavedChoice::Broken,
+    };
+    match saved_run(rt.alloc(), text, &file, choice) {
+        Ok(SavedRun::Followed(ChosenRun::Run(run))) => say_run(rt, path, text, &run, form),
+        Ok(SavedRun::Followed(ChosenRun::None(why))) => {
+            say_no_run(rt, ScheduleChoice::Given(""), why)
+        }
+        Ok(SavedRun::NotThere(found)) => say_not_there(rt, path, place.path, found),
+        Err(fault) => tell(rt, Err(fault)),
+    }
+}
+
+// Says what a file has in place of the schedule that is meant. The status to end with.
+fn say_not_there(rt: &HostRuntime, path: &str, name: &str, found: SavedSchedule) -> u8 {
+    match found {
+        SavedSchedule::OtherScript => {
+            let _ = eprintln!(rt;
+                "nuchapay: {name} is of another script than {path}, or of this one before it was changed"
+            );
+        }
+        SavedSchedule::NoOutcome(many) => {
+            let _ = eprintln!(rt; "nuchapay: {name} has no such outcome: it has {many}");
+        }
+        SavedSchedule::NoneBroken => {
+            let _ = eprintln!(rt;
+                "nuchapay: {name} has no schedule to a turn that is undone by an invariant"
+            );
+        }
+        SavedSchedule::Steps(_) | SavedSchedule::OtherFile => {
+            let _ = eprintln!(rt; "nuchapay: {name} is no file that explore --save has written");
+        }
+    }
+    2
 }
 
 // Says what was chosen of a run's schedule, where something was, and then this of the run. The status to end with.
@@ -71,6 +132,7 @@ fn say_form(rt: &HostRuntime, heading: Heading<'_>, run: &ScheduledRun, form: Ru
         RunForm::Json(quiet) => tell(rt, write_run(rt, run, run.json(alloc, quiet))),
         RunForm::Values => tell(rt, write_run(rt, run, run.values(alloc))),
         RunForm::Why(word) => say_why(rt, run, word),
+        RunForm::Line => tell(rt, write_line(rt, run)),
         RunForm::Picture(format) => {
             let shown = show_report(
                 alloc,
@@ -95,10 +157,22 @@ fn say_why(rt: &HostRuntime, run: &ScheduledRun, word: Option<TurnWord<'_>>) -> 
     }
 }
 
-// Writes a text after the line of a run's schedule.
-fn write_after(rt: &HostRuntime, run: &ScheduledRun, text: &[u8]) -> Result<bool, ToolFault> {
+// What the dots in the line of a schedule mean.
+const DOTS: &str =
+    "    t0.1.. begins a turn, and ..t0.1 ends it; what stands between runs on other executors\n";
+
+// Writes the line of a run's schedule.
+fn write_line(rt: &HostRuntime, run: &ScheduledRun) -> Result<bool, ToolFault> {
     let line = run.given_line(rt.alloc())?;
-    write_all(&mut rt.stdout(), &line)?;
+    write_out(rt, &line)
+}
+
+// Writes a text after the line of a run's schedule, and after what its dots mean, where it has some.
+fn write_after(rt: &HostRuntime, run: &ScheduledRun, text: &[u8]) -> Result<bool, ToolFault> {
+    write_line(rt, run)?;
+    if has_parted_turn(run.given_steps()) {
+        write_out(rt, DOTS.as_bytes())?;
+    }
     write_out(rt, text)
 }
 

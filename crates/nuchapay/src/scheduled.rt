@@ -10,11 +10,12 @@ ghost use Rattle.nuchapay_runs.specs.Noted.{noted_text};
 ghost use Rattle.nuchapay_runs.specs.Notes.{IsAnnotated};
 ghost use Rattle.nuchapay_tool.specs.declared.turn_names.TurnWord.{TurnWord};
 ghost use Rattle.nuchapay.specs.Runs.{IsAsked};
-ghost use Rattle.nuchapay.specs.Scheduled.{IsBrokenLine, IsChosen, IsCompleted, IsRunOrNone, IsScheduledReport};
+ghost use Rattle.nuchapay.specs.Scheduled.{IsBrokenLine, IsChosen, IsCompleted, IsRunOrNone, IsSavedRun, IsScheduledReport};
 
 use crate::explore::{place_of, search_all};
 use crate::schedules::{ReadSchedule, WordFault, begun, read_schedule};
 use crate::values::{AskedTurn, all_ended_well, asked_turn};
+use explorer_files::{SavedChoice, SavedSchedule, saved_schedule};
 use nuchapay_runs::report_with_values;
 use nuchapay_tool::{ScheduleChoice, TurnName, TurnWord};
 use std::alloc::{AllocError, Global};
@@ -62,6 +63,15 @@ pub enum NoRun {
 pub enum ChosenRun {
     Run(ScheduledRun),
     None(NoRun),
+}
+
+/// A run by a schedule of a file, or what the file has in its place.
+#[derive(Drop)]
+pub enum SavedRun {
+    /// What came of the schedule.
+    Followed(ChosenRun),
+    /// The file has no such schedule of this script.
+    NotThere(SavedSchedule),
 }
 
 /// The report of a schedule. Only a legal report is given.
@@ -215,6 +225,26 @@ pub fn chosen_run(
         ScheduleChoice::Outcome { limit, outcome } => outcome_run(rt, script, limit, outcome),
         ScheduleChoice::Given(words) => given_run(alloc, script, words),
         ScheduleChoice::Broken { limit } => broken_run(rt, script, limit),
+    }
+}
+
+/// The run of a script by the schedule that is meant of a file, which a search was kept in. The file's steps are followed as those of a
+/// schedule that was given, and the report is followed by `legal`: of the file nothing else is believed.
+pub fn saved_run(
+    alloc: Global,
+    text: &[u8],
+    file: &[u8],
+    choice: SavedChoice,
+) -> Result<SavedRun, ToolFault>
+    ensures { IfOk result (IsSavedRun text.now file.now choice) }
+{
+    let script = Arc::new(alloc, read(alloc, text)?)?;
+    match saved_schedule(alloc, file, text, choice)? {
+        SavedSchedule::Steps(schedule) => {
+            let run = completed_run(alloc, script, &schedule)?;
+            Ok(SavedRun::Followed(run))
+        }
+        found => Ok(SavedRun::NotThere(found)),
     }
 }
 

@@ -68,6 +68,20 @@ pub fn begun(path: &[Move], task: TaskId) -> u32 {
     turns
 }
 
+/// Whether some turn of these does not end right after it begins.
+pub fn has_parted_turn(path: &[Move]) -> bool {
+    let mut begun: Option<TaskId> = None;
+    for step in path {
+        match (begun, *step) {
+            (Some(task), Move::Run(ended)) if task == ended => begun = None,
+            (Some(_), _) | (None, Move::Run(_)) => return true,
+            (None, Move::Begin(task)) => begun = Some(task),
+            (None, Move::Add) => {}
+        }
+    }
+    begun.is_some()
+}
+
 // Why a word can't stand after these steps, as far as its number tells.
 fn number_fault(path: &[Move], word: StepWord) -> Option<WordFault> {
     let turns = begun(path, TaskId(word.turn.task));

@@ -3,18 +3,40 @@
 use crate::explore::{ExploreFault, Rerun, SearchAnswer};
 use crate::output::{tell, write_out};
 use expectations::{Answer, Misread};
+use std::fs;
 use swift_report::write_all;
 use swift_tool::ToolFault;
 use swift_workers::RunFault;
 
 /// Writes what a search says. The status to end with: that of the answer, 2 or 3 for an expectation that is none, of the command line or
 /// of a comment, and 5 where no memory was left.
-pub fn say_explored(rt: &HostRuntime, found: Result<SearchAnswer, ExploreFault>) -> u8 {
+///
+/// What is to be kept goes into the file first, which is made, or cut to nothing where it is there; 4 where that fails.
+pub fn say_explored(
+    rt: &HostRuntime,
+    save: Option<&str>,
+    found: Result<SearchAnswer, ExploreFault>,
+) -> u8 {
     match found {
-        Ok(SearchAnswer { answer, text }) => match write_all(&mut rt.stdout(), &text) {
-            Ok(()) => answer.status(),
-            Err(device) => tell(rt, Err(ToolFault::from(device))),
-        },
+        Ok(
+            SearchAnswer {
+                answer,
+                text,
+                saved,
+            },
+        ) => {
+            if let (Some(path), Some(json)) = (save, saved) {
+                if let Err(error) = fs::write(rt, path, &json) {
+                    let _ = eprintln!(rt; "nuchapay: {path}: {error}");
+                    return 4;
+                }
+            }
+            match write_all(&mut rt.stdout(), &text) {
+                Ok(()) => answer.status(),
+                Err(device) => tell(rt, Err(ToolFault::from(device))),
+            }
+        }
+        Err(ExploreFault::Run(fault)) => tell(rt, Err(ToolFault::Run(fault))),
         Err(ExploreFault::Script(fault)) => tell(rt, Err(ToolFault::from(fault))),
         Err(ExploreFault::Misread(fault)) => say_misread(rt, fault),
         Err(ExploreFault::Memory) => {

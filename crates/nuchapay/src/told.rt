@@ -79,6 +79,9 @@ pub fn no_run_text(
         NoRun::Step(number, fault) => {
             let cause = step_cause(alloc, fault)?;
             let word = word_at(words, number);
+            if word.is_empty() {
+                return format!(in alloc; "step {number} of the schedule cannot be done: {cause}");
+            }
             format!(in alloc; "step {number} of the schedule, {word}, cannot be done: {cause}")
         }
         NoRun::OtherText => String::from_str(

@@ -21,6 +21,8 @@ mod layout;
 mod location;
 // The mark under a line of a text.
 mod mark;
+// The words of `explore`.
+mod explore_words;
 // What is explained of a refusal or a fault.
 mod page;
 // The page of each topic.
@@ -57,7 +59,10 @@ pub use laid::pretty;
 pub use page::{Page, ScriptPair, explain};
 pub use pages::page_of;
 pub use printed::print;
-pub use requests::{PictureFormat, Question, Request, RunForm, ScheduleChoice, Source};
+pub use requests::{
+    PictureFormat, Question, Request, RunForm, SavedPlace, SavedWord, ScheduleChoice, SearchFormat,
+    Source,
+};
 pub use topic::{RunRefusal, Topic, TurnFault, find_topic};
 pub use turn_names::{TurnName, TurnWord, turn_name, turn_word};
 pub use words::request;

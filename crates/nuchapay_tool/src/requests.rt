@@ -23,6 +23,35 @@ pub enum PictureFormat {
     Trace,
 }
 
+/// How what a search has found is written (our own).
+#[derive(Clone, Copy, PartialEq, Eq)]
+pub enum SearchFormat {
+    /// As text, for people.
+    Text,
+    /// As JSON, for programs.
+    Json,
+    /// As a page of HTML, for a browser.
+    Html,
+}
+
+/// Which schedule of a file that `explore --save` has written (our own).
+#[derive(Clone, Copy)]
+pub enum SavedWord {
+    /// That of the outcome with this number, from 1.
+    Outcome(u32),
+    /// The one to a turn that is undone by an invariant.
+    Broken,
+}
+
+/// A schedule that stands in a file (our own).
+#[derive(Clone, Copy)]
+pub struct SavedPlace<'a> {
+    /// The file's path.
+    pub path: &'a str,
+    /// Which of its schedules.
+    pub word: SavedWord,
+}
+
 /// By which schedule a run is made (our own).
 #[derive(Clone, Copy)]
 pub enum ScheduleChoice<'a> {
@@ -47,6 +76,8 @@ pub enum RunForm<'a> {
     Why(Option<TurnWord<'a>>),
     /// The run as a picture in this format.
     Picture(PictureFormat),
+    /// The line of its schedule, and nothing else.
+    Line,
 }
 
 /// What a command line asks for (our own).
@@ -79,15 +110,18 @@ pub enum Question<'a> {
     Show(u32, PictureFormat),
     /// This of its run by a schedule.
     Scheduled(ScheduleChoice<'a>, RunForm<'a>),
+    /// This of its run by a schedule that stands in a file.
+    Saved(SavedPlace<'a>, RunForm<'a>),
     /// Its Swift program.
     Swift,
     /// The outcomes of its histories, of which at most so many are kept; and whether each of them is as these expectations say, and perhaps
-    /// without a root that ends with a fault; as JSON where this says so.
+    /// without a root that ends with a fault; in this format. As JSON it is kept in a file too, where one is named.
     Explore {
         limit: u32,
         expected: Vec<&'a str>,
         without_fault: bool,
-        json: bool,
+        format: SearchFormat,
+        save: Option<&'a str>,
     },
     /// The schedule to a turn that is undone by an invariant, by a search that keeps at most so many histories.
     ExploreBroken(u32),

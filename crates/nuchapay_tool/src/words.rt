@@ -5,8 +5,9 @@ ghost use Rattle.swift_types.specs.declared.limits.TheConstants.{WORKERS};
 ghost use Rattle.nuchapay_tool.specs.Requests.{HasCrew};
 ghost use Rattle.nuchapay_tool.specs.declared.requests.Source.TheVariants.{File, Stdin};
 
-use crate::requests::{PictureFormat, Question, Request, RunForm, ScheduleChoice, Source};
-use crate::schedule_words::chosen_schedule;
+use crate::explore_words::{explore_command, explore_request};
+use crate::requests::{PictureFormat, Question, Request, RunForm, Source};
+use crate::schedule_words::{ScheduleWords, chosen_schedule, question_of};
 use crate::topic::find_topic;
 use crate::turn_names::{TurnWord, turn_word};
 use clap::error::ErrorKind;
@@ -25,20 +26,20 @@ fn operand<'a>(alloc: Global, name: &'a str, value: &'a str, help: &'a str) -> A
         .action(ArgAction::Set)
 }
 
-// A word behind `--NAME`.
-fn option<'a>(alloc: Global, name: &'a str, value: &'a str, help: &'a str) -> Arg<'a> {
+/// A word behind `--NAME`.
+pub(crate) fn option<'a>(alloc: Global, name: &'a str, value: &'a str, help: &'a str) -> Arg<'a> {
     operand(alloc, name, value, help).long(name)
 }
 
-// `--NAME` by itself.
-fn flag<'a>(alloc: Global, name: &'a str, help: &'a str) -> Arg<'a> {
+/// `--NAME` by itself.
+pub(crate) fn flag<'a>(alloc: Global, name: &'a str, help: &'a str) -> Arg<'a> {
     Arg::new(alloc, name)
         .long(name)
         .help(help)
         .action(ArgAction::SetTrue)
 }
 
-fn file<'a>(alloc: Global) -> Arg<'a> {
+pub(crate) fn file<'a>(alloc: Global) -> Arg<'a> {
     operand(alloc, "file", "FILE", FILE)
 }
 
@@ -82,23 +83,35 @@ fn with_schedules<'a>(
     let words = with_arg(words, option(alloc, "schedule", "TURNS", schedule));
     let broken = "Takes a schedule to a turn that an invariant undoes, as explore finds it";
     let words = with_arg(words, flag(alloc, "broken", broken));
-    with_arg(words, limit(alloc))
+    let words = with_arg(words, limit(alloc));
+    with_arg(words, from(alloc))
 }
 
-// How many states a search keeps.
-fn limit<'a>(alloc: Global) -> Arg<'a> {
+/// A file of schedules.
+pub(crate) fn from<'a>(alloc: Global) -> Arg<'a> {
+    let help = "Takes the schedule from FILE, which explore --save has written, without a search";
+    option(alloc, "from", "FILE", help)
+}
+
+/// How many states a search keeps.
+pub(crate) fn limit<'a>(alloc: Global) -> Arg<'a> {
     let help = "Keeps at most N states, from 1 to 10000000";
     number(alloc, "limit", "N", help).default_value("100000")
 }
 
-// A command with one example.
-fn named<'a>(alloc: Global, name: &'a str, about: &'a str, example: &'a str) -> Command<'a> {
+/// A command with one example.
+pub(crate) fn named<'a>(
+    alloc: Global,
+    name: &'a str,
+    about: &'a str,
+    example: &'a str,
+) -> Command<'a> {
     Command::new(alloc, name).about(about).after_help(example)
 }
 
-// The words of a command, with one argument more. In a function of its own, so that this is the one place where something is let go when
-// the words so far were refused. For the same reason arguments are made where they are handed on.
-fn with_arg<'a>(
+/// The words of a command, with one argument more. In a function of its own, so that this is the one place where something is let go when
+/// the words so far were refused. For the same reason arguments are made where they are handed on.
+pub(crate) fn with_arg<'a>(
     words: Result<Command<'a>, AllocError>,
     more: Arg<'a>,
 ) -> Result<Command<'a>, AllocError> {
@@ -209,33 +222,9 @@ fn swift_command<'a>(alloc: Global) -> Result<Command<'a>, AllocError> {
     with_arg(Ok(words), file(alloc))
 }
 
-// A number from 1 to 10,000,000.
-fn number<'a>(alloc: Global, name: &'a str, value: &'a str, help: &'a str) -> Arg<'a> {
+/// A number from 1 to 10,000,000.
+pub(crate) fn number<'a>(alloc: Global, name: &'a str, value: &'a str, help: &'a str) -> Arg<'a> {
     option(alloc, name, value, help).value_parser(value_parser!(u32).range(1..10_000_001))
-}
-
-fn explore_command<'a>(alloc: Global) -> Result<Command<'a>, AllocError> {
-    let words = named(
-        alloc,
-        "explore",
-        "Lists outcomes that some order of turns leads to, each with its schedule, and says whether each is as expected",
-        "Example: nuchapay explore --expect 'Account.balance == 0' examples/account.actors",
-    );
-    let words = with_arg(Ok(words), file(alloc));
-    let words = with_arg(words, limit(alloc));
-    let broken = "Prints the schedule to a turn that an invariant undoes, and nothing else";
-    let words = with_arg(words, flag(alloc, "broken", broken));
-    let schedule = "Runs the schedule of outcome K again, and prints the whole report";
-    let words = with_arg(words, number(alloc, "schedule", "K", schedule));
-    let expect = "Fails where EXPR, over Actor.field and the values of roots, is 0 in an outcome";
-    let words = with_arg(
-        words,
-        option(alloc, "expect", "EXPR", expect).action(ArgAction::Append),
-    );
-    let no_fault = "Fails where a root ends with a fault in an outcome";
-    let words = with_arg(words, flag(alloc, "no-fault", no_fault));
-    let format = "Prints what was found as text, or as JSON";
-    with_arg(words, text_or_json(alloc, format))
 }
 
 // The words that the program takes, with one command more, as `with_arg`.
@@ -266,8 +255,8 @@ fn command<'a>(alloc: Global) -> Result<Command<'a>, AllocError> {
     with_command(words, explore_command(alloc))
 }
 
-// The file that was named.
-fn source<'a>(matches: &ArgMatches<'a>) -> Source<'a> {
+/// The file that was named.
+pub(crate) fn source<'a>(matches: &ArgMatches<'a>) -> Source<'a> {
     match matches.get_str("file") {
         Some(path) => source_of(path),
         None => Source::Stdin,
@@ -286,7 +275,7 @@ fn source_of(path: &str) -> Source<'_>
     }
 }
 
-// Words that were read, and that ask for nothing that there is.
+/// Words that were read, and that ask for nothing that there is.
 #[derive(Clone, Copy)]
 pub(crate) struct Refused {
     pub(crate) kind: ErrorKind,
@@ -332,12 +321,12 @@ fn report_form<'a>(matches: &ArgMatches<'a>) -> Result<RunForm<'a>, Refused> {
 // A run by a schedule.
 fn scheduled<'a>(
     matches: &ArgMatches<'a>,
-    schedule: ScheduleChoice<'a>,
+    schedule: ScheduleWords<'a>,
     form: RunForm<'a>,
 ) -> Request<'a>
     ensures { HasCrew result }
 {
-    Request::Ask(source(matches), Question::Scheduled(schedule, form))
+    Request::Ask(source(matches), question_of(schedule, form))
 }
 
 // Whether a report is to be JSON.
@@ -376,7 +365,7 @@ fn why_request<'a>(matches: &ArgMatches<'a>) -> Result<Request<'a>, Refused>
 {
     let name = named_turn(matches)?;
     if let Some(schedule) = chosen_schedule(matches)? {
-        if name.is_some() || matches!(schedule, ScheduleChoice::Broken { .. }) {
+        if name.is_some() || schedule.is_broken() {
             return Ok(scheduled(matches, schedule, RunForm::Why(name)));
         }
     }
@@ -465,84 +454,6 @@ fn requested<'a>(alloc: Global, matches: &ArgMatches<'a>) -> Result<Request<'a>,
     }
 }
 
-// What is expected of outcomes.
-fn expected<'a>(alloc: Global, found: &ArgMatches<'a>) -> Result<Vec<&'a str>, AllocError> {
-    match found.get_strs("expect") {
-        Some(words) => Vec::from_slice(alloc, words),
-        None => Ok(Vec::new(alloc)),
-    }
-}
-
-// The search that is asked for. What is expected is asked of all outcomes, so there is no place for it beside one schedule.
-fn explore_request<'a>(alloc: Global, found: &ArgMatches<'a>) -> Result<Request<'a>, Refused>
-    ensures { IfOk result HasCrew }
-{
-    let outcome = found.get_one::<u32>("schedule");
-    let broken = found.get_flag("broken");
-    if outcome.is_none() && !broken {
-        return expecting_request(alloc, found);
-    }
-    if found.get_flag("no-fault") || found.get_strs("expect").is_some() {
-        return Err(Refused {
-            kind: ErrorKind::ArgumentConflict,
-            said: "--expect and --no-fault are asked of all outcomes: they have no place beside --broken or --schedule",
-        });
-    }
-    if is_json(found) {
-        return Err(Refused {
-            kind: ErrorKind::ArgumentConflict,
-            said: "--format json is for all outcomes, and not for --broken or --schedule",
-        });
-    }
-    schedule_request(found, outcome, broken)
-}
-
-// The schedule that is asked for, of which there may be one.
-fn schedule_request<'a>(
-    found: &ArgMatches<'a>,
-    outcome: Option<u32>,
-    broken: bool,
-) -> Result<Request<'a>, Refused>
-    ensures { IfOk result HasCrew }
-{
-    let limit = searched(found);
-    let question = match outcome {
-        Some(outcome) if !broken => Question::Rerun { limit, outcome },
-        None => Question::ExploreBroken(limit),
-        Some(_) => {
-            return Err(Refused {
-                kind: ErrorKind::ArgumentConflict,
-                said: "--broken and --schedule each name a schedule: give one of them",
-            });
-        }
-    };
-    Ok(Request::Ask(source(found), question))
-}
-
-// The outcomes that are asked for, and what is expected of them.
-fn expecting_request<'a>(alloc: Global, found: &ArgMatches<'a>) -> Result<Request<'a>, Refused>
-    ensures { IfOk result HasCrew }
-{
-    let Ok(expected) = expected(alloc, found) else {
-        return Err(Refused {
-            kind: ErrorKind::Io,
-            said: "no memory for the words",
-        });
-    };
-    let question = Question::Explore {
-        limit: searched(found),
-        expected,
-        without_fault: found.get_flag("no-fault"),
-        json: is_json(found),
-    };
-    Ok(Request::Ask(source(found), question))
-}
-
-// How many states a search keeps.
-fn searched(found: &ArgMatches<'_>) -> u32 {
-    found.get_one::<u32>("limit").unwrap_or(100_000)
-}
-
 // Whether the second of two words is what an argument says, and not the first, which is meant where it is missing; none where it is
 // another word.
 fn is_second(matches: &ArgMatches<'_>, argument: &str, first: &str, second: &str) -> Option<bool> {
@@ -558,12 +469,13 @@ fn is_second(matches: &ArgMatches<'_>, argument: &str, first: &str, second: &str
 /// - `run`, with a file, `--workers N` from 1 to 8 and 1 where it is not given, `--quiet`, `--format` with `text` or `json`, `text` where it
 ///   is not given, and `--values`, for which there is no place where `--quiet` is given, and which is refused beside `json`;
 /// - `why`, with a file, the name of a turn, and `--workers N`; the turn may be missing beside `--broken`;
-/// - `run`, `why` and `show` with one of `--outcome K`, `--schedule TURNS` and `--broken`, and with `--limit N` as for `explore`, beside the
-///   first and the last of these; `--workers` is refused beside them;
+/// - `run`, `why` and `show` with one of `--outcome K`, `--schedule TURNS` and `--broken`, and beside the first and the last of these with
+///   `--limit N` as for `explore`, or with `--from FILE`; `--workers` is refused beside them;
 /// - `swift`, with a file;
 /// - `explore`, with a file, `--limit N` from 1 to 10,000,000, 100,000 where it is not given, and either one of `--schedule K`, from 1 to
-///   10,000,000, and `--broken`, or `--expect EXPR`, also more than once, `--no-fault`, and `--format` with `text` or `json`, `text` where
-///   it is not given;
+///   10,000,000, and `--broken`, or `--expect EXPR`, also more than once, `--no-fault`, `--save FILE`,
+///   and `--format` with `text`, `json` or `html`, `text` where it is not given; with `--from FILE` beside `--schedule` and `--broken`, in
+///   place of `--limit`;
 /// - `show`, with a file, `--workers N`, and `--format` with `svg`, `html` or `trace`, `svg` where it is not given;
 /// - `check`, with a file, `--color always` or `never`, which is meant where it is not given, and `--format` with `text` or `json`, `text`
 ///   where it is not given;
