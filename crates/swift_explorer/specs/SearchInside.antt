@@ -13,7 +13,6 @@ use Rattle.swift_reordering.specs.Away.{job_looks_away}
 use Rattle.swift_reordering.specs.FusedSteps.{HasRoom}
 use Rattle.swift_explorer.specs.declared.moves.Move.{Move}
 use Rattle.swift_explorer.specs.declared.moves.Move.TheVariants as step
-use Rattle.swift_explorer.specs.declared.outcome.End.{End}
 use Rattle.swift_explorer.specs.declared.outcome.RunOutcome.{RunOutcome}
 use Rattle.swift_explorer.specs.declared.history.SearchedHistory.{SearchedHistory}
 use Rattle.swift_explorer.specs.declared.history.Followed.{Followed}
