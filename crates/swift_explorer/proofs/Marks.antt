@@ -1,10 +1,10 @@
 -- An instruction that has a mark is silent up to each end of the turn.
-use Rattle.std.proofs.Common.{◌≡◌, ◌⊎◌, ℕ, List, [], ◌∷◌, refl, sym, ◌∙◌, ap, subst, Bool, true, false, inl, inr}
+use Rattle.std.proofs.Common.{◌≡◌, ◌⊎◌, ℕ, List, refl, sym, ◌∙◌, ap, Bool, true, false, inl, inr}
 use Rattle.std.specs.Prelude.{Option, Some, None, ◌&&◌, ◌||◌, slice_get}
 use Rattle.std.proofs.lemmas.Bool.{false≢true}
 use Rattle.script_code.specs.Tree.{Code, Operation, Term, followed}
 use Rattle.script_code.specs.Tree as code
-use Rattle.script_code.specs.Instructions.{NextAction, ends, does, tests, first, first_by, first_if, FollowsCode}
+use Rattle.script_code.specs.Instructions.{NextAction, does, tests, first, first_by, first_if, FollowsCode}
 use Rattle.script_code.specs.declared.instruction.Act.{Act}
 use Rattle.script_code.specs.declared.instruction.Act.TheVariants as acts
 use Rattle.script_code.specs.declared.instruction.Instruction.{Instruction}
@@ -97,15 +97,17 @@ module _ (lines : List Instruction) (body : Code) (at : ℕ → Code) (follows :
   line_does (Some line) d rest silent is =
       let n = next_is at line.act line.next line.other in
       let parts = both (line_is_own line) _ (silent line refl) in
-      let own : operation_is_silent d ≡ true = ap action_is_own (sym is) ∙ n.own ∙ parts.0 in
-      (own, elim (or_else (turn_ends line) (followers_marked (here line) (is_marked marks line.next) (is_marked marks line.other)) parts.1) [
-        | inl stops ↦ inl (ap action_ends (sym is) ∙ n.stops ∙ stops)
-        | inr more ↦ inr (
-          line.next,
-          ap (λ (x : NextAction). followers_marked x (is_marked marks line.next) (is_marked marks line.other)) (sym is) ∙ n.marks (is_marked marks line.next) (is_marked marks line.other) ∙ more,
-          sym n.rest ∙ ap (λ (x : NextAction). rest_of x (at line.next)) is,
-        )
-      ])
+      let own : operation_is_silent d ≡ true = ap action_is_own (sym is) ∙ n.own ∙ parts.0 in (
+        own,
+        elim (or_else (turn_ends line) (followers_marked (here line) (is_marked marks line.next) (is_marked marks line.other)) parts.1) [
+          | inl stops ↦ inl (ap action_ends (sym is) ∙ n.stops ∙ stops)
+          | inr more ↦ inr (
+            line.next,
+            ap (λ (x : NextAction). followers_marked x (is_marked marks line.next) (is_marked marks line.other)) (sym is) ∙ n.marks (is_marked marks line.next) (is_marked marks line.other) ∙ more,
+            sym n.rest ∙ ap (λ (x : NextAction). rest_of x (at line.next)) is,
+          )
+        ],
+      )
 
   line_tests : (o : Option Instruction) (t : Term) (held failed : Code) → ((line : Instruction) → o ≡ Some line → line_is_silent marks line ≡ true) → first_if at o ≡ tests t held failed → AfterTests t held failed
   line_tests None t held failed silent is = absurd (cc is)

@@ -18,10 +18,8 @@ fn term_looks_away(formula: &Formula) -> bool
         Formula::Priority | Formula::Cancelled => false,
         Formula::Negate(operand) | Formula::Not(operand) => term_looks_away(operand),
         Formula::Binary(_, left, right) => term_looks_away(left) && term_looks_away(right),
-        Formula::Number(_)
-        | Formula::Variable(_)
-        | Formula::Field(_)
-        | Formula::Local(_, _) => true,
+        Formula::Number(_) | Formula::Variable(_) | Formula::Field(_) | Formula::Local(_, _) =>
+            true,
     }
 }
 

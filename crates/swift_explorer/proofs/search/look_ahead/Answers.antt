@@ -1,4 +1,4 @@
-use Rattle.std.proofs.Common.{rules, ◌≡◌, List, sym, subst, ap}
+use Rattle.std.proofs.Common.{rules, ◌≡◌, sym, subst, ap}
 use Rattle.std.specs.Arc.{arc_value}
 use Rattle.swift_script.specs.Scripts.{ScriptView}
 use Rattle.swift_explorer.specs.declared.search.Ahead.{Ahead}
