@@ -70,7 +70,7 @@ start_json text answer = answer_word answer ++ script_json text
 
 -- that the search came to its end, or why there may be more: the limit was met, or not every history was followed
 abbrev pub end_json : FoundOutcomes → List ℕ
-end_json f = if f.is_complete then codes ",\n\"search\":\"complete\"" else (if f.met_limit then codes ",\n\"search\":\"limit\"" else codes ",\n\"search\":\"partial\"")
+end_json f = if f.is_complete then codes ",\n\"search\":\"complete\"" else (if f.met_limit then codes ",\n\"search\":\"limit\"" else (if f.ran_short then codes ",\n\"search\":\"room\"" else codes ",\n\"search\":\"partial\""))
 
 -- how far a search came: whether to its end, how many histories were kept, and the schedule to a turn that is undone by `invariant`
 abbrev pub search_json : FoundOutcomes → List ℕ

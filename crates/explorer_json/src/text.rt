@@ -96,6 +96,8 @@ fn end_of(found: &FoundOutcomes) -> &'static [u8]
         b",\n\"search\":\"complete\""
     } else if found.met_limit {
         b",\n\"search\":\"limit\""
+    } else if found.ran_short {
+        b",\n\"search\":\"room\""
     } else {
         b",\n\"search\":\"partial\""
     }

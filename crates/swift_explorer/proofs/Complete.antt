@@ -6,6 +6,7 @@ use Rattle.std.proofs.lemmas.Bool.{false≢true}
 use Rattle.std.proofs.lemmas.Option.{slice_get_within}
 use Rattle.swift_types.specs.declared.env.Env.{Env}
 use Rattle.swift_script.specs.Scripts.{ScriptView}
+use Rattle.swift_interpreter.specs.Turn.{ExitView}
 use Rattle.swift_journal.specs.Checkpoints.{CheckpointView, FoldedView}
 use Rattle.swift_journal.specs.Records.{RecordView}
 use Rattle.swift_history.specs.Histories.{AllStand, Block, ReportView, added, begun, folded, ran}
@@ -13,14 +14,18 @@ use Rattle.swift_laws.specs.Laws.{ActorsHaveExecutors}
 use Rattle.swift_course.specs.Course.{standing, start_of, starts}
 use Rattle.swift_course.proofs.Starts.{many_starts}
 use Rattle.swift_digest.specs.Explored.{FoldsNone, IsOutcome, StartsFresh, state_of}
-use Rattle.swift_digest.specs.Futures.{LeadAlike}
+use Rattle.swift_digest.specs.Futures.{AreLike}
 use Rattle.swift_history.specs.Orderly.{IsOrderly, IsOrderlyLegal}
 use Rattle.swift_digest.proofs.Outcomes.{Made, NoneFolded, made, outcome_too}
 use Rattle.swift_digest.proofs.SameStands.{all_push}
 use Rattle.swift_reordering.specs.Away.{job_looks_away}
 use Rattle.swift_reordering.specs.FusedSteps.{HasRoom, MayStep}
-use Rattle.swift_reordering.proofs.Closed.{HasAll, first_one, has_all, outcome_near}
-use Rattle.swift_reordering.proofs.Priorities.{cons_cases, none_there}
+use Rattle.swift_reordering.specs.RunAhead.{OneTurn, after_turns, AllRunSilently, LeadAsOne}
+use Rattle.swift_reordering.proofs.AheadWalk.{HasAhead, HasAll, StepsAhead, all_done, first_one, go_run, has_all}
+use Rattle.swift_reordering.proofs.Closed.{outcome_near}
+use Rattle.swift_reordering.proofs.Priorities.{cons_cases, cons_here, none_there}
+use Rattle.swift_reordering.proofs.RunAhead.{AllTried}
+use Rattle.swift_reordering.proofs.SilentEnds.{finished}
 use Rattle.swift_reordering.proofs.Walks.{course_none}
 use Rattle.swift_explorer.specs.declared.moves.Move.{Move}
 use Rattle.swift_explorer.specs.declared.moves.Move.TheVariants as step
@@ -28,6 +33,7 @@ use Rattle.swift_explorer.specs.declared.outcome.RunOutcome.{RunOutcome}
 use Rattle.swift_explorer.specs.declared.history.SearchedHistory.{SearchedHistory}
 use Rattle.swift_explorer.specs.declared.search.Search.{Search}
 use Rattle.swift_explorer.specs.Outcomes.{HasEachOutcome, NeverBreaks, Tells}
+use Rattle.swift_explorer.specs.AheadInside.{AllWhole, StartsHold}
 use Rattle.swift_explorer.specs.Steps.{AreSteps, BreaksInvariant, IsBroken}
 use Rattle.swift_explorer.specs.HistoryInside.{IsHistory, IsPath}
 use Rattle.swift_explorer.specs.SearchInside.{HasGoneOn, HasLike, IsExpanded, IsExpandedAt, IsSound, Keeps, LeadsTo, MayFollow, TurnWasTried, WasTried, paths_of}
@@ -36,7 +42,6 @@ use Rattle.swift_explorer.proofs.KnownEnds.{same_list}
 use Rattle.swift_explorer.proofs.Nodes.{paths_length}
 use Rattle.swift_explorer.proofs.Orderly.{allowed_push}
 use Rattle.swift_explorer.proofs.Paths.{steps_push}
-use Rattle.swift_explorer.proofs.Trying.{like_too, other_block}
 
 -- fresh checkpoints are those that a run starts with
 fresh_starts : (script : ScriptView) (cps : List CheckpointView) → StartsFresh script cps → cps ≡ starts script
@@ -75,11 +80,6 @@ record IsNode (script : ScriptView) (x : Search) (h : List Block) : Type 0 where
   there : slice_get (paths_of x.nodes.items) place ≡ Some path
   leads : LeadsTo script path h
 
--- a step was tried: it leads alike to the history of a node, and where no turn was found that breaks an invariant, none of its turns does
-record WasStepped (script : ScriptView) (x : Search) (h step : List Block) : Type 0 where
-  like : HasLike script (paths_of x.nodes.items) (h ++ step)
-  whole : x.broken ≡ None → (e : ℕ) (r : RecordView) → Contains step (ran e r) → BreaksInvariant r.exit → ⊥
-
 one_turn : (b : Block) (e : ℕ) (r : RecordView) → Contains (b ∷ []) (ran e r) → b ≡ ran e r
 one_turn b e r has = elim (cons_cases b [] (ran e r) has) [ inl here ↦ here | inr more ↦ absurd (none_there (ran e r) more) ]
 
@@ -89,9 +89,16 @@ turn_after t n env b e r has = elim (cons_cases (begun t n env) (b ∷ []) (ran 
 node_of : (script : ScriptView) (x : Search) (bs : List Block) (like : HasLike script (paths_of x.nodes.items) bs) → IsNode script x like.others
 node_of script x bs like = record { place = like.place; path = like.path; there = like.there; leads = like.leads }
 
-module _ (script : ScriptView) (x : Search) (first : HasLike script (paths_of x.nodes.items) []) (each : (place : ℕ) → place < length x.nodes.items → IsExpandedAt script x place) (on : ActorsHaveExecutors script) where
+-- a turn was tried that ends so: where no turn was found that breaks an invariant, it breaks none
+abbrev Ended : Search → ℕ → ExitView → Type 0
+Ended x e exit = x.broken ≡ None → BreaksInvariant exit → ⊥
+
+module _ (script : ScriptView) (x : Search) (hold : StartsHold script) (first : HasLike script (paths_of x.nodes.items) []) (each : (place : ℕ) → place < length x.nodes.items → IsExpandedAt script x place) (on : ActorsHaveExecutors script) where
   abbrev cps : List CheckpointView
   cps = starts script
+
+  abbrev Node : List Block → Type 0
+  Node h = IsNode script x h
 
   expanded_at : (h : List Block) (k : IsNode script x h) → (path : List Move) × LeadsTo script path h × IsExpanded script x path
   expanded_at h k =
@@ -100,40 +107,81 @@ module _ (script : ScriptView) (x : Search) (first : HasLike script (paths_of x.
       let same : k.path ≡ is.0 = ap (λ (o : Option (List Move)). unwrap_or o k.path) (sym k.there ∙ is.1) in
       (is.0, subst (λ (path : List Move). LeadsTo script path h) same k.leads, is.2)
 
-  stepped_by : (h : List Block) (b : Block) → WasTried script x h b → WasStepped script x h (b ∷ [])
-  stepped_by h b was = record { like = was.kept; whole = λ none e r has breaks. was.whole none (subst IsBroken (sym (one_turn b e r has)) breaks) }
+  stand_of : (h : List Block) → IsNode script x h → AllStand script cps [] h
+  stand_of h k = k.leads.stand
+
+  room_of : (h : List Block) → IsNode script x h → HasRoom script h
+  room_of h k = (let at = expanded_at h k in at.2.room h at.1)
+
+  abbrev Ahead : List Block → List Block → Type 0
+  Ahead h step = StepsAhead script on cps hold Node (Ended x) stand_of room_of h step
+
+  all_ended : (xs : List OneTurn) → AllWhole xs → AllTried script cps hold (Ended x) xs
+  all_ended [] all = tt
+  all_ended (y ∷ ys) all = (λ none breaks. all.0 breaks, all_ended ys all.1)
+
+  stepped_by : (h : List Block) (b : Block) → WasTried script x h b → Ahead h (b ∷ [])
+  stepped_by h b was =
+      let ahead = was.kept in
+      record {
+        turns = ahead.turns;
+        run = ahead.run;
+        kept = ahead.like.others;
+        is_kept = node_of script x (after_turns (h ++ b ∷ []) ahead.turns) ahead.like;
+        lead = (ahead.like.alike, ahead.like.back);
+        ends = λ e r has none breaks. was.whole none (subst IsBroken (sym (one_turn b e r has)) breaks);
+        also = all_ended ahead.turns ahead.whole;
+      }
 
   -- a block that begins no turn that looks away
-  one_block : (h : List Block) (b : Block) (k : IsNode script x h) → MayFollow script h b → ((path : List Move) → TurnWasTried script x path h b → ⊥) → WasStepped script x h (b ∷ [])
+  one_block : (h : List Block) (b : Block) (k : IsNode script x h) → MayFollow script h b → ((path : List Move) → TurnWasTried script x path h b → ⊥) → Ahead h (b ∷ [])
   one_block h b k may never =
       let at = expanded_at h k in
       elim (at.2.tried h b at.1 may) [ inl was ↦ stepped_by h b was | inr turn ↦ absurd (never at.0 turn) ]
 
+  run_block : (h : List Block) (e : ℕ) (r : RecordView) (k : IsNode script x h) → MayStep script cps h (ran e r ∷ []) → Ahead h (ran e r ∷ [])
+  run_block h e r k may = one_block h (ran e r) k (record { unfolded = tt; stands = may.stands.0; orderly = may.orderly.0 }) (λ path turn. turn.does)
+
+  run_like : (e : ℕ) (r : RecordView) (k rest : List Block) → IsNode script x k → AreLike script (ran e r ∷ []) rest → MayStep script cps k rest → Ahead k rest
+  run_like e r k [] node like may = absurd like
+  run_like e r k (c ∷ d ∷ rest) node like may = absurd like.1
+  run_like e r k (c ∷ []) node like may =
+      let q : RecordView = record r { frame = like.0.0 } in
+      let is : c ∷ [] ≡ ran e q ∷ [] = ap (λ (b : Block). b ∷ []) like.0.2 in
+      subst (Ahead k) (sym is) (run_block k e q node (subst (MayStep script cps k) is may))
+
   -- a turn that looks away begins and runs
 
   abbrev Both : List Block → ℕ → ℕ → Env → ℕ → RecordView → Type 0
-  Both h t n env e r = WasStepped script x h (begun t n env ∷ ran e r ∷ [])
+  Both h t n env e r = Ahead h (begun t n env ∷ ran e r ∷ [])
 
-  both_by : (h : List Block) (t n : ℕ) (env : Env) (e : ℕ) (r : RecordView) → WasTried script x (h ++ begun t n env ∷ []) (ran e r) → Both h t n env e r
-  both_by h t n env e r was = record {
-    like = subst (HasLike script (paths_of x.nodes.items)) (append_assoc h (begun t n env ∷ []) (ran e r ∷ [])) was.kept;
-    whole = λ none k q has breaks. was.whole none (subst IsBroken (sym (turn_after t n env (ran e r) k q has)) breaks);
-  }
+  joined : (h : List Block) (t n : ℕ) (env : Env) (e : ℕ) (r : RecordView) → (h ++ begun t n env ∷ []) ++ ran e r ∷ [] ≡ h ++ begun t n env ∷ ran e r ∷ []
+  joined h t n env e r = append_assoc h (begun t n env ∷ []) (ran e r ∷ [])
 
   -- it was tried as it begins, and as it runs after the history that was kept then
   one_by_one : (h : List Block) (t n : ℕ) (env : Env) (e : ℕ) (r : RecordView) → AllStand script cps [] (h ++ begun t n env ∷ []) → MayFollow script (h ++ begun t n env ∷ []) (ran e r) → WasTried script x h (begun t n env) → Both h t n env e r
   one_by_one h t n env e r stand may was =
-      let before = h ++ begun t n env ∷ [] in
-      let like = was.kept in
-      let o = other_block script before like.others (ran e r) stand like.leads.stand like.alike may in
-      let at = expanded_at like.others (node_of script x before like) in
-      elim (at.2.tried like.others o.block at.1 o.may) [
-        | inl then_was ↦ both_by h t n env e r (record {
-          kept = like_too script (paths_of x.nodes.items) (before ++ ran e r ∷ []) (like.others ++ o.block ∷ []) o.alike then_was.kept;
-          whole = λ none breaks. then_was.whole none (o.breaks breaks);
-        })
-        | inr turn ↦ absurd (o.back (step.Begin turn.task) turn.does)
-      ]
+      let front : List Block = h ++ begun t n env ∷ [] in
+      let ahead = was.kept in
+      let begin : HasAhead script on cps hold Node (Ended x) stand_of room_of front = record {
+        turns = ahead.turns;
+        run = ahead.run;
+        tried = all_ended ahead.turns ahead.whole;
+        kept = ahead.like.others;
+        is_kept = node_of script x (after_turns front ahead.turns) ahead.like;
+        lead = (ahead.like.alike, ahead.like.back);
+      } in
+      let next = go_run script on cps hold Node (Ended x) stand_of room_of front e r (run_like e r) stand begin (may.stands, tt) (may.orderly, tt) (all_push script cps front [] (ran e r) stand may.stands) in
+      let is = joined h t n env e r in
+      record {
+        turns = next.one.turns;
+        run = subst (λ (bs : List Block). AllRunSilently script cps bs next.one.turns) is next.one.run;
+        kept = next.one.kept;
+        is_kept = next.one.is_kept;
+        lead = subst (λ (bs : List Block). LeadAsOne script cps (after_turns bs next.one.turns) next.one.kept) is next.one.lead;
+        ends = λ k q has. next.ends k q (cons_here (ran e r) [] (ran k q) (turn_after t n env (ran e r) k q has));
+        also = next.one.tried;
+      }
 
   -- it was tried as it begins and runs at once
   at_once : (h : List Block) (t n : ℕ) (env : Env) (e : ℕ) (r : RecordView) (path : List Move) → LeadsTo script path h → MayFollow script h (begun t n env) → MayFollow script (h ++ begun t n env ∷ []) (ran e r) → r.task ≡ t
@@ -145,15 +193,26 @@ module _ (script : ScriptView) (x : Search) (first : HasLike script (paths_of x.
         stand = all_push script cps h [] b leads.stand may.stands;
         orderly = allowed_push (IsOrderly script) h [] b leads.orderly may.orderly;
       } in
-      both_by h t n env e r (turn.tried (h ++ b ∷ []) (ran e r) begins then_may (own ∙ turn.does))
+      let was = turn.tried (h ++ b ∷ []) (ran e r) begins then_may (own ∙ turn.does) in
+      let one = stepped_by (h ++ b ∷ []) (ran e r) was in
+      let is = joined h t n env e r in
+      record {
+        turns = one.turns;
+        run = subst (λ (bs : List Block). AllRunSilently script cps bs one.turns) is one.run;
+        kept = one.kept;
+        is_kept = one.is_kept;
+        lead = subst (λ (bs : List Block). LeadAsOne script cps (after_turns bs one.turns) one.kept) is one.lead;
+        ends = λ k q has. one.ends k q (cons_here (ran e r) [] (ran k q) (turn_after t n env (ran e r) k q has));
+        also = one.also;
+      }
 
-  stepped : (h more : List Block) → IsNode script x h → MayStep script cps h more → WasStepped script x h more
+  stepped : (h more : List Block) → IsNode script x h → MayStep script cps h more → Ahead h more
   stepped h [] k may = absurd may.fused
   stepped h (folded e f ∷ bs) k may = absurd may.fused
   stepped h (added r ∷ b ∷ bs) k may = absurd may.fused
   stepped h (ran e r ∷ b ∷ bs) k may = absurd may.fused
   stepped h (added r ∷ []) k may = one_block h (added r) k (record { unfolded = tt; stands = may.stands.0; orderly = may.orderly.0 }) (λ path turn. turn.does)
-  stepped h (ran e r ∷ []) k may = one_block h (ran e r) k (record { unfolded = tt; stands = may.stands.0; orderly = may.orderly.0 }) (λ path turn. turn.does)
+  stepped h (ran e r ∷ []) k may = run_block h e r k may
   stepped h (begun t n env ∷ []) k may = one_block h (begun t n env) k (record { unfolded = tt; stands = may.stands.0; orderly = may.orderly.0 })
       (λ path turn. false≢true (sym may.fused ∙ ap (λ (u : ℕ). job_looks_away script ((standing script h).jobs u)) turn.does ∙ turn.away))
   stepped h (begun t n env ∷ ran e r ∷ []) k may =
@@ -170,15 +229,6 @@ module _ (script : ScriptView) (x : Search) (first : HasLike script (paths_of x.
   stepped h (begun t n env ∷ folded e f ∷ bs) k may = absurd may.fused
   stepped h (begun t n env ∷ ran e r ∷ b ∷ bs) k may = absurd may.fused
 
-  stand_of : (h : List Block) → IsNode script x h → AllStand script cps [] h
-  stand_of h k = k.leads.stand
-
-  room_of : (h : List Block) → IsNode script x h → HasRoom script h
-  room_of h k = (let at = expanded_at h k in at.2.room h at.1)
-
-  leads_of : (h more : List Block) → IsNode script x h → MayStep script cps h more → (k : List Block) × IsNode script x k × LeadAlike script cps (h ++ more) k
-  leads_of h more k may = (let like = (stepped h more k may).like in (like.others, node_of script x (h ++ more) like, like.alike))
-
   module _ (report : ReportView) (orderly : IsOrderlyLegal script report) (folds : FoldsNone report) where
     made_is : Made script report orderly.legal
     made_is = made script report orderly.legal folds
@@ -192,22 +242,22 @@ module _ (script : ScriptView) (x : Search) (first : HasLike script (paths_of x.
     none_is : NoneFolded script on cps orderly.legal.blocks
     none_is = made_is.none
 
-    walked : HasAll script on cps (IsNode script x) stand_of room_of leads_of [] orderly.legal.blocks
-    walked = has_all script on cps (IsNode script x) stand_of room_of leads_of orderly.legal.blocks [] (course_none script cps) stand_is orderly.orderly none_is
-        (first_one script on cps (IsNode script x) stand_of room_of leads_of first.others (node_of script x [] first) first.alike)
+    walked : HasAll script on cps hold Node (Ended x) stand_of room_of stepped [] orderly.legal.blocks
+    walked = has_all script on cps hold Node (Ended x) stand_of room_of stepped orderly.legal.blocks [] (course_none script cps) stand_is orderly.orderly none_is
+        (first_one script on cps hold Node (Ended x) stand_of room_of stepped first.others (node_of script x [] first) (first.alike, first.back))
 
     has_outcome : (o : RunOutcome) × Contains x.outcomes.items o × Tells o report
     has_outcome =
         let one = walked.one in
-        let at = expanded_at one.kept one.is_kept in
+        let kept : List Block = one.ahead.kept in
+        let at = expanded_at kept one.ahead.is_kept in
+        let lead = all_done script on cps hold Node (Ended x) stand_of room_of stepped orderly.legal.blocks one (finished script report orderly.legal) in
         let of : IsOutcome script (state_of script cps orderly.legal.blocks) report = subst (λ (cs : List CheckpointView). IsOutcome script (state_of script cs orderly.legal.blocks) report) cps_are made_is.outcome in
-        at.2.ends one.kept at.1 report
-        (record { outcome = outcome_too script cps report one.others one.kept one.lead (outcome_near script cps report orderly.legal.blocks one.others one.put_off of); many = orderly.legal.executors.2 })
+        at.2.ends kept at.1 report
+        (record { outcome = outcome_too script cps report one.others kept lead (outcome_near script cps report orderly.legal.blocks one.others one.put_off of); many = orderly.legal.executors.2 })
 
     breaks_none : x.broken ≡ None → (b : Block) → Contains orderly.legal.blocks b → IsBroken b → ⊥
-    breaks_none whole (ran e r) has breaks =
-        let is = walked.tried e r has in
-        (stepped is.before is.step is.is_kept is.may).whole whole e is.has.turn is.has.there (subst BreaksInvariant (sym is.has.exit_is) breaks)
+    breaks_none whole (ran e r) has breaks = walked.tried e r has whole breaks
     breaks_none whole (added r) has breaks = breaks
     breaks_none whole (begun t n env) has breaks = breaks
     breaks_none whole (folded e f) has breaks = breaks
@@ -218,7 +268,7 @@ module _ (x : Search) (next : ℕ) (gone : HasGoneOn (arc_value x.script) x next
   each_kept place low = gone.expanded is place (omega (arith, low, last))
 
   pub has_each : HasEachOutcome (arc_value x.script) x.outcomes.items
-  has_each = λ on report orderly folds. has_outcome (arc_value x.script) x (gone.first is) each_kept on report orderly folds
+  has_each = λ on report orderly folds. has_outcome (arc_value x.script) x gone.sound.hold (gone.first is) each_kept on report orderly folds
 
   pub never_breaks : x.broken ≡ None → NeverBreaks (arc_value x.script)
-  never_breaks whole = λ on report orderly folds. breaks_none (arc_value x.script) x (gone.first is) each_kept on report orderly folds whole
+  never_breaks whole = λ on report orderly folds. breaks_none (arc_value x.script) x gone.sound.hold (gone.first is) each_kept on report orderly folds whole

@@ -1,16 +1,17 @@
 -- What a search has found stays as it goes on.
-use Rattle.std.proofs.Common.{◌≡◌, ◌<◌, ◌≤◌, ℕ, zero, suc, ◌+◌, true, false, List, [], length, refl, sym, subst, arith, inl, inr, ◌∙◌}
+use Rattle.std.proofs.Common.{◌≡◌, ◌<◌, ◌≤◌, ℕ, zero, suc, ◌+◌, true, false, List, [], ◌∷◌, ◌++◌, length, refl, sym, subst, arith, inl, inr, ◌∙◌}
 use Rattle.std.specs.Prelude.{IsTrue}
 use Rattle.std.proofs.lemmas.Bool.{false≢true}
 use Rattle.std.proofs.lemmas.Option.{slice_get_within}
 use Rattle.swift_script.specs.Scripts.{ScriptView}
 use Rattle.swift_history.specs.Histories.{Block}
+use Rattle.swift_reordering.specs.RunAhead.{after_turns}
 use Rattle.swift_explorer.specs.declared.moves.Move.{Move}
 use Rattle.swift_explorer.specs.declared.search.Search.{Search}
 use Rattle.swift_explorer.specs.declared.fused.Step.{Step}
 use Rattle.swift_explorer.specs.declared.fused.Step.TheVariants.{Turn}
 use Rattle.swift_explorer.specs.Outcomes.{RunsShort}
-use Rattle.swift_explorer.specs.SearchInside.{HasGoneOn, HasGrown, HasLike, IsExpandedAt, IsKept, IsSound, StepWasTried, TurnWasTried, WasTried, paths_of}
+use Rattle.swift_explorer.specs.SearchInside.{HasGoneOn, HasGrown, HasLike, HasLikeAhead, IsExpandedAt, IsKept, IsSound, StepWasTried, TurnWasTried, WasTried, paths_of}
 use Rattle.swift_explorer.proofs.Ended.{lt_or}
 use Rattle.swift_explorer.proofs.Nodes.{path_there, paths_length}
 
@@ -35,7 +36,11 @@ like_grown script x y blocks grown like = record {
   others = like.others;
   leads = like.leads;
   alike = like.alike;
+  back = like.back;
 }
+
+ahead_grown : (script : ScriptView) (x y : Search) (blocks : List Block) → HasGrown x y → HasLikeAhead script (paths_of x.nodes.items) blocks → HasLikeAhead script (paths_of y.nodes.items) blocks
+ahead_grown script x y blocks grown ahead = record { turns = ahead.turns; run = ahead.run; whole = ahead.whole; like = like_grown script x y (after_turns blocks ahead.turns) grown ahead.like }
 
 pub kept_grown : (script : ScriptView) (x y : Search) (key : List ℕ) → HasGrown x y → IsKept script (paths_of x.nodes.items) key → IsKept script (paths_of y.nodes.items) key
 kept_grown script x y key grown kept = record {
@@ -48,7 +53,7 @@ kept_grown script x y key grown kept = record {
 }
 
 tried_grown : (script : ScriptView) (x y : Search) (blocks : List Block) (b : Block) → HasGrown x y → WasTried script x blocks b → WasTried script y blocks b
-tried_grown script x y blocks b grown was = record { kept = like_grown script x y _ grown was.kept; whole = λ none. was.whole (grown.broken none) }
+tried_grown script x y blocks b grown was = record { kept = ahead_grown script x y (blocks ++ b ∷ []) grown was.kept; whole = λ none. was.whole (grown.broken none) }
 
 pub step_grown : (script : ScriptView) (x y : Search) (path : List Move) (step : Step) → HasGrown x y → StepWasTried script x path step → StepWasTried script y path step
 step_grown script x y path step grown was blocks b leads may does = tried_grown script x y blocks b grown (was blocks b leads may does)
@@ -100,7 +105,7 @@ gone_one script x y next gone lt grown sound expanded = record {
 
 pub sound_full : (script : ScriptView) (x : Search) → IsSound script x → length x.nodes.items ≡ x.limit → IsSound script (record x { is_complete = false; met_limit = true })
 sound_full script x is full =
-    record { script_is = is.script_is; outcomes = is.outcomes; broken = is.broken; nodes = is.nodes; few = is.few; keys = is.keys; ends = is.ends; keyed = is.keyed; once = is.once; met = λ _. full; told = is.told; short = is.short; histories = is.histories }
+    record { script_is = is.script_is; outcomes = is.outcomes; broken = is.broken; nodes = is.nodes; few = is.few; keys = is.keys; ends = is.ends; keyed = is.keyed; once = is.once; met = λ _. full; told = is.told; marked = is.marked; hold = is.hold; short = is.short; histories = is.histories }
 
 pub grown_full : (x : Search) → HasGrown x (record x { is_complete = false; met_limit = true })
 grown_full x = record { script = refl; limit = refl; paths = λ i path at. at; outcomes = λ o has. has; broken = λ none. none; complete = λ is. absurd (false≢true is) }
@@ -108,7 +113,7 @@ grown_full x = record { script = refl; limit = refl; paths = λ i path at. at; o
 -- a search that leaves a history out
 
 pub sound_left : (script : ScriptView) (x : Search) → IsSound script x → IsSound script (record x { is_complete = false })
-sound_left script x is = record { script_is = is.script_is; outcomes = is.outcomes; broken = is.broken; nodes = is.nodes; few = is.few; keys = is.keys; ends = is.ends; keyed = is.keyed; once = is.once; met = is.met; told = is.told; short = is.short; histories = is.histories }
+sound_left script x is = record { script_is = is.script_is; outcomes = is.outcomes; broken = is.broken; nodes = is.nodes; few = is.few; keys = is.keys; ends = is.ends; keyed = is.keyed; once = is.once; met = is.met; told = is.told; marked = is.marked; hold = is.hold; short = is.short; histories = is.histories }
 
 pub grown_left : (x : Search) → HasGrown x (record x { is_complete = false })
 grown_left x = record { script = refl; limit = refl; paths = λ i path at. at; outcomes = λ o has. has; broken = λ none. none; complete = λ is. absurd (false≢true is) }
@@ -117,7 +122,7 @@ grown_left x = record { script = refl; limit = refl; paths = λ i path at. at; o
 
 pub sound_short : (script : ScriptView) (x : Search) → IsSound script x → RunsShort script → IsSound script (record x { is_complete = false; ran_short = true })
 sound_short script x is short =
-    record { script_is = is.script_is; outcomes = is.outcomes; broken = is.broken; nodes = is.nodes; few = is.few; keys = is.keys; ends = is.ends; keyed = is.keyed; once = is.once; met = is.met; told = is.told; short = λ _. short; histories = is.histories }
+    record { script_is = is.script_is; outcomes = is.outcomes; broken = is.broken; nodes = is.nodes; few = is.few; keys = is.keys; ends = is.ends; keyed = is.keyed; once = is.once; met = is.met; told = is.told; marked = is.marked; hold = is.hold; short = λ _. short; histories = is.histories }
 
 pub grown_short : (x : Search) → HasGrown x (record x { is_complete = false; ran_short = true })
 grown_short x = record { script = refl; limit = refl; paths = λ i path at. at; outcomes = λ o has. has; broken = λ none. none; complete = λ is. absurd (false≢true is) }

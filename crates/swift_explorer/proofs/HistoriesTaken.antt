@@ -24,6 +24,8 @@ sound_taken script x z is rest = record {
   once = is.once;
   met = is.met;
   told = is.told;
+  marked = is.marked;
+  hold = is.hold;
   short = is.short;
   histories = λ q k at. is.histories q k (rest q k at);
 }

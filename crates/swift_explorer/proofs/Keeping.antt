@@ -42,6 +42,7 @@ keeps_known x history key sound keyed is = record {
         others = k.blocks;
         leads = k.leads;
         alike = alike_keys (arc_value x.script) blocks k.blocks key (history, of, keyed) k.keyed;
+        back = alike_keys (arc_value x.script) k.blocks blocks key k.keyed (history, of, keyed);
       });
 }
 
@@ -122,6 +123,8 @@ module _ (x : Search) (history : SearchedHistory) (key : List ℕ) (n : Node) (n
       once = sound.once;
       met = λ is. absurd (below_not x.limit (length x.nodes.items) (sound.met is) room);
       told = sound.told;
+      marked = sound.marked;
+      hold = sound.hold;
       short = sound.short;
       histories = all_there;
     };
@@ -132,5 +135,6 @@ module _ (x : Search) (history : SearchedHistory) (key : List ℕ) (n : Node) (n
       others = p.blocks;
       leads = leads;
       alike = alike_keys script blocks p.blocks key (history, of, keyed) (history, p.is, keyed);
+      back = alike_keys script p.blocks blocks key (history, p.is, keyed) (history, of, keyed);
     };
   }

@@ -35,3 +35,8 @@ pub mod Steps
 pub mod CardSteps
 mod Marks
 mod LooksAway
+mod InvariantsOfActors
+mod StartInvariants
+mod RunningAhead
+mod SilentMarks
+mod Trial

@@ -1,10 +1,10 @@
 -- An instruction that has a mark is silent up to each end of the turn.
-use Rattle.std.proofs.Common.{◌≡◌, ◌⊎◌, ℕ, List, [], ◌∷◌, refl, sym, ◌∙◌, ap, subst, Bool, true, false, inl, inr}
+use Rattle.std.proofs.Common.{◌≡◌, ◌⊎◌, ℕ, List, refl, sym, ◌∙◌, ap, Bool, true, false, inl, inr}
 use Rattle.std.specs.Prelude.{Option, Some, None, ◌&&◌, ◌||◌, slice_get}
 use Rattle.std.proofs.lemmas.Bool.{false≢true}
 use Rattle.script_code.specs.Tree.{Code, Operation, Term, followed}
 use Rattle.script_code.specs.Tree as code
-use Rattle.script_code.specs.Instructions.{NextAction, ends, does, tests, first, first_by, first_if, FollowsCode}
+use Rattle.script_code.specs.Instructions.{NextAction, does, tests, first, first_by, first_if, FollowsCode}
 use Rattle.script_code.specs.declared.instruction.Act.{Act}
 use Rattle.script_code.specs.declared.instruction.Act.TheVariants as acts
 use Rattle.script_code.specs.declared.instruction.Instruction.{Instruction}

@@ -71,7 +71,7 @@ module _ (os ps : List RunOutcome) (outcome : RunOutcome) (more : ps ≡ os ++ o
 pub sound_noted : (script : ScriptView) (x : Search) (os : Vec RunOutcome Global) (ends : List (List ℕ)) → IsSound script x → All (IsOutcomeOf script) os.items → ((k : List ℕ) → Contains ends k → IsNoted os.items k)
     → AreKeyed os.items ends → EachOnce os.items → IsSound script (record x { outcomes = os; ends = ends })
 sound_noted script x os ends is outcomes noted keyed once =
-    record { script_is = is.script_is; outcomes = outcomes; broken = is.broken; nodes = is.nodes; few = is.few; keys = is.keys; ends = noted; keyed = keyed; once = once; met = is.met; told = is.told; short = is.short; histories = is.histories }
+    record { script_is = is.script_is; outcomes = outcomes; broken = is.broken; nodes = is.nodes; few = is.few; keys = is.keys; ends = noted; keyed = keyed; once = once; met = is.met; told = is.told; marked = is.marked; hold = is.hold; short = is.short; histories = is.histories }
 
 pub grown_noted : (x : Search) (os : Vec RunOutcome Global) (ends : List (List ℕ)) → ((o : RunOutcome) → Contains x.outcomes.items o → Contains os.items o) → HasGrown x (record x { outcomes = os; ends = ends })
 grown_noted x os ends kept = record { script = refl; limit = refl; paths = λ i path at. at; outcomes = kept; broken = λ none. none; complete = λ is. is }
@@ -79,7 +79,7 @@ grown_noted x os ends kept = record { script = refl; limit = refl; paths = λ i 
 -- one that has found a broken turn
 
 pub sound_breaks : (script : ScriptView) (x : Search) (broken : Option (Vec Move Global)) → IsSound script x → IfSome broken (λ schedule. IsBrokenAfter script schedule.items) → IsSound script (record x { broken = broken })
-sound_breaks script x broken is breaks = record { script_is = is.script_is; outcomes = is.outcomes; broken = breaks; nodes = is.nodes; few = is.few; keys = is.keys; ends = is.ends; keyed = is.keyed; once = is.once; met = is.met; told = is.told; short = is.short; histories = is.histories }
+sound_breaks script x broken is breaks = record { script_is = is.script_is; outcomes = is.outcomes; broken = breaks; nodes = is.nodes; few = is.few; keys = is.keys; ends = is.ends; keyed = is.keyed; once = is.once; met = is.met; told = is.told; marked = is.marked; hold = is.hold; short = is.short; histories = is.histories }
 
 pub is_not_none : {A : Type 0} (o : Option A) → is_some o ≡ true → o ≡ None → ⊥
 is_not_none o is none = false≢true (sym (ap is_some none) ∙ is)

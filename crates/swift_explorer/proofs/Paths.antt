@@ -19,7 +19,7 @@ steps_push [] n (c ∷ bs) m b done is = absurd done
 steps_push (k ∷ ms) n [] m b done is = absurd done
 steps_push (k ∷ ms) n (c ∷ bs) m b done is = (done.0, steps_push ms (roots_after n k) bs m b done.1 is)
 
-roots_push : (ms : List Move) (n : ℕ) (m : Move) → roots_over n (ms ++ m ∷ []) ≡ roots_after (roots_over n ms) m
+pub roots_push : (ms : List Move) (n : ℕ) (m : Move) → roots_over n (ms ++ m ∷ []) ≡ roots_after (roots_over n ms) m
 roots_push [] n m = refl
 roots_push (k ∷ ms) n m = roots_push ms (roots_after n k) m
 

@@ -1,5 +1,5 @@
 -- A step is tried after others.
-use Rattle.std.proofs.Common.{◌≡◌, ◌⊎◌, ◌↔◌, ◌<◌, ◌≤◌, ◌+◌, ◌*◌, ◌∙◌, ℕ, false, List, [], ◌∷◌, ◌++◌, append_assoc, append-nil, sym, subst, ap, arith, inl, inr}
+use Rattle.std.proofs.Common.{◌≡◌, ◌⊎◌, ◌↔◌, ◌<◌, ◌≤◌, ◌+◌, ◌*◌, ◌∙◌, ℕ, List, [], ◌∷◌, ◌++◌, append_assoc, append-nil, sym, subst, ap, arith, inl, inr}
 use Rattle.std.specs.Prelude.{All, IsTrue, None}
 use Rattle.std.proofs.lemmas.Bool.{false≢true}
 use Rattle.std.specs.Arc.{arc_value}
@@ -16,8 +16,10 @@ use Rattle.swift_history.specs.Orderly.{AllAllowed, IsOrderly}
 use Rattle.swift_digest.specs.Futures.{LeadAlike}
 use Rattle.swift_digest.proofs.Outcomes.{lead_on, orderly_too, outcome_too, unfolded_too}
 use Rattle.swift_digest.proofs.SameLogs.{same_tasks}
-use Rattle.swift_digest.proofs.SameStands.{all_push, block_stands, lead_push}
+use Rattle.swift_digest.proofs.SameStands.{all_push, block_stands}
+use Rattle.swift_reordering.specs.RunAhead.{OneTurn, after_turns, LeadAsOne}
 use Rattle.swift_reordering.proofs.Closed.{same_away}
+use Rattle.swift_reordering.proofs.RunAhead.{AllEndAs, same_back, same_on, same_push, turns_too}
 use Rattle.swift_explorer.specs.declared.moves.Move.{Move}
 use Rattle.swift_explorer.specs.declared.moves.Move.TheVariants as step
 use Rattle.swift_explorer.specs.declared.fused.Step.TheVariants.{One, Turn}
@@ -28,11 +30,13 @@ use Rattle.swift_explorer.specs.declared.search.Ahead.{Ahead}
 use Rattle.swift_explorer.specs.declared.search.Search.{Search}
 use Rattle.swift_explorer.specs.Outcomes.{IfReached, IsOutcomeOf}
 use Rattle.swift_explorer.specs.FusedInside.{HasEachStep, IsChosen, IsRoomy}
-use Rattle.swift_explorer.specs.Steps.{IsBroken}
+use Rattle.swift_explorer.specs.AheadInside.{AllWhole}
+use Rattle.swift_explorer.specs.Steps.{BreaksInvariant, IsBroken}
 use Rattle.swift_explorer.specs.HistoryInside.{GoesOn, IsHistory, IsMoveOf, IsPath}
 use Rattle.swift_explorer.specs.EndsInside.{HasEnd, IsKnownEnd, IsReportAfter}
-use Rattle.swift_explorer.specs.SearchInside.{HasLike, IsAhead, IsExpanded, IsFollowedBy, LeadsTo, MayFollow, StepWasTried, TurnWasTried, WasTried, WasTriedLast, paths_of}
+use Rattle.swift_explorer.specs.SearchInside.{GoesFrom, HasLike, HasLikeAhead, IsAhead, IsExpanded, IsFollowedAhead, IsFollowedBy, LeadsTo, MayFollow, StepWasTried, TurnWasTried, WasTried, WasTriedLast, path_after, paths_of}
 use Rattle.swift_explorer.proofs.Keeping.{path_leads}
+use Rattle.swift_explorer.proofs.Nodes.{path_on}
 use Rattle.swift_explorer.proofs.Orderly.{before_or_past}
 use Rattle.swift_explorer.proofs.SameMoves.{broken_too, move_back, move_of_step, move_too, same_move, same_path}
 
@@ -44,12 +48,13 @@ pub record Other (script : ScriptView) (blocks others : List Block) (b : Block) 
   pub moves : (m : Move) → IsMoveOf m b → IsMoveOf m block
   pub back : (m : Move) → IsMoveOf m block → IsMoveOf m b
   pub breaks : IsBroken b → IsBroken block
-  pub alike : LeadAlike script (starts script) (blocks ++ b ∷ []) (others ++ block ∷ [])
+  pub same : LeadAsOne script (starts script) (blocks ++ b ∷ []) (others ++ block ∷ [])
 
-pub other_block : (script : ScriptView) (blocks others : List Block) (b : Block) → AllStand script (starts script) [] blocks → AllStand script (starts script) [] others → LeadAlike script (starts script) blocks others
+pub other_block : (script : ScriptView) (blocks others : List Block) (b : Block) → AllStand script (starts script) [] blocks → AllStand script (starts script) [] others → LeadAsOne script (starts script) blocks others
     → MayFollow script blocks b → Other script blocks others b
-other_block script blocks others b stand also alike may =
+other_block script blocks others b stand also same may =
     let cps = starts script in
+    let alike = same.0 in
     let o = block_stands script cps blocks others alike b may.stands in
     let c : Block = o.other in
     record {
@@ -58,43 +63,72 @@ other_block script blocks others b stand also alike may =
       moves = λ m does. move_too script m b c o.like does;
       back = λ m does. move_back script m b c o.like does;
       breaks = broken_too script b c o.like;
-      alike = lead_push script cps blocks others alike b c o.like (all_push script cps blocks [] b stand may.stands) (all_push script cps others [] c also o.stands);
+      same = same_push script cps blocks others b c same o.like (all_push script cps blocks [] b stand may.stands) (all_push script cps others [] c also o.stands);
     }
 
 other_led : (script : ScriptView) (path : List Move) (blocks others : List Block) (b : Block) → LeadsTo script path blocks → LeadsTo script path others → MayFollow script blocks b → Other script blocks others b
 other_led script path blocks others b leads also may =
-    other_block script blocks others b leads.stand also.stand (same_path script blocks others path 0 leads.stand also.stand leads.orderly also.orderly leads.steps also.steps) may
+    other_block script blocks others b leads.stand also.stand (
+      same_path script blocks others path 0 leads.stand also.stand leads.orderly also.orderly leads.steps also.steps,
+      same_path script others blocks path 0 also.stand leads.stand also.orderly leads.orderly also.steps leads.steps,
+    ) may
 
 -- where one kind of block leads to what is kept, so does what leads alike
-pub like_too : (script : ScriptView) (paths : List (List Move)) (blocks others : List Block) → LeadAlike script (starts script) blocks others → HasLike script paths others → HasLike script paths blocks
-like_too script paths blocks others alike like = record {
+pub like_too : (script : ScriptView) (paths : List (List Move)) (blocks others : List Block) → LeadAsOne script (starts script) blocks others → HasLike script paths others → HasLike script paths blocks
+like_too script paths blocks others same like = record {
   place = like.place;
   path = like.path;
   there = like.there;
   others = like.others;
   leads = like.leads;
-  alike = lead_on script (starts script) blocks others like.others alike like.alike;
+  alike = lead_on script (starts script) blocks others like.others same.0 like.alike;
+  back = lead_on script (starts script) like.others others blocks like.back same.1;
 }
 
--- a step that was followed was tried, where its history is kept
-pub step_tried : (script : ScriptView) (x : Search) (path : List Move) (m : Move) (history : SearchedHistory) (done : Followed)
-    → IsFollowedBy script path m history done → ((blocks : List Block) → IsHistory script blocks history → HasLike script (paths_of x.nodes.items) blocks) → (x.broken ≡ None → done ≡ Yes) → WasTriedLast script x path m
-step_tried script x path m history done f kept quiet blocks b leads may does =
-    let o = other_led script path blocks f.blocks b leads f.leads may in
-    let same = same_move script f.blocks o.block f.last m f.leads.stand o.may.stands f.follows.stands o.may.orderly f.follows.orderly (o.moves m does) f.does in
+-- the same with silent turns after them
+pub ahead_too : (script : ScriptView) (paths : List (List Move)) (blocks others : List Block) → AllStand script (starts script) [] blocks → AllStand script (starts script) [] others → LeadAsOne script (starts script) blocks others
+    → HasLikeAhead script paths others → HasLikeAhead script paths blocks
+ahead_too script paths blocks others stand also same ahead =
+    let cps = starts script in
+    let o = turns_too script cps ahead.turns others blocks also stand (same_back script cps blocks others same) ahead.run in
     record {
-      kept = like_too script (paths_of x.nodes.items) (blocks ++ b ∷ []) (f.blocks ++ o.block ∷ []) o.alike
-          (like_too script (paths_of x.nodes.items) (f.blocks ++ o.block ∷ []) (f.blocks ++ f.last ∷ []) same.0 (kept (f.blocks ++ f.last ∷ []) f.is));
-      whole = λ none breaks. f.whole (quiet none) (same.1 (o.breaks breaks));
+      turns = o.others;
+      run = o.run;
+      whole = whole_ends script ahead.turns o.others o.ends ahead.whole;
+      like = like_too script paths (after_turns blocks o.others) (after_turns others ahead.turns) (same_back script cps (after_turns others ahead.turns) (after_turns blocks o.others) o.same) ahead.like;
+    }
+  where
+    whole_ends : (script : ScriptView) (xs ys : List OneTurn) → AllEndAs script (starts script) xs ys → AllWhole xs → AllWhole ys
+    whole_ends script [] [] ends all = tt
+    whole_ends script (x ∷ xs) (y ∷ ys) ends all = (λ breaks. all.0 (subst BreaksInvariant ends.0.exit_is breaks), whole_ends script xs ys ends.1 all.1)
+    whole_ends script [] (y ∷ ys) ends all = absurd ends
+    whole_ends script (x ∷ xs) [] ends all = absurd ends
+
+-- a step that was followed was tried, where its history is kept
+pub step_tried : (script : ScriptView) (x : Search) (path : List Move) (m : Move) (history : SearchedHistory) (done : Followed) (before after : List Move)
+    → IsFollowedAhead script path m history done before after → ((blocks : List Block) → IsHistory script blocks history → HasLike script (paths_of x.nodes.items) blocks) → (x.broken ≡ None → done ≡ Yes) → WasTriedLast script x path m
+step_tried script x path m history done before after f kept quiet blocks b leads may does =
+    let cps = starts script in
+    let o = other_led script path blocks f.blocks b leads f.leads may in
+    let does_o = o.moves m does in
+    let one = same_move script f.blocks o.block f.last m f.leads.stand o.may.stands f.follows.stands o.may.orderly f.follows.orderly does_o f.does in
+    let two = same_move script f.blocks f.last o.block m f.leads.stand f.follows.stands o.may.stands f.follows.orderly o.may.orderly f.does does_o in
+    let mine : List Block = blocks ++ b ∷ [] in
+    let far : List Block = f.blocks ++ f.last ∷ [] in
+    let all = same_on script cps mine (f.blocks ++ o.block ∷ []) far o.same (one.0, two.0) in
+    record {
+      kept = ahead_too script (paths_of x.nodes.items) mine far (all_push script cps blocks [] b leads.stand may.stands) (all_push script cps f.blocks [] f.last f.leads.stand f.follows.stands) all
+          (record { turns = f.turns; run = f.run; whole = f.quiet; like = kept (after_turns far f.turns) f.is });
+      whole = λ none breaks. f.whole (quiet none) (one.1 (o.breaks breaks));
     }
 
 -- steps that are followed
 
-parted : (script : ScriptView) (cps : List CheckpointView) (bs before : List Block) (b : Block) → AllStand script cps before (bs ++ b ∷ []) → Stands script cps (before ++ bs) b
+pub parted : (script : ScriptView) (cps : List CheckpointView) (bs before : List Block) (b : Block) → AllStand script cps before (bs ++ b ∷ []) → Stands script cps (before ++ bs) b
 parted script cps [] before b all = subst (λ (xs : List Block). Stands script cps xs b) (sym (append-nil before)) all.0
 parted script cps (x ∷ bs) before b all = subst (λ (xs : List Block). Stands script cps xs b) (append_assoc before (x ∷ []) bs) (parted script cps bs (before ++ x ∷ []) b all.1)
 
-allowed_last : (Allowed : List Block → Block → Type 0) (bs before : List Block) (b : Block) → AllAllowed Allowed before (bs ++ b ∷ []) → Allowed (before ++ bs) b
+pub allowed_last : (Allowed : List Block → Block → Type 0) (bs before : List Block) (b : Block) → AllAllowed Allowed before (bs ++ b ∷ []) → Allowed (before ++ bs) b
 allowed_last Allowed [] before b all = subst (λ (xs : List Block). Allowed xs b) (sym (append-nil before)) all.0
 allowed_last Allowed (x ∷ bs) before b all = subst (λ (xs : List Block). Allowed xs b) (append_assoc before (x ∷ []) bs) (allowed_last Allowed bs (before ++ x ∷ []) b all.1)
 
@@ -164,11 +198,13 @@ module _ (script : ScriptView) (x : Search) (path : List Move) (a : Ahead) (ahea
   led_there : (blocks : List Block) → LeadsTo script path blocks → LeadAlike script (starts script) blocks ahead.blocks
   led_there blocks leads = same_path script blocks ahead.blocks path 0 leads.stand ahead.leads.stand leads.orderly ahead.leads.orderly leads.steps ahead.leads.steps
 
-  tried_by : (blocks : List Block) (b : Block) → LeadsTo script path blocks → (o : Other script blocks ahead.blocks b) → IsChosen script a.steps.items ahead.blocks o.block → WasTried script x blocks b ⊎ TurnWasTried script x path blocks b
-  tried_by blocks b leads o (inl one) =
+  tried_by : (blocks : List Block) (b : Block) → LeadsTo script path blocks → MayFollow script blocks b → (o : Other script blocks ahead.blocks b) → IsChosen script a.steps.items ahead.blocks o.block → WasTried script x blocks b ⊎ TurnWasTried script x path blocks b
+  tried_by blocks b leads may o (inl one) =
+      let b_stand = all_push script (starts script) blocks [] b leads.stand may.stands in
+      let o_stand = all_push script (starts script) ahead.blocks [] o.block ahead.leads.stand o.may.stands in
       let was = one_tried script x path one.0 (All-contains (StepWasTried script x path) a.steps.items (One one.0) tried one.1) ahead.blocks o.block ahead.leads o.may one.2 in
-      inl (record { kept = like_too script (paths_of x.nodes.items) (blocks ++ b ∷ []) (ahead.blocks ++ o.block ∷ []) o.alike was.kept; whole = λ none breaks. was.whole none (o.breaks breaks) })
-  tried_by blocks b leads o (inr turn) = inr (record {
+      inl (record { kept = ahead_too script (paths_of x.nodes.items) (blocks ++ b ∷ []) (ahead.blocks ++ o.block ∷ []) b_stand o_stand o.same was.kept; whole = λ none breaks. was.whole none (o.breaks breaks) })
+  tried_by blocks b leads may o (inr turn) = inr (record {
     task = turn.0;
     does = o.back (step.Begin turn.0) turn.2;
     away = same_away script (starts script) blocks ahead.blocks (led_there blocks leads) turn.0.0 ∙ turn.3;
@@ -183,5 +219,14 @@ module _ (script : ScriptView) (x : Search) (path : List Move) (a : Ahead) (ahea
         (let same = same_tasks (standing script blocks).log (standing script ahead.blocks).log (led_there blocks leads).standing.digest (root_count script) in
         let few = ahead.room room in
         omega (arith, same, few));
-    tried = λ blocks b leads may. (let o = other_led script path blocks ahead.blocks b leads ahead.leads may in tried_by blocks b leads o (ahead.each o.block o.may));
+    tried = λ blocks b leads may. (let o = other_led script path blocks ahead.blocks b leads ahead.leads may in tried_by blocks b leads may o (ahead.each o.block o.may));
   }
+
+-- the path to a history that was followed after that of a node
+pub kept_path : (script : ScriptView) (x : Search) (h : SearchedHistory) (path : List Move) (last : Move) (before : ℕ) (moves more : List Move) (f : Followed) → GoesFrom (paths_of x.nodes.items) before moves (path ++ last ∷ []) → IsFollowedAhead script path last h f moves more
+    → IsPath script (path_after (paths_of x.nodes.items) before more) h
+kept_path script x h path last before moves more f from by =
+    let base : List Move = from.0 in
+    let is : path_after (paths_of x.nodes.items) before more ≡ (path ++ last ∷ []) ++ by.moves =
+    path_on (paths_of x.nodes.items) before more base from.1 ∙ ap (λ (ms : List Move). base ++ ms) by.after_is ∙ sym (append_assoc base moves by.moves) ∙ ap (λ (ms : List Move). ms ++ by.moves) from.2 in
+    subst (λ (ms : List Move). IsPath script ms h) (sym is) by.path_is

@@ -6,6 +6,7 @@ pub mod Completions
 pub mod HistoryInside
 pub mod FusedInside
 pub mod SilentInside
+pub mod AheadInside
 pub mod QueueInside
 pub mod SearchInside
 pub mod KeysInside

@@ -11,9 +11,9 @@ use Rattle.swift_history.specs.Orderly.{AllAllowed, IsOrderly}
 use Rattle.swift_digest.specs.Futures.{LeadAlike}
 use Rattle.swift_reordering.specs.Away.{job_looks_away}
 use Rattle.swift_reordering.specs.FusedSteps.{HasRoom}
+use Rattle.swift_reordering.specs.RunAhead.{OneTurn, after_turns, AllRunSilently}
 use Rattle.swift_explorer.specs.declared.moves.Move.{Move}
 use Rattle.swift_explorer.specs.declared.moves.Move.TheVariants as step
-use Rattle.swift_explorer.specs.declared.outcome.End.{End}
 use Rattle.swift_explorer.specs.declared.outcome.RunOutcome.{RunOutcome}
 use Rattle.swift_explorer.specs.declared.history.SearchedHistory.{SearchedHistory}
 use Rattle.swift_explorer.specs.declared.history.Followed.{Followed}
@@ -23,10 +23,12 @@ use Rattle.swift_explorer.specs.declared.search.Ahead.{Ahead}
 use Rattle.swift_explorer.specs.declared.search.Search.{Search}
 use Rattle.swift_explorer.specs.declared.fused.Step.{Step}
 use Rattle.swift_explorer.specs.declared.fused.Step.TheVariants.{Turn}
+use Rattle.swift_explorer.specs.AheadInside.{AllWhole, StartsHold}
 use Rattle.swift_explorer.specs.FusedInside.{AreTold, IsChosen, first_half, last_half}
+use Rattle.swift_explorer.specs.SilentInside.{HaveMarks}
 use Rattle.swift_explorer.specs.Outcomes.{EachOnce, IfReached, IsBrokenAfter, IsOutcomeOf, RunsShort}
 use Rattle.swift_explorer.specs.Steps.{AreSteps, IsBroken}
-use Rattle.swift_explorer.specs.HistoryInside.{IsHistory, IsMoveOf}
+use Rattle.swift_explorer.specs.HistoryInside.{IsHistory, IsMoveOf, IsPath}
 use Rattle.swift_explorer.specs.EndsInside.{HasEnd, IsKnownEnd}
 use Rattle.swift_explorer.specs.KeysInside.{IsKeyFor, outcome_bytes}
 use Rattle.swift_explorer.specs.QueueInside.{AreHistories}
@@ -69,6 +71,14 @@ pub record HasLike (script : ScriptView) (paths : List (List Move)) (blocks : Li
   pub others : List Block
   pub leads : LeadsTo script path others
   pub alike : LeadAlike script (starts script) blocks others
+  pub back : LeadAlike script (starts script) others blocks
+
+-- one of these paths leads to blocks that lead as these do with silent turns after them
+pub record HasLikeAhead (script : ScriptView) (paths : List (List Move)) (blocks : List Block) : Type 0 where
+  pub turns : List OneTurn
+  pub run : AllRunSilently script (starts script) blocks turns
+  pub whole : AllWhole turns
+  pub like : HasLike script paths (after_turns blocks turns)
 
 -- one of these paths leads to blocks that have this key
 pub record IsKept (script : ScriptView) (paths : List (List Move)) (key : List ℕ) : Type 0 where
@@ -100,6 +110,8 @@ pub record IsSound (script : ScriptView) (x : Search) : Type 0 where
   pub once : EachOnce x.outcomes.items
   pub met : IsTrue x.met_limit → length x.nodes.items ≡ x.limit
   pub told : AreTold script x.away.items
+  pub marked : HaveMarks script x.marks.items
+  pub hold : StartsHold script
   pub short : IsTrue x.ran_short → RunsShort script
   pub histories : AreHistories script (paths_of x.nodes.items) (get nat_eq x.histories)
 
@@ -118,10 +130,10 @@ pub record MayFollow (script : ScriptView) (blocks : List Block) (b : Block) : T
   pub stands : Stands script (starts script) blocks b
   pub orderly : IsOrderly script blocks b
 
--- A block after others was tried: some history that was kept leads alike, and where no turn was found that breaks an invariant, this
+-- A block after others was tried: some history that was kept leads as it does with silent turns after it, and where no turn was found that breaks an invariant, this
 -- one breaks none.
 pub record WasTried (script : ScriptView) (x : Search) (blocks : List Block) (b : Block) : Type 0 where
-  pub kept : HasLike script (paths_of x.nodes.items) (blocks ++ b ∷ [])
+  pub kept : HasLikeAhead script (paths_of x.nodes.items) (blocks ++ b ∷ [])
   pub whole : x.broken ≡ None → IsBroken b → ⊥
 
 -- after these steps each block was tried that this step does
@@ -173,6 +185,27 @@ pub record IsFollowedBy (script : ScriptView) (path : List Move) (step : Move) (
   pub does : IsMoveOf step last
   pub is : IsHistory script (blocks ++ last ∷ []) x
   pub whole : done ≡ Yes → IsBroken last → ⊥
+
+-- These steps, one more and silent turns were followed, by steps that were put to others; and the last block before the silent turns breaks
+-- no invariant unless that is told.
+pub record IsFollowedAhead (script : ScriptView) (path : List Move) (step : Move) (x : SearchedHistory) (done : Followed) (before after : List Move) : Type 0 where
+  pub blocks : List Block
+  pub last : Block
+  pub leads : LeadsTo script path blocks
+  pub follows : MayFollow script blocks last
+  pub does : IsMoveOf step last
+  pub whole : done ≡ Yes → IsBroken last → ⊥
+  pub moves : List Move
+  pub after_is : after ≡ before ++ moves
+  pub path_is : IsPath script ((path ++ step ∷ []) ++ moves) x
+  pub turns : List OneTurn
+  pub run : AllRunSilently script (starts script) (blocks ++ last ∷ []) turns
+  pub is : IsHistory script (after_turns (blocks ++ last ∷ []) turns) x
+  pub quiet : AllWhole turns
+
+-- the steps to a node, and these after it, are those
+abbrev pub GoesFrom : List (List Move) → ℕ → List Move → List Move → Type 0
+GoesFrom paths before moves steps = (base : List Move) × (slice_get paths before ≡ Some base) × (base ++ moves ≡ steps)
 
 -- What is known of these steps: they lead to blocks after which each block in order is chosen by these steps of a search, and whose end is
 -- this; and whether there is room.

@@ -16,9 +16,9 @@ use swift_script::Script;
 /// What a search has found.
 #[derive(Drop)]
 pub struct FoundOutcomes {
-    /// The outcomes, each one once, those with the shortest schedules first.
+    /// The outcomes, each one once, in the order in which they were met.
     pub outcomes: Vec<RunOutcome>,
-    /// The steps to a turn that was undone since it would have broken an invariant, the fewest that were found.
+    /// The steps to a turn that was undone since it would have broken an invariant, the first that was met.
     pub broken: Option<Vec<Move>>,
     /// How many histories were kept.
     pub states: usize,
@@ -34,7 +34,9 @@ pub struct FoundOutcomes {
 /// A search of the histories of a script from the one in which nothing has happened (our own), made in parts, so that a caller can say
 /// between them how far it is. It keeps at most `limit` histories: one of those whose keys are the same, since they go on alike. From
 /// each that it keeps it tries each step that is in order: roots are added in text order, then turns begin, each only at an executor that
-/// has none under way.
+/// has none under way. A turn that looks away begins and runs as one step; and after each step silent turns run at once (swift_reordering).
+///
+/// Where a history that it has kept has no room for what turns may make, it is not complete, and `ran_short` says so.
 ///
 /// What it finds is so: each outcome is that of a legal report, which a history in order has made by the steps of its schedule; and a
 /// turn that it says breaks an invariant does so after these steps. Where `is_complete` says that no history was left out, it is all, of
@@ -145,6 +147,7 @@ impl Exploration {
             script: _,
             limit: _,
             away: _,
+            marks: _,
             nodes,
             keys: _,
             outcomes,

@@ -65,7 +65,7 @@ fn body_looks_away(body: &Body, away: &[bool]) -> bool
 
 impl SearchedHistory {
     // Whether the next turn of a task looks away.
-    fn looks_away(&self, away: &[bool], task: TaskId) -> bool
+    pub(crate) fn looks_away(&self, away: &[bool], task: TaskId) -> bool
         ensures { IsTrue result → AreTold (arc_value self.now.script) away.now → LooksAway self.now task }
     {
         let place = task.0 as usize;

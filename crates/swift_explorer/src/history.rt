@@ -82,7 +82,7 @@ fn first_fields(alloc: Global, script: &Script) -> Result<Vec<Vec<Vec<i64>>>, Al
 }
 
 // None of the executors has run a turn.
-fn none_used(alloc: Global, executors: usize) -> Result<Vec<bool>, AllocError>
+pub(crate) fn none_used(alloc: Global, executors: usize) -> Result<Vec<bool>, AllocError>
     ensures { IfOk result (λ used. used.items ≡ replicate executors false) }
 {
     let mut used = Vec::with_capacity(alloc, executors)?;
@@ -360,7 +360,7 @@ impl SearchedHistory {
     }
 
     // Whether the next turn of a task may begin. False, too, where there are more tasks than numbers for them.
-    fn can_begin(&self, task: TaskId) -> bool
+    pub(crate) fn can_begin(&self, task: TaskId) -> bool
         ensures may { IsTrue result → MayBegin self.now task.0 }
         ensures all { result ≡ false → length self.now.tasks.items < 2 ^ 32 → AreOf (arc_value self.now.script) self.now.tasks.items → (k : ℕ) → seat_of (arc_value self.now.script) self.now.tasks.items task.0 ≡ Some k → MayBegin self.now task.0 → ⊥ }
     {
@@ -666,7 +666,7 @@ fn write_turn(
 }
 
 // A copy of the fields of an executor.
-fn copy_of(alloc: Global, rows: &[Vec<i64>]) -> Result<Vec<Vec<i64>>, AllocError>
+pub(crate) fn copy_of(alloc: Global, rows: &[Vec<i64>]) -> Result<Vec<Vec<i64>>, AllocError>
     ensures { IfOk result (λ copy. rows_of copy.items ≡ rows_of rows.now) }
 {
     let mut copy = Vec::with_capacity(alloc, rows.len())?;

@@ -1,6 +1,8 @@
 //! Outcomes that some order of turns of a script leads to.
 #![tactic(auto)]
 
+// Silent turns that run at once.
+mod ahead;
 // Which methods look away.
 mod away;
 // A schedule that is led to its end.
@@ -27,6 +29,8 @@ mod queue;
 mod schedule;
 // The search.
 mod search;
+// Which instructions are silent.
+mod silent;
 // What a search has found, as a text.
 mod text;
 // What the next turn of each task begins with.

@@ -7,9 +7,11 @@ ghost use Rattle.swift_explorer.specs.Outcomes.{EachOnce, IfReached, IsBrokenAft
 ghost use Rattle.swift_explorer.specs.declared.outcome.RunOutcome.{RunOutcome};
 ghost use Rattle.swift_explorer.specs.HistoryInside.{IsPath, WasDone};
 ghost use Rattle.swift_explorer.specs.EndsInside.{HasEnd, IsKnownEnd};
+ghost use Rattle.swift_explorer.specs.AheadInside.{StartsHold};
 ghost use Rattle.swift_explorer.specs.FusedInside.{AreTold, first_half};
+ghost use Rattle.swift_explorer.specs.SilentInside.{HaveMarks};
 ghost use Rattle.swift_explorer.specs.KeysInside.{IsKeyOf, outcome_bytes, end_numbers};
-ghost use Rattle.swift_explorer.specs.SearchInside.{AreKeyed, GoOn, HasGoneOn, HasGrown, IsAhead, IsExpandedAt, IsFollowedBy, IsNoted, IsSound, Keeps, MayGoOn, StepWasTried, WasTriedLast, path_after, paths_of};
+ghost use Rattle.swift_explorer.specs.SearchInside.{AreKeyed, GoOn, GoesFrom, HasGoneOn, HasGrown, IsAhead, IsExpandedAt, IsFollowedAhead, IsFollowedBy, IsNoted, IsSound, Keeps, MayGoOn, StepWasTried, WasTriedLast, path_after, paths_of};
 ghost use Rattle.swift_explorer.specs.Numbers.{list_numbers};
 
 use crate::away::methods_look_away;
@@ -20,6 +22,7 @@ use crate::keys::{pack, put_ending, put_fields, put_origin};
 use crate::moves::Move;
 use crate::outcome::{End, RunOutcome};
 use crate::queue::{KeptHistory, put_history, spare_copy, take_history};
+use crate::silent::methods_marks;
 use std::alloc::{AllocError, Global};
 use std::collections::HashMap;
 use std::sync::Arc;
@@ -42,6 +45,8 @@ pub(crate) struct Search {
     pub(crate) limit: usize,
     // Of each method, whether it looks away.
     pub(crate) away: Vec<bool>,
+    // Of each method, which of its instructions are silent.
+    pub(crate) marks: Vec<Vec<bool>>,
     pub(crate) nodes: Vec<Node>,
     // A key for each node.
     pub(crate) keys: KeySet,
@@ -219,6 +224,32 @@ fn followed(
     }
 }
 
+// Follows one more step than these, which were followed, and then silent turns, which are put to the last steps.
+fn follow_ahead(
+    history: &mut SearchedHistory,
+    away: &[bool],
+    marks: &[Vec<bool>],
+    path: &[Move],
+    last: Move,
+    moves: &mut Vec<Move>,
+) -> Result<Followed, AllocError>
+    requires path { IsPath (arc_value history.old.script) path.now history.old }
+    requires told { AreTold (arc_value history.old.script) away.now }
+    requires marked { HaveMarks (arc_value history.old.script) marks.now }
+    requires hold { StartsHold (arc_value history.old.script) }
+    ensures broken { IfOk result (λ f. f ≡ Followed.Broken → IsBrokenAfter (arc_value history.old.script) (path.now ++ last ∷ [])) }
+    ensures ahead { IfOk result (λ f. WasDone f → IsFollowedAhead (arc_value history.old.script) path.now last history.new f moves.old.items moves.new.items) }
+{
+    let done = follow_one(history, path, last)?;
+    if let Followed::No = done {
+        return Ok(Followed::No);
+    }
+    if let Followed::No = history.run_ahead(away, marks, moves)? {
+        return Ok(Followed::No);
+    }
+    Ok(done)
+}
+
 // What comes after a history.
 #[derive(Drop)]
 struct Ahead {
@@ -264,12 +295,15 @@ impl Search {
         ensures limit { IfOk result (λ x. x.limit ≡ limit) }
         ensures sound { IfOk result (IsSound (arc_value script.now)) }
     {
+        script.facts();
         let away = methods_look_away(alloc, script)?;
+        let marks = methods_marks(alloc, script)?;
         Ok(Search {
             alloc,
             script: Arc::clone(script)?,
             limit,
             away,
+            marks,
             nodes: Vec::new(alloc),
             keys: KeySet::new(alloc),
             outcomes: Vec::new(alloc),
@@ -324,26 +358,25 @@ impl Search {
         Ok(())
     }
 
-    // Follows one more step than these, which were followed, and keeps the history that they lead to. It is known by the last ones, after
-    // another.
+    // Follows one more step than these, which were followed, and then silent turns, and keeps the history that they lead to. It is known by
+    // the last steps, after another.
     fn try_last(
         &mut self,
         history: SearchedHistory,
         path: &[Move],
         last: Move,
         before: usize,
-        moves: Vec<Move>,
+        mut moves: Vec<Move>,
     ) -> Result<(), AllocError>
         requires sound { IsSound (arc_value self.old.script) self.old }
         requires followed { IsPath (arc_value self.old.script) path.now history }
-        requires before { MayGoOn (paths_of self.old.nodes.items) before }
-        requires path { path_after (paths_of self.old.nodes.items) before moves.items ≡ path.now ++ last ∷ [] }
+        requires path { GoesFrom (paths_of self.old.nodes.items) before moves.items (path.now ++ last ∷ []) }
         ensures grown { OnOk result (HasGrown self.old self.new) }
         ensures sound { OnOk result (IsSound (arc_value self.old.script) self.new) }
         ensures tried { OnOk result (IsTrue self.new.is_complete → WasTriedLast (arc_value self.old.script) self.new path.now last) }
     {
         let mut next = history;
-        match follow_one(&mut next, path, last) {
+        match follow_ahead(&mut next, &self.away, &self.marks, path, last, &mut moves) {
             Err(fault) => {
                 next.close();
                 Err(fault)

@@ -112,41 +112,51 @@ module _ (script : ScriptView) (on : ActorsHaveExecutors script) (cps : List Che
     pub one : HasAhead (h ++ step)
     pub ends : EndsTried step
 
-  module _ (leads : (h step : List Block) → Kept h → MayStep script cps h step → StepsAhead h step) where
-    -- past the turns that have run ahead
-    go_past : (h step : List Block) → AllStand script cps [] h → (one : HasAhead h) → AllStand script cps h step → AllAllowed (IsOrderly script) h step → AllStand script cps [] (h ++ step) → IsFusedStep script h step → EachOther script cps hold one.turns step
-        → ((t n : ℕ) (env : Env) (bs : List Block) → step ≡ begun t n env ∷ bs → NoTask t one.turns) → NextAhead h step
-    go_past h step all one stands may both fused other none =
-        let p = pass_all script cps hold step h one.turns all stands may one.run other in
-        let far : List Block = after_turns h one.turns in
-        let far_stand = turns_stand script cps one.turns h all one.run in
-        let o = carry_same script cps p.rest far one.kept far_stand (stand one.kept one.is_kept) one.lead p.stand p.orderly in
-        let like = like_on script cps step p.rest o.rest p.like o.like in
-        let is = fused_like script h one.kept step o.rest like
-        (λ t n env bs begins. sym (same_away script cps far one.kept one.lead.0 t) ∙ ap (job_looks_away script) (past_turns script cps hold t one.turns h all one.run (none t n env bs begins))) fused in
-        let k = leads one.kept o.rest one.is_kept (record { fused = is; stands = o.stand; orderly = o.orderly }) in
-        let mine : List Block = after_turns (h ++ step) p.others in
-        let mine_stand = turns_stand script cps p.others (h ++ step) both p.run in
-        let kept_stand = stand_all one.kept o.rest (stand one.kept one.is_kept) o.stand in
-        let same = same_on script cps mine (far ++ p.rest) (one.kept ++ o.rest) p.same o.same in
-        let more = turns_too script cps k.turns (one.kept ++ o.rest) mine kept_stand mine_stand (same_back script cps mine (one.kept ++ o.rest) same) k.run in
-        record {
-          one = record {
-            turns = p.others ++ more.others;
-            run = run_more script cps p.others more.others (h ++ step) p.run more.run;
-            tried = tried_more script cps hold Tried p.others more.others (tried_ends script cps hold Tried one.turns p.others p.ends one.tried) (tried_ends script cps hold Tried k.turns more.others more.ends k.also);
-            kept = k.kept;
-            is_kept = k.is_kept;
-            lead = subst (λ (bs : List Block). LeadAsOne script cps bs k.kept) (sym (turns_more p.others more.others (h ++ step)))
-                (same_on script cps (after_turns mine more.others) (after_turns (one.kept ++ o.rest) k.turns) k.kept (same_back script cps (after_turns (one.kept ++ o.rest) k.turns) (after_turns mine more.others) more.same) k.lead);
-          };
-          ends = λ e r has. (let x = exit_too script step o.rest e r like has in subst (Tried e) x.exit_is (k.ends e x.turn x.there));
-        }
-      where
-        stand_all : (xs ys : List Block) → AllStand script cps [] xs → AllStand script cps xs ys → AllStand script cps [] (xs ++ ys)
-        stand_all xs [] all more = subst (AllStand script cps []) (sym (append-nil xs)) all
-        stand_all xs (y ∷ ys) all more = subst (AllStand script cps []) (append_assoc xs (y ∷ []) ys) (stand_all (xs ++ y ∷ []) ys (all_push script cps xs [] y all more.0) more.1)
+  -- past the turns that have run ahead
+  go_past : (h step : List Block) → ((k rest : List Block) → Kept k → AreLike script step rest → MayStep script cps k rest → StepsAhead k rest) → AllStand script cps [] h → (one : HasAhead h) → AllStand script cps h step → AllAllowed (IsOrderly script) h step → AllStand script cps [] (h ++ step) → IsFusedStep script h step → EachOther script cps hold one.turns step
+      → ((t n : ℕ) (env : Env) (bs : List Block) → step ≡ begun t n env ∷ bs → NoTask t one.turns) → NextAhead h step
+  go_past h step leads all one stands may both fused other none =
+      let p = pass_all script cps hold step h one.turns all stands may one.run other in
+      let far : List Block = after_turns h one.turns in
+      let far_stand = turns_stand script cps one.turns h all one.run in
+      let o = carry_same script cps p.rest far one.kept far_stand (stand one.kept one.is_kept) one.lead p.stand p.orderly in
+      let like = like_on script cps step p.rest o.rest p.like o.like in
+      let is = fused_like script h one.kept step o.rest like
+      (λ t n env bs begins. sym (same_away script cps far one.kept one.lead.0 t) ∙ ap (job_looks_away script) (past_turns script cps hold t one.turns h all one.run (none t n env bs begins))) fused in
+      let k = leads one.kept o.rest one.is_kept like (record { fused = is; stands = o.stand; orderly = o.orderly }) in
+      let mine : List Block = after_turns (h ++ step) p.others in
+      let mine_stand = turns_stand script cps p.others (h ++ step) both p.run in
+      let kept_stand = stand_all one.kept o.rest (stand one.kept one.is_kept) o.stand in
+      let same = same_on script cps mine (far ++ p.rest) (one.kept ++ o.rest) p.same o.same in
+      let more = turns_too script cps k.turns (one.kept ++ o.rest) mine kept_stand mine_stand (same_back script cps mine (one.kept ++ o.rest) same) k.run in
+      record {
+        one = record {
+          turns = p.others ++ more.others;
+          run = run_more script cps p.others more.others (h ++ step) p.run more.run;
+          tried = tried_more script cps hold Tried p.others more.others (tried_ends script cps hold Tried one.turns p.others p.ends one.tried) (tried_ends script cps hold Tried k.turns more.others more.ends k.also);
+          kept = k.kept;
+          is_kept = k.is_kept;
+          lead = subst (λ (bs : List Block). LeadAsOne script cps bs k.kept) (sym (turns_more p.others more.others (h ++ step)))
+              (same_on script cps (after_turns mine more.others) (after_turns (one.kept ++ o.rest) k.turns) k.kept (same_back script cps (after_turns (one.kept ++ o.rest) k.turns) (after_turns mine more.others) more.same) k.lead);
+        };
+        ends = λ e r has. (let x = exit_too script step o.rest e r like has in subst (Tried e) x.exit_is (k.ends e x.turn x.there));
+      }
+    where
+      stand_all : (xs ys : List Block) → AllStand script cps [] xs → AllStand script cps xs ys → AllStand script cps [] (xs ++ ys)
+      stand_all xs [] all more = subst (AllStand script cps []) (sym (append-nil xs)) all
+      stand_all xs (y ∷ ys) all more = subst (AllStand script cps []) (append_assoc xs (y ∷ []) ys) (stand_all (xs ++ y ∷ []) ys (all_push script cps xs [] y all more.0) more.1)
 
+  -- a turn that has begun runs
+  pub go_run : (h : List Block) (e : ℕ) (r : RecordView) → ((k rest : List Block) → Kept k → AreLike script (ran e r ∷ []) rest → MayStep script cps k rest → StepsAhead k rest) → AllStand script cps [] h → HasAhead h
+      → AllStand script cps h (ran e r ∷ []) → AllAllowed (IsOrderly script) h (ran e r ∷ []) → AllStand script cps [] (h ++ ran e r ∷ []) → NextAhead h (ran e r ∷ [])
+  go_run h e r leads all one stands may both = elim (find r.task one.turns) [
+    | inl has ↦
+        let job = first_job script cps hold r.task one.turns h all one.run has in
+        absurd (false≢true (sym (ap is_begun job.1) ∙ ap is_begun stands.0.stands.has_begun))
+    | inr none ↦ go_past h (ran e r ∷ []) leads all one stands may both tt (other_run e r one.turns none script cps, tt) (λ t n env bs begins. absurd (cc begins))
+  ]
+
+  module _ (leads : (h step : List Block) → Kept h → MayStep script cps h step → StepsAhead h step) where
     -- the step is a turn that has run ahead
     go_own : (h : List Block) (t n : ℕ) (env : Env) (e : ℕ) (r : RecordView) → AllStand script cps [] h → (one : HasAhead h) → Stands script cps h (begun t n env) → Stands script cps (h ++ begun t n env ∷ []) (ran e r) → IsOrderly script h (begun t n env) → r.task ≡ t
         → HasTask t one.turns → NextAhead h (begun t n env ∷ ran e r ∷ [])
@@ -164,23 +174,21 @@ module _ (script : ScriptView) (on : ActorsHaveExecutors script) (cps : List Che
           ];
         }
 
+    by_leads : (step k rest : List Block) → Kept k → AreLike script step rest → MayStep script cps k rest → StepsAhead k rest
+    by_leads step k rest kept like may = leads k rest kept may
+
     pub go_on : (h step : List Block) → AllStand script cps [] h → HasAhead h → AllStand script cps h step → AllAllowed (IsOrderly script) h step → AllStand script cps [] (h ++ step) → IsFusedStep script h step → NextAhead h step
-    go_on h (added u ∷ []) all one stands may both is = go_past h (added u ∷ []) all one stands may both is (other_add u one.turns script cps, tt) (λ t n env bs begins. absurd (cc begins))
-    go_on h (ran e r ∷ []) all one stands may both is = elim (find r.task one.turns) [
-      | inl has ↦
-          let job = first_job script cps hold r.task one.turns h all one.run has in
-          absurd (false≢true (sym (ap is_begun job.1) ∙ ap is_begun stands.0.stands.has_begun))
-      | inr none ↦ go_past h (ran e r ∷ []) all one stands may both is (other_run e r one.turns none script cps, tt) (λ t n env bs begins. absurd (cc begins))
-    ]
+    go_on h (added u ∷ []) all one stands may both is = go_past h (added u ∷ []) (by_leads (added u ∷ [])) all one stands may both is (other_add u one.turns script cps, tt) (λ t n env bs begins. absurd (cc begins))
+    go_on h (ran e r ∷ []) all one stands may both is = go_run h e r (by_leads (ran e r ∷ [])) all one stands may both
     go_on h (begun t n env ∷ []) all one stands may both is = elim (find t one.turns) [
       | inl has ↦ (let job = first_job script cps hold t one.turns h all one.run has in absurd (false≢true (sym is ∙ job.0)))
-      | inr none ↦ go_past h (begun t n env ∷ []) all one stands may both is (other_begin t n env one.turns none script cps, tt) (λ u m other bs begins. subst (λ (v : ℕ). NoTask v one.turns) (begins_same begins) none)
+      | inr none ↦ go_past h (begun t n env ∷ []) (by_leads (begun t n env ∷ [])) all one stands may both is (other_begin t n env one.turns none script cps, tt) (λ u m other bs begins. subst (λ (v : ℕ). NoTask v one.turns) (begins_same begins) none)
     ] where
       begins_same : {u m : ℕ} {other : Env} {bs : List Block} → begun t n env ∷ [] ≡ begun u m other ∷ bs → t ≡ u
       begins_same is = cc is
     go_on h (begun t n env ∷ ran e r ∷ []) all one stands may both is = elim (find t one.turns) [
       | inl has ↦ go_own h t n env e r all one stands.0 stands.1.0 may.0 is.1 has
-      | inr none ↦ go_past h (begun t n env ∷ ran e r ∷ []) all one stands may both is (other_begin t n env one.turns none script cps, (other_run e r one.turns (subst (λ (v : ℕ). NoTask v one.turns) (sym is.1) none) script cps, tt))
+      | inr none ↦ go_past h (begun t n env ∷ ran e r ∷ []) (by_leads (begun t n env ∷ ran e r ∷ [])) all one stands may both is (other_begin t n env one.turns none script cps, (other_run e r one.turns (subst (λ (v : ℕ). NoTask v one.turns) (sym is.1) none) script cps, tt))
           (λ u m other bs begins. subst (λ (v : ℕ). NoTask v one.turns) (begins_same begins) none)
     ] where
       begins_same : {u m : ℕ} {other : Env} {bs : List Block} → begun t n env ∷ ran e r ∷ [] ≡ begun u m other ∷ bs → t ≡ u

@@ -96,7 +96,7 @@ module _ (script : ScriptView) (cps : List CheckpointView) where
   like_back (begun t n env) c like = subst (λ (x : Block). IsLike script x (begun t n env)) like refl
   like_back (folded e f) c like = subst (λ (x : Block). IsLike script x (folded e f)) like refl
 
-  same_push : (h k : List Block) (b c : Block) → Same h k → IsLike script b c → AllStand script cps [] (h ++ b ∷ []) → AllStand script cps [] (k ++ c ∷ []) → Same (h ++ b ∷ []) (k ++ c ∷ [])
+  pub same_push : (h k : List Block) (b c : Block) → Same h k → IsLike script b c → AllStand script cps [] (h ++ b ∷ []) → AllStand script cps [] (k ++ c ∷ []) → Same (h ++ b ∷ []) (k ++ c ∷ [])
   same_push h k b c same like all also = (lead_push script cps h k same.0 b c like all also, lead_push script cps k h same.1 c b (like_back b c like) also all)
 
   pub like_itself : (c : Block) → IsLike script c c

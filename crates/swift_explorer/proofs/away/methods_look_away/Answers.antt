@@ -1,4 +1,4 @@
-use Rattle.std.proofs.Common.{rules, ◌≡◌, ◌+◌, ◌∙◌, ℕ, length, true, refl, sym, subst, ap, arith}
+use Rattle.std.proofs.Common.{rules, ◌≡◌, ◌∙◌, ℕ, length, true, subst, ap, arith}
 use Rattle.std.proofs.lemmas.List.{length_push}
 use Rattle.script_code.specs.Layout.{code_at}
 use Rattle.swift_script.specs.Scripts.{method_code}

@@ -1,4 +1,4 @@
-use Rattle.std.proofs.Common.{◌≡◌, ◌∙◌, ap, sym, inl, inr, eqb-true}
+use Rattle.std.proofs.Common.{◌∙◌, ap, sym, inl, inr, eqb-true}
 use Rattle.std.specs.Prelude.{Some, nat_eq}
 use Rattle.swift_explorer.proofs.HistoriesTaken.{filled}
 use Rattle.swift_explorer.proofs.queue.put_history.Goals as goal

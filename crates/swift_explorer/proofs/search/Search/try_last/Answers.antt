@@ -1,33 +1,52 @@
-use Rattle.std.proofs.Common.{◌≡◌, List, [], ◌∷◌, ◌++◌, sym, subst, ap}
+use Rattle.std.proofs.Common.{◌≡◌, [], ◌∷◌, ◌++◌, sym, subst, ap}
 use Rattle.std.specs.Prelude.{IfSome}
 use Rattle.std.specs.Arc.{arc_value}
 use Rattle.std.proofs.lemmas.Result.{on_ok_weaker}
 use Rattle.swift_script.specs.Scripts.{ScriptView}
-use Rattle.swift_explorer.specs.declared.moves.Move.{Move}
 use Rattle.swift_explorer.specs.Outcomes.{IsBrokenAfter}
 use Rattle.swift_explorer.specs.HistoryInside.{IsPath, WasDone}
-use Rattle.swift_explorer.specs.SearchInside.{HasGrown, IsFollowedBy, IsSound}
+use Rattle.swift_explorer.specs.AheadInside.{StartsHold}
+use Rattle.swift_explorer.specs.FusedInside.{AreTold}
+use Rattle.swift_explorer.specs.SilentInside.{HaveMarks}
+use Rattle.swift_explorer.specs.SearchInside.{HasGrown, IsFollowedAhead, IsSound, paths_of}
 use Rattle.swift_explorer.proofs.Growing.{grown_on, like_grown}
 use Rattle.swift_explorer.proofs.Keeping.{keeps_none}
+use Rattle.swift_explorer.proofs.Nodes.{may_on}
 use Rattle.swift_explorer.proofs.Noting.{grown_breaks, is_not_none, sound_breaks}
-use Rattle.swift_explorer.proofs.Trying.{step_tried}
+use Rattle.swift_explorer.proofs.Trying.{kept_path, step_tried}
 use Rattle.swift_explorer.proofs.search.Search.try_last.Goals as goal
 
 pub keep-requires-in-Ok-Broken-clause-path : goal.keep-requires-in-Ok-Broken-clause-path
 keep-requires-in-Ok-Broken-clause-path c =
     let x = c.args.self.now in
-    let h = c.follow_one.new.history in
+    let h = c.follow_ahead.new.history in
     let script = arc_value x.script in
-    let path = c.args.path.now in
-    let done : WasDone c.in-Ok-Broken.field-0 = subst WasDone (sym c.in-Ok-Broken.field-0-is) tt in
-    subst (λ (ms : List Move). IsPath script ms h) (sym c.requires.path)
-    (subst (λ (s : ScriptView). IsPath s (path ++ c.args.last ∷ []) h) c.requires.followed.is.script_is (c.in-Ok-Broken.ensures.path done))
+    let f = c.in-Ok-Broken.field-0 in
+    let done : WasDone f = subst WasDone (sym c.in-Ok-Broken.field-0-is) tt in
+    let by = subst (λ (s : ScriptView). IsFollowedAhead s c.args.path.now c.args.last h f c.args.moves.items c.follow_ahead.new.moves.items) c.requires.followed.is.script_is (c.in-Ok-Broken.ensures.ahead done) in
+    kept_path script x h c.args.path.now c.args.last c.args.before c.args.moves.items c.follow_ahead.new.moves.items f c.requires.path by
+
+pub keep-requires-clause-path : goal.keep-requires-clause-path
+keep-requires-clause-path c =
+    let x = c.args.self.now in
+    let h = c.follow_ahead.new.history in
+    let script = arc_value x.script in
+    let f = c.in-Ok-Yes.field-0 in
+    let done : WasDone f = subst WasDone (sym c.in-Ok-Yes.field-0-is) tt in
+    let by = subst (λ (s : ScriptView). IsFollowedAhead s c.args.path.now c.args.last h f c.args.moves.items c.follow_ahead.new.moves.items) c.requires.followed.is.script_is (c.in-Ok-Yes.ensures.ahead done) in
+    kept_path script x h c.args.path.now c.args.last c.args.before c.args.moves.items c.follow_ahead.new.moves.items f c.requires.path by
+
+pub keep-requires-clause-before : goal.keep-requires-clause-before
+keep-requires-clause-before c = may_on (paths_of c.args.self.now.nodes.items) c.args.before c.requires.path.0 c.requires.path.1
+
+pub keep-requires-in-Ok-Broken-clause-before : goal.keep-requires-in-Ok-Broken-clause-before
+keep-requires-in-Ok-Broken-clause-before c = may_on (paths_of c.args.self.now.nodes.items) c.args.before c.requires.path.0 c.requires.path.1
 
 pub returns-in-Ok-No-clause-grown : goal.returns-in-Ok-No-clause-grown
-returns-in-Ok-No-clause-grown c = (keeps_none c.args.self.now c.follow_one.new.history c.requires.sound).grown
+returns-in-Ok-No-clause-grown c = (keeps_none c.args.self.now c.follow_ahead.new.history c.requires.sound).grown
 
 pub returns-in-Ok-No-clause-sound : goal.returns-in-Ok-No-clause-sound
-returns-in-Ok-No-clause-sound c = (keeps_none c.args.self.now c.follow_one.new.history c.requires.sound).sound
+returns-in-Ok-No-clause-sound c = (keeps_none c.args.self.now c.follow_ahead.new.history c.requires.sound).sound
 
 pub returns-in-Ok-Yes-clause-grown : goal.returns-in-Ok-Yes-clause-grown
 returns-in-Ok-Yes-clause-grown c = on_ok_weaker c.keep.result (λ keeps. keeps.grown) c.keep.ensures.keeps
@@ -39,13 +58,13 @@ pub returns-in-Ok-Yes-clause-tried : goal.returns-in-Ok-Yes-clause-tried
 returns-in-Ok-Yes-clause-tried c =
     let x = c.args.self.now in
     let z = c.keep.new.self in
-    let h = c.follow_one.new.history in
+    let h = c.follow_ahead.new.history in
     let script = arc_value x.script in
     let path = c.args.path.now in
     let f = c.in-Ok-Yes.field-0 in
     let done : WasDone f = subst WasDone (sym c.in-Ok-Yes.field-0-is) tt in
-    let by = subst (λ (s : ScriptView). IsFollowedBy s path c.args.last h f) c.requires.followed.is.script_is (c.in-Ok-Yes.ensures.last done) in
-    on_ok_weaker c.keep.result (λ keeps is. step_tried script z path c.args.last h f by (keeps.kept is) (λ _. c.in-Ok-Yes.field-0-is)) c.keep.ensures.keeps
+    let by = subst (λ (s : ScriptView). IsFollowedAhead s path c.args.last h f c.args.moves.items c.follow_ahead.new.moves.items) c.requires.followed.is.script_is (c.in-Ok-Yes.ensures.ahead done) in
+    on_ok_weaker c.keep.result (λ keeps is. step_tried script z path c.args.last h f c.args.moves.items c.follow_ahead.new.moves.items by (keeps.kept is) (λ _. c.in-Ok-Yes.field-0-is)) c.keep.ensures.keeps
 
 pub returns-in_ok-keep-in-Ok-Broken-clause-grown : goal.returns-in_ok-keep-in-Ok-Broken-clause-grown
 returns-in_ok-keep-in-Ok-Broken-clause-grown c =
@@ -72,16 +91,16 @@ returns-in_ok-keep-in-Ok-Broken-clause-tried c =
     let x = c.args.self.now in
     let s = c.keep-in-Ok-Broken.new.self in
     let z = c.note_broken.new.self in
-    let h = c.follow_one.new.history in
+    let h = c.follow_ahead.new.history in
     let script = arc_value x.script in
     let path = c.args.path.now in
     let f = c.in-Ok-Broken.field-0 in
     let done : WasDone f = subst WasDone (sym c.in-Ok-Broken.field-0-is) tt in
-    let by = subst (λ (sc : ScriptView). IsFollowedBy sc path c.args.last h f) c.requires.followed.is.script_is (c.in-Ok-Broken.ensures.last done) in
+    let by = subst (λ (sc : ScriptView). IsFollowedAhead sc path c.args.last h f c.args.moves.items c.follow_ahead.new.moves.items) c.requires.followed.is.script_is (c.in-Ok-Broken.ensures.ahead done) in
     let keeps = c.in_ok-keep-in-Ok-Broken.ensures.keeps in
     on_ok_weaker c.note_broken.result (λ some is.
     (let grown = subst (HasGrown s) (sym c.note_broken.ensures.rest) (grown_breaks s z.broken some) in
-    step_tried script z path c.args.last h f by (λ blocks of. like_grown script s z blocks grown (keeps.kept (grown.complete is) blocks of)) (λ none. absurd (is_not_none z.broken some none))))
+    step_tried script z path c.args.last h f c.args.moves.items c.follow_ahead.new.moves.items by (λ blocks of. like_grown script s z blocks grown (keeps.kept (grown.complete is) blocks of)) (λ none. absurd (is_not_none z.broken some none))))
     c.note_broken.ensures.noted
 
 pub note_broken-requires-clause-broken : goal.note_broken-requires-clause-broken
@@ -90,5 +109,15 @@ note_broken-requires-clause-broken c =
     let own : arc_value c.keep-in-Ok-Broken.new.self.script ≡ arc_value c.args.self.now.script = ap arc_value c.in_ok-keep-in-Ok-Broken.ensures.keeps.grown.script in
     subst (λ (s : ScriptView). IsBrokenAfter s steps) (sym own) (subst (λ (s : ScriptView). IsBrokenAfter s steps) c.requires.followed.is.script_is (c.in-Ok-Broken.ensures.broken c.in-Ok-Broken.field-0-is))
 
-pub follow_one-requires : goal.follow_one-requires
-follow_one-requires c = subst (λ (s : ScriptView). IsPath s c.args.path.now c.args.history) (sym c.requires.followed.is.script_is) c.requires.followed
+pub follow_ahead-requires : goal.follow_ahead-requires
+follow_ahead-requires c =
+    let x = c.args.self.now in
+    let script = arc_value c.args.history.script in
+    let own = sym c.requires.followed.is.script_is in
+    let sound = c.requires.sound in
+    record {
+      path = subst (λ (s : ScriptView). IsPath s c.args.path.now c.args.history) own c.requires.followed;
+      told = subst (AreTold script) (sym c.deref.ensures.value) (subst (λ (s : ScriptView). AreTold s x.away.items) own sound.told);
+      marked = subst (HaveMarks script) (sym c.deref-2.ensures.value) (subst (λ (s : ScriptView). HaveMarks s x.marks.items) own sound.marked);
+      hold = subst StartsHold own sound.hold;
+    }

@@ -1,17 +1,15 @@
-use Rattle.std.proofs.Common.{◌≡◌, ◌∙◌, List, [], ◌∷◌, ◌++◌, append_assoc, sym, subst, ap, rules}
+use Rattle.std.proofs.Common.{◌∙◌, List, [], ◌∷◌, ◌++◌, append_assoc, sym, subst, ap, rules}
 use Rattle.std.specs.Arc.{arc_value}
 use Rattle.std.proofs.lemmas.Result.{on_ok_weaker}
 use Rattle.swift_script.specs.Scripts.{ScriptView}
 use Rattle.swift_explorer.specs.declared.moves.Move.{Move}
 use Rattle.swift_explorer.specs.FusedInside.{first_half}
 use Rattle.swift_explorer.specs.HistoryInside.{IsPath}
-use Rattle.swift_explorer.specs.SearchInside.{WasTriedLast, paths_of}
-use Rattle.swift_explorer.proofs.Nodes.{may_on, path_on}
+use Rattle.swift_explorer.specs.SearchInside.{WasTriedLast}
 use Rattle.swift_explorer.proofs.search.Search.try_step.Goals as goal
 
 pub try_last-requires : goal.try_last-requires
 try_last-requires c =
-    let paths = paths_of c.args.self.now.nodes.items in
     let path = c.args.path.now in
     let first = first_half c.args.step in
     let last = c.last-last.result in
@@ -22,8 +20,7 @@ try_last-requires c =
     record {
       sound = c.requires.sound;
       followed = subst (λ (ms : List Move). IsPath script ms c.in-Some.next) (sym front) (subst (λ (s : ScriptView). IsPath s (path ++ first) c.in-Some.next) c.requires.followed.is.script_is led);
-      before = may_on paths c.args.before path c.requires.path;
-      path = path_on paths c.args.before c.push.new.self.items path c.requires.path ∙ ap (λ (ms : List Move). path ++ ms) moves ∙ sym (append_assoc path first (last ∷ [])) ∙ ap (λ (ms : List Move). ms ++ last ∷ []) (sym front);
+      path = (path, c.requires.path, ap (λ (ms : List Move). path ++ ms) moves ∙ sym (append_assoc path first (last ∷ [])) ∙ ap (λ (ms : List Move). ms ++ last ∷ []) (sym front));
     }
 
 pub returns-clause-tried : goal.returns-clause-tried

@@ -1,0 +1,83 @@
+-- A turn is tried, and its task has what it had before.
+use Rattle.std.proofs.Common.{◌≡◌, ℕ, ℤ, List, [], ◌∷◌, ◌++◌, Vec, refl, sym, subst, ap, ap₂, ◌∙◌, inl, inr}
+use Rattle.std.specs.Prelude.{Option, Some, None, if◌then◌else◌}
+use Rattle.std.specs.Option.{option_map}
+use Rattle.std.specs.declared.alloc.Global.{Global}
+use Rattle.std.proofs.lemmas.Bool.{cases_eq}
+use Rattle.swift_types.specs.declared.env.Env.{Env}
+use Rattle.swift_types.specs.declared.outcome.Resume.{Resume}
+use Rattle.swift_script.specs.Scripts.{ScriptView}
+use Rattle.swift_interpreter.specs.Frames.{FrameView}
+use Rattle.swift_interpreter.specs.Turn.{EffectView, ExitView, Played}
+use Rattle.swift_turn.specs.Body.{HasFrames, IfRunning, Polls, callers_of, entered, kept_turn, left}
+use Rattle.swift_history.specs.TurnEnds.{JobFacts}
+use Rattle.swift_explorer.specs.declared.waiting.Ready.{Ready}
+use Rattle.swift_explorer.specs.declared.history.SearchedHistory.{SearchedHistory}
+use Rattle.std.specs.Arc.{arc_value}
+use Rattle.swift_explorer.specs.declared.moves.Move.{Move}
+use Rattle.swift_explorer.specs.declared.history.Followed.{Followed}
+use Rattle.swift_explorer.specs.AheadInside.{IsAsBefore}
+use Rattle.swift_explorer.specs.HistoryInside.{AreGiven, GoesOn, IsHistory, IsReadyOf, IsSomeHistory, given_at, given_view, with_given}
+use Rattle.swift_explorer.proofs.Given.{equal, of_put, of_taken, unequal}
+
+given_near : (seen : ℕ → Option JobFacts) (tasks between tasks' : List (Option Ready)) (t : ℕ) (g k : Ready) → given_at tasks t ≡ Some g → ((u : ℕ) → given_at between u ≡ with_given t None (given_at tasks) u)
+    → ((u : ℕ) → given_at tasks' u ≡ with_given t (Some k) (given_at between) u) → given_view t g ≡ given_view t k → AreGiven seen tasks → AreGiven seen tasks'
+given_near seen tasks between tasks' t g k was took put same given u = elim (cases_eq u t) [
+  | inl e ↦
+      let here : given_at tasks' u ≡ Some k = put u ∙ ap (λ b. if b then Some k else given_at between u) (equal u t e) in
+      let before : given_at tasks u ≡ Some g = ap (given_at tasks) e ∙ was in
+      given u ∙ ap (option_map (given_view u)) before ∙ ap Some (subst (λ (v : ℕ). given_view v g ≡ given_view v k) (sym e) same) ∙ sym (ap (option_map (given_view u)) here)
+  | inr ne ↦
+      let here : given_at tasks' u ≡ given_at tasks u =
+      put u ∙ ap (λ b. if b then Some k else given_at between u) (unequal u t ne) ∙ took u ∙ ap (λ b. if b then None else given_at tasks u) (unequal u t ne) in
+      given u ∙ ap (option_map (given_view u)) (sym here)
+]
+
+pub as_before : (x : SearchedHistory) (between : List (Option Ready)) (tasks : Vec (Option Ready) Global) (t : ℕ) (g k : Ready) → given_at x.tasks.items t ≡ Some g → ((u : ℕ) → given_at between u ≡ with_given t None (given_at x.tasks.items) u)
+    → ((u : ℕ) → given_at tasks.items u ≡ with_given t (Some k) (given_at between) u) → given_view t g ≡ given_view t k → ((script : ScriptView) → IsReadyOf script g → IsReadyOf script k) → IsAsBefore x (record x { tasks = tasks })
+as_before x between tasks t g k was took put same ready = record {
+  script_is = refl;
+  roots = refl;
+  is = λ blocks h. record {
+    orderly = h.orderly;
+    script_is = h.script_is;
+    book_is = h.book_is;
+    none = h.none;
+    scripts = of_put _ between tasks.items t k (of_taken _ x.tasks.items between t h.scripts took) put (ready _ (h.scripts t g was));
+    used = h.used;
+    short = h.short;
+    led = record {
+      stand = h.led.stand;
+      none_folded = h.led.none_folded;
+      log_is = h.led.log_is;
+      held_is = h.led.held_is;
+      given = given_near _ x.tasks.items between tasks.items t g k was took put same h.led.given;
+      many = h.led.many;
+      fields_are = h.led.fields_are;
+      roots_are = h.led.roots_are;
+    };
+  };
+}
+
+pub unchanged : (x : SearchedHistory) → IsAsBefore x x
+unchanged x = record { script_is = refl; roots = refl; is = λ blocks h. h }
+
+-- of a turn that was played
+
+pub frames_back : (script : ScriptView) (outer : List (ℕ × ℤ)) (fs gs : List FrameView) (rows rows' : List (List ℤ)) (resume : Resume) (env : Env) (effects : List EffectView) (exit : ExitView) (p : FrameView)
+    → HasFrames fs → IfRunning fs (λ q. q ≡ p) → Polls script outer fs (entered rows resume env) gs (left rows' effects exit) → fs ≡ p ∷ callers_of gs
+frames_back script outer [] gs rows rows' resume env effects exit p has is polls = absurd has
+frames_back script outer (q ∷ callers) [] rows rows' resume env effects exit p has is polls = absurd polls
+frames_back script outer (q ∷ callers) (k ∷ others) rows rows' resume env effects exit p has is polls = ap₂ (λ (x : FrameView) (xs : List FrameView). x ∷ xs) is (sym polls.0)
+
+pub exit_of : (script : ScriptView) (outer : List (ℕ × ℤ)) (fs gs : List FrameView) (rows rows' : List (List ℤ)) (resume : Resume) (env : Env) (effects : List EffectView) (exit : ExitView) (P : ExitView → Type 0)
+    → HasFrames fs → Polls script outer fs (entered rows resume env) gs (left rows' effects exit) → P exit → IfRunning fs (λ p. P (kept_turn script p outer rows resume env).exit)
+exit_of script outer [] gs rows rows' resume env effects exit P has polls holds = absurd has
+exit_of script outer (p ∷ callers) [] rows rows' resume env effects exit P has polls holds = absurd polls
+exit_of script outer (p ∷ callers) (q ∷ others) rows rows' resume env effects exit P has polls holds = subst P (ap (λ (k : Played). k.exit) polls.1.1) holds
+
+pub before_some : (x y : SearchedHistory) → IsAsBefore x y → IsSomeHistory x → IsSomeHistory y
+before_some x y before some = (some.0, subst (λ (s : ScriptView). IsHistory s some.0 y) (sym (ap arc_value before.script_is)) (before.is some.0 some.1))
+
+pub goes_some : (m : Move) (x y : SearchedHistory) (f : Followed) → y.script ≡ x.script → GoesOn m x y f → IsSomeHistory x → IsSomeHistory y
+goes_some m x y f same goes some = (let one = goes some.0 some.1 in (some.0 ++ one.0 ∷ [], subst (λ (s : ScriptView). IsHistory s (some.0 ++ one.0 ∷ []) y) (sym (ap arc_value same)) one.2))

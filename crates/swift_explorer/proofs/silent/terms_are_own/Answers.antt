@@ -1,0 +1,12 @@
+use Rattle.std.proofs.Common.{◌+◌, drop, Bool, sym, ap, ◌∙◌}
+use Rattle.std.specs.Prelude.{◌&&◌}
+use Rattle.script_code.specs.Tree.{terms_of}
+use Rattle.swift_reordering.specs.Silent.{terms_are_own}
+use Rattle.swift_explorer.proofs.SilentMarks.{own_from}
+use Rattle.swift_explorer.proofs.silent.terms_are_own.Goals as goal
+
+pub loop-formula-preserved : goal.loop-formula-preserved
+loop-formula-preserved c =
+    let xs = c.args.formulas.now in
+    let i = c.loop-formula.formula-index in
+    sym (own_from xs i c.formula-item.result c.loop-formula-test.true c.formula-item.is ∙ ap (λ (b : Bool). b && terms_are_own (terms_of (drop (i + 1) xs))) (sym c.if-not-term_is_own.ensures)) ∙ c.loop-formula.invariant

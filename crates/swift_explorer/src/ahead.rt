@@ -1,0 +1,211 @@
+//! Silent turns that run at once, ahead of what may come in between.
+
+ghost use Rattle.std.specs.Prelude.{◌≡◌, IfOk, IsTrue, OnOk, Some, true};
+ghost use Rattle.std.specs.Arc.{arc_value};
+ghost use Rattle.swift_script.specs.Scripts.{ScriptView};
+ghost use Rattle.swift_interpreter.specs.TurnStates.{exit_view};
+ghost use Rattle.swift_turn.specs.Body.{IfRunning, IsRunning};
+ghost use Rattle.swift_reordering.specs.Silent.{frame_is_silent};
+ghost use Rattle.swift_explorer.specs.declared.waiting.Ready.{Ready};
+ghost use Rattle.swift_explorer.specs.AheadInside.{GoesAlone, GoesOnAtOnce, IsAsBefore, IsNotLost, IsQuietAt, RunsAhead, RunsTurn, StartsHold};
+ghost use Rattle.swift_explorer.specs.FusedInside.{AreTold};
+ghost use Rattle.swift_explorer.specs.HistoryInside.{IsSomeHistory, WasDone, given_at};
+ghost use Rattle.swift_explorer.specs.SilentInside.{HaveMarks};
+
+use crate::history::{Followed, SearchedHistory, copy_of};
+use crate::moves::Move;
+use crate::silent::is_marked;
+use crate::waiting::{put, take};
+use std::alloc::AllocError;
+use swift_interpreter::Exit;
+use swift_turn::{Body, TurnOutcome, replay_turn};
+use swift_types::{Env, Priority, TaskId};
+
+// At most so many turns run at once.
+const AHEAD: usize = 100_000;
+
+// What has come of a turn that was to run ahead.
+#[derive(Clone, Copy)]
+pub(crate) enum TurnAhead {
+    // It has run.
+    Ran,
+    // It may not, and the history is as it was.
+    Stays,
+    // It could not be followed. What is left of the history means nothing.
+    Lost,
+}
+
+// Whether a turn that ends so calls or gives way.
+fn goes_on(exit: &Exit) -> bool
+    ensures { IsTrue result → GoesOnAtOnce (exit_view exit.now) }
+{
+    match exit {
+        Exit::Call(_) | Exit::Yield => true,
+        _ => false,
+    }
+}
+
+// Whether the next turn of a task with these frames is silent.
+fn body_is_silent(body: &Body, marks: &[Vec<bool>]) -> bool
+    requires { IsRunning body.now }
+    ensures { IsTrue result → (script : ScriptView) → HaveMarks script marks.now → IfRunning body.now.task.frames (λ p. frame_is_silent script p ≡ true) }
+{
+    let frame = body.top();
+    if frame.pending.is_some() {
+        return true;
+    }
+    match marks.get(frame.method.0 as usize) {
+        Some(own) => is_marked(own, frame.instruction),
+        None => false,
+    }
+}
+
+impl SearchedHistory {
+    // Whether the next turn of a task is silent.
+    fn is_silent(&self, marks: &[Vec<bool>], task: TaskId) -> bool
+        ensures { IsTrue result → HaveMarks (arc_value self.now.script) marks.now → (g : Ready) → given_at self.now.tasks.items task.0 ≡ Some g → IfRunning g.body.task.frames (λ p. frame_is_silent (arc_value self.now.script) p ≡ true) }
+    {
+        let place = task.0 as usize;
+        if place >= self.tasks.len() {
+            return false;
+        }
+        let Some(ready) = &self.tasks[place] else {
+            return false;
+        };
+        ready.body.is_running() && body_is_silent(&ready.body, marks)
+    }
+
+    // Whether the next turn of a task is silent, and looks away.
+    fn is_quiet(&self, away: &[bool], marks: &[Vec<bool>], task: TaskId) -> bool
+        ensures { IsTrue result → AreTold (arc_value self.now.script) away.now → HaveMarks (arc_value self.now.script) marks.now → IsQuietAt self.now task }
+    {
+        self.is_silent(marks, task) && self.looks_away(away, task)
+    }
+
+    // Whether the next turn of a task at an executor would call or give way, where it looks at nothing. The history is as before.
+    fn goes_alone(&mut self, task: TaskId, place: usize) -> Result<bool, AllocError>
+        requires { IsSomeHistory self.old }
+        ensures script { self.new.script ≡ self.old.script }
+        ensures same { OnOk result (IsAsBefore self.old self.new) }
+        ensures alone { IfOk result (λ alone. IsTrue alone → GoesAlone self.old task place) }
+    {
+        if place >= self.fields.len() {
+            return Ok(false);
+        }
+        let fields = copy_of(self.alloc, &self.fields[place])?;
+        let Some(mut ready) = take(&mut self.tasks, task) else {
+            return Ok(false);
+        };
+        let frame = ready.body.frame()?;
+        let env = Env {
+            priority: Priority::Background,
+            cancelled: false,
+            room: 0,
+        };
+        let Ok(
+            TurnOutcome {
+                fields: _,
+                effects: _,
+                exit,
+            },
+        ) = replay_turn(&mut ready.body, fields, ready.resume, env)
+        else {
+            return Err(AllocError);
+        };
+        ready.body.put_back(frame);
+        put(&mut self.tasks, task, ready)?;
+        Ok(goes_on(&exit))
+    }
+
+    // The next turn of a task runs, where it is silent and goes on at once.
+    #[tactic(auto, using(crate::proofs::Trial::unchanged))]
+    fn run_one(
+        &mut self,
+        away: &[bool],
+        marks: &[Vec<bool>],
+        task: TaskId,
+    ) -> Result<TurnAhead, AllocError>
+        requires history { IsSomeHistory self.old }
+        requires told { AreTold (arc_value self.old.script) away.now }
+        requires marked { HaveMarks (arc_value self.old.script) marks.now }
+        requires hold { StartsHold (arc_value self.old.script) }
+        ensures script { self.new.script ≡ self.old.script }
+        ensures stays { IfOk result (λ a. a ≡ TurnAhead.Stays → IsAsBefore self.old self.new) }
+        ensures ran { IfOk result (λ a. a ≡ TurnAhead.Ran → RunsTurn self.old self.new task) }
+    {
+        if !self.can_begin(task) || !self.is_quiet(away, marks, task) {
+            return Ok(TurnAhead::Stays);
+        }
+        let Some(place) = self.executor_of(task) else {
+            return Ok(TurnAhead::Stays);
+        };
+        if !self.goes_alone(task, place)? {
+            return Ok(TurnAhead::Stays);
+        }
+        if let Followed::No = self.step(Move::Begin(task))? {
+            return Ok(TurnAhead::Lost);
+        }
+        match self.step(Move::Run(task))? {
+            Followed::No => Ok(TurnAhead::Lost),
+            _ => Ok(TurnAhead::Ran),
+        }
+    }
+
+    // The next turn of a task runs, where it is silent and goes on at once, and is put to these steps.
+    #[tactic(auto, using(crate::proofs::RunningAhead::stays_ahead, crate::proofs::RunningAhead::ran_ahead))]
+    fn run_and_push(
+        &mut self,
+        away: &[bool],
+        marks: &[Vec<bool>],
+        task: TaskId,
+        moves: &mut Vec<Move>,
+    ) -> Result<TurnAhead, AllocError>
+        requires history { IsSomeHistory self.old }
+        requires told { AreTold (arc_value self.old.script) away.now }
+        requires marked { HaveMarks (arc_value self.old.script) marks.now }
+        requires hold { StartsHold (arc_value self.old.script) }
+        ensures { IfOk result (λ a. IsNotLost a → RunsAhead self.old self.new moves.old.items moves.new.items) }
+    {
+        match self.run_one(away, marks, task)? {
+            TurnAhead::Lost => Ok(TurnAhead::Lost),
+            TurnAhead::Stays => Ok(TurnAhead::Stays),
+            TurnAhead::Ran => {
+                moves.push(Move::Begin(task))?;
+                moves.push(Move::Run(task))?;
+                Ok(TurnAhead::Ran)
+            }
+        }
+    }
+
+    // Silent turns run, task by task, and are put to these steps.
+    pub(crate) fn run_ahead(
+        &mut self,
+        away: &[bool],
+        marks: &[Vec<bool>],
+        moves: &mut Vec<Move>,
+    ) -> Result<Followed, AllocError>
+        requires history { IsSomeHistory self.old }
+        requires told { AreTold (arc_value self.old.script) away.now }
+        requires marked { HaveMarks (arc_value self.old.script) marks.now }
+        requires hold { StartsHold (arc_value self.old.script) }
+        ensures { IfOk result (λ f. WasDone f → RunsAhead self.old self.new moves.old.items moves.new.items) }
+    {
+        let mut place: usize = 0;
+        'turns: for _ in 0..AHEAD {
+            let Ok(number) = u32::try_from(place) else {
+                return Ok(Followed::Yes);
+            };
+            if place >= self.tasks.len() {
+                return Ok(Followed::Yes);
+            }
+            let ran = self.run_and_push(away, marks, TaskId(number), moves)?;
+            if let TurnAhead::Lost = ran {
+                return Ok(Followed::No);
+            }
+            if let TurnAhead::Stays = ran {
+                place += 1;
+            }
+        }
+        Ok(Followed::Yes)
+    }
+}
