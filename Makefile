@@ -103,6 +103,10 @@ links:
 believe:
 	@tools/believe.py --check && echo "docs/PROVED.md says on how many definitions the text of a run rests"
 
+# Whether docs/PROVED.md has the counts of crates, lines and planted bugs: tools/counts.py --write puts them there.
+counts:
+	@tools/counts.py --check
+
 # Tests the tools: what the gate trusts some of them for, and whether tools/outcomes.py lists as many outcomes as were worked out by hand.
 tools:
 	@tools/tools_test.py
@@ -118,4 +122,4 @@ cases: $(PROGRAM) $(DAILY)
 bench: $(PROGRAM) $(TESTERS)
 	@python3 bench/run.py
 
-.PHONY: try run nuchapay test prove planted mutants examples limits one_core page pages marks reports swift install refusals links believe cases tools bench
+.PHONY: try run nuchapay test prove planted mutants examples limits one_core page pages marks reports swift install refusals links believe counts cases tools bench

@@ -5,9 +5,8 @@ cd "$(dirname "$0")/.."
 crates=$(ls -d crates/*/src | wc -l)
 cat <<TXT
 This proves those of $crates crates that have not passed on this machine before, tries a planted bug of each row of the table
-in docs/THEOREMS.md, which the prover has to refuse, runs all tests and programs, the examples, and cases once for each of a sample of their
-allocations, with that one refused. From nothing it takes some 90 minutes on two cores at a time, at a slow hour, and uses three
-of four; it prints little until its end.
+in docs/THEOREMS.md, which the prover has to refuse, runs all tests and programs, the examples, and cases once for each of a sample of
+their allocations, with that one refused. README.md says how long that takes; it prints little until its end.
 TXT
 log=$(mktemp)
 # One core for each check, and three checks at once where there are four cores, each of which takes 1 to 5 GB: more cores for a check take
@@ -22,8 +21,8 @@ failed=$(sed -nE 's/^([0-9]+) passed, ([0-9]+) failed.*/\2/p' <<<"$last")
 if [ -z "$passed" ]; then exit 1; fi
 [ "$status" -eq 0 ] || [ "$failed" -gt 0 ] || failed=1
 # These run what was just proved. Where it was not, they would prove it once more before they fail.
-steps="links believe tools planted cases examples limits one_core pages marks reports refusals"
-if [ "$failed" -gt 0 ]; then steps="links believe tools"; echo "not tried, since rt ci failed: planted, cases, examples, limits, one_core, pages, marks, reports, refusals"; fi
+steps="links believe counts tools planted cases examples limits one_core pages marks reports refusals"
+if [ "$failed" -gt 0 ]; then steps="links believe counts tools"; echo "not tried, since rt ci failed: planted, cases, examples, limits, one_core, pages, marks, reports, refusals"; fi
 for step in $steps; do
     if make --no-print-directory "$step"; then passed=$((passed + 1)); else failed=$((failed + 1)); fi
 done

@@ -17,6 +17,7 @@ sys.dont_write_bytecode = True
 sys.path.insert(0, os.path.dirname(os.path.abspath(__file__)))
 import believe
 import cases
+import counts
 import examples
 import marks
 import mutants
@@ -303,6 +304,34 @@ class Marks(unittest.TestCase):
         self.assertEqual(list(marks.told_faults(mistake, found)), [])
         for name, other in (("code", "S4"), ("column", 5), ("help", "d"), ("second", None), ("expected", "e")):
             self.assertNotEqual(list(marks.told_faults(mistake, {**found, name: other})), [], name)
+
+
+class Counts(Folder):
+    def setUp(self):
+        super().setUp()
+        write(os.path.join(self.folder, "crates"), TREE)
+        write(self.folder, {
+            "crates/low/proofs/A.antt": "-- a lemma\n\na : ℕ\na = 0\n",
+            "crates/low/mutants/give__one.edit": "file: src/part.rt\n",
+            "docs/THEOREMS.md": "# Theorems\n\n## Planted bugs\n\n| [give__one](../crates/low/mutants/give__one.edit) |\n\n### Others\n",
+        })
+        was = counts.TOP
+        counts.TOP = self.folder
+        self.addCleanup(setattr, counts, "TOP", was)
+
+    def test_what_is_counted(self):
+        self.assertEqual(counts.crates(), ["high", "low"])
+        self.assertEqual(counts.lines("low", "proofs", ".antt", "--"), 2)
+        self.assertEqual(counts.lines("low", "specs", ".antt", "--"), 11)
+        self.assertEqual(counts.in_table(), 1)
+        self.assertEqual((counts.rounded(1499, 1000), counts.rounded(1500, 1000)), ("1,000", "2,000"))
+
+    def test_the_page(self):
+        table = counts.table()
+        self.assertIn("| crates | 2 |", table)
+        self.assertEqual(counts.parts("a\n" + table + "\nb\n"), ("a\n", table, "\nb\n"))
+        with self.assertRaises(SystemExit):
+            counts.parts("a page without a table\n")
 
 
 class OneCore(Folder):

@@ -41,7 +41,6 @@ use crate::turn_answers::say_turn;
 use crate::values::{explained_turn, report_of};
 use nuchapay_tool::{
     Checked, Question, Request, Topic, check, check_json, explain, page_of, pretty, print, request,
-    translate,
 };
 use std::alloc::{AllocError, AllocGlobal};
 use std::env;
@@ -50,6 +49,7 @@ use std::process::ExitCode;
 use std::random::RandomSource;
 use std::sync::Wait;
 use std::thread::Threads;
+use swift_programs::translate;
 use swift_report::write_all;
 use swift_tool::{ToolFault, run_json, run_text};
 use swift_workers::Open;

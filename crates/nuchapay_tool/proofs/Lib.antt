@@ -5,5 +5,3 @@ pub mod LaidOut
 pub mod Laying
 mod Shown
 pub mod Standing
-pub mod Apart
-pub mod Wrote

@@ -12,8 +12,3 @@ pub mod Refusals
 pub mod Requests
 pub mod Sources
 pub mod Topics
-pub mod Translations
-pub mod Programs
-pub mod Outline
-pub mod Names
-pub mod LinesInside

@@ -43,10 +43,6 @@ mod schedule_words;
 mod source;
 // What can be explained.
 mod topic;
-// A script's protocol as a Swift program, from its tree.
-pub mod swift;
-// A script as a Swift program, from its text.
-mod translated;
 // The pages of the faults of a turn.
 mod turn_faults;
 // How a turn is named.
@@ -63,6 +59,5 @@ pub use pages::page_of;
 pub use printed::print;
 pub use requests::{PictureFormat, Question, Request, RunForm, ScheduleChoice, Source};
 pub use topic::{RunRefusal, Topic, TurnFault, find_topic};
-pub use translated::translate;
 pub use turn_names::{TurnName, TurnWord, turn_name, turn_word};
 pub use words::request;

@@ -1,8 +1,0 @@
-use Rattle.std.proofs.Common.{◌≡◌, map, take}
-use Rattle.std.specs.List.{flat_map}
-use Rattle.script_grammar.specs.Tree.{view_decl}
-use Rattle.nuchapay_tool.specs.Outline.{actor_in, actors_for}
-use Rattle.nuchapay_tool.proofs.swift.whole.actors.Given as goal
-
-abbrev pub invariant-loop-decl : goal.invariant-loop-decl
-invariant-loop-decl l = map actor_in l.actors.items ≡ flat_map actors_for (map view_decl (take l.decl-index l.decls))

@@ -1,0 +1,15 @@
+use Rattle.std.proofs.Common.{map}
+use Rattle.script_grammar.specs.Tree.{view_decl}
+use Rattle.swift_programs.specs.Translations.{IsSwiftOf}
+use Rattle.swift_programs.proofs.translated.translate.Goals as goal
+
+pub returns-clause-translated : goal.returns-clause-translated
+returns-clause-translated c = record {
+  script = c.in_ok-script.script;
+  accepted = c.in_ok-script.ensures.found;
+  decls = map view_decl c.in_ok-decls.decls.items;
+  spelled = c.in_ok-decls.ensures;
+  program = c.in_ok-program.program;
+  actors = rw c.deref.ensures.value at c.in_ok-program.ensures;
+  is = c.in_ok-spell.ensures;
+}
