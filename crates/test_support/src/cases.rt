@@ -3,7 +3,7 @@
 use crate::ends;
 use crate::fault::CaseFault;
 use crate::said::Said;
-use std::alloc::Global;
+use std::alloc::{AllocError, Global};
 
 /// A case.
 #[derive(Clone, Copy)]
@@ -45,8 +45,16 @@ impl<'a> Case<'a> {
         })
     }
 
-    /// What is written for it, where this is said of it.
+    /// What is written for it, where this is said of it. It is put together again where that is refused memory.
     pub fn written(&self, alloc: Global, said: &Said) -> Result<String, CaseFault> {
+        match self.joined(alloc, said) {
+            Ok(text) => Ok(text),
+            Err(AllocError) => Ok(self.joined(alloc, said)?),
+        }
+    }
+
+    // Its title, and what is said of it.
+    fn joined(&self, alloc: Global, said: &Said) -> Result<String, AllocError> {
         let mut out = Said::new(alloc);
         out.put("== ");
         out.put(self.title);
@@ -56,7 +64,7 @@ impl<'a> Case<'a> {
         } else {
             out.part(said);
         }
-        Ok(out.end()?)
+        out.end()
     }
 
     /// What is written for it, where this is said of it once it is made again, and that was said before it was refused memory.
