@@ -133,7 +133,7 @@ impl SearchedHistory {
         ensures stays { IfOk result (λ a. a ≡ TurnAhead.Stays → IsAsBefore self.old self.new) }
         ensures ran { IfOk result (λ a. a ≡ TurnAhead.Ran → RunsTurn self.old self.new task) }
     {
-        if !self.can_begin(task) || !self.is_quiet(away, marks, task) {
+        if !self.is_quiet(away, marks, task) || !self.can_begin(task) {
             return Ok(TurnAhead::Stays);
         }
         let Some(place) = self.executor_of(task) else {
