@@ -17,6 +17,7 @@ use Rattle.swift_executor.proofs.tasks.ReadyTasks.TheSendSync as ReadyTasks
 use Rattle.swift_interpreter.proofs.saved.SavedRows.TheSendSync as SavedRows
 use Rattle.swift_undo.proofs.rows.InvariantRows.TheSendSync as InvariantRows
 use Rattle.swift_executor.specs.contracts.fields.Fields as fields
+use Rattle.swift_executor.specs.contracts.home.Home as home
 use Rattle.swift_executor.specs.contracts.state.ExecState as state
 use Rattle.swift_executor.specs.contracts.resting.Resting as resting
 use Rattle.swift_executor.specs.contracts.resting.TakenState as held
@@ -51,8 +52,11 @@ fields_send = search (plain, SavedRows.the_send) depth 60 fits 20000
 pub played_send : IsSend (played.the_field).row
 played_send = search (plain, fields_send) depth 60 fits 20000
 
+home_send : IsSend home.the_row
+home_send = search (plain, script_send, script_sync, InvariantRows.the_send) depth 60 fits 20000
+
 state_send : IsSend state.the_row
-state_send = search (plain, script_send, script_sync, body_send, chosen_send, played_send, ReadyTasks.the_send, InvariantRows.the_send, Journal.the_send, Checkpoint.the_send) depth 60 fits 20000
+state_send = search (plain, script_send, script_sync, body_send, chosen_send, played_send, home_send, ReadyTasks.the_send, Journal.the_send, Checkpoint.the_send) depth 60 fits 20000
 
 pub book_seat_send : IsSend book_seat.the_row
 book_seat_send = search (plain, Badge.the_send) depth 60 fits 20000
