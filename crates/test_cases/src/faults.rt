@@ -9,6 +9,7 @@ use swift_workers::RunFault;
 const NO_MEMORY: ScriptFault = ScriptFault {
     line: 0,
     kind: ScriptFaultKind::Memory,
+    span: None,
 };
 
 /// What the program says of each fault of its own.

@@ -31,14 +31,18 @@ fn stretches(out: &mut Said, answers: &[Option<ScriptFault>]) {
     }
 }
 
-// Why a text is refused, if it is. A line more where it is accepted and its printed form is not read again.
+// Why a text is refused, if it is: the cause and the line, without the bytes that differ at each place. A line more where it is accepted and
+// its printed form is not read again.
 fn refusal(alloc: Global, text: &[u8], out: &mut Said) -> Result<Option<ScriptFault>, CaseFault> {
     match print_text(alloc, text)? {
         Ok(printed) => {
             check(&printed, out);
             Ok(None)
         }
-        Err(fault) => Ok(Some(fault)),
+        Err(fault) => Ok(Some(ScriptFault {
+            span: None,
+            ..fault
+        })),
     }
 }
 
