@@ -81,6 +81,8 @@ pub enum Question<'a> {
     Scheduled(ScheduleChoice<'a>, RunForm<'a>),
     /// Its Swift program.
     Swift,
+    /// Its plain Swift, without a runtime.
+    PlainSwift,
     /// The outcomes of its histories, of which at most so many are kept; and whether each of them is as these expectations say, and perhaps
     /// without a root that ends with a fault; as JSON where this says so.
     Explore {
