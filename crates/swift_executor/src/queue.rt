@@ -1,6 +1,6 @@
 //! A run queue of jobs, with room that was made at the start.
 
-ghost use Rattle.std.specs.Prelude.{◌≡◌, ◌≢◌, ℕ, ◌+◌, ◌<◌, ◌≤◌, ◌^◌, ◌↔◌, [], ◌∷◌, IfOk, IfSome, IfNone, IsSome, IsTrue, None, length, map, slice_set, false};
+ghost use Rattle.std.specs.Prelude.{◌≡◌, ◌≢◌, ℕ, ◌+◌, ◌<◌, ◌≤◌, ◌^◌, ◌↔◌, [], ◌∷◌, ◌++◌, IfOk, IfSome, IfNone, IsSome, IsTrue, None, OnOk, length, map, slice_set, false};
 ghost use Rattle.std.specs.List.Sorted.{IsPermutation};
 
 // A job that waits in a queue.
@@ -124,6 +124,13 @@ impl<B> Queue<B> {
         ensures { result ≡ self.now.arrived }
     {
         self.arrived
+    }
+
+    /// Puts the task of each job behind others, in no order that means anything.
+    pub fn list_tasks(&self, tasks: &mut Vec<TaskId>) -> Result<(), AllocError>
+        ensures { OnOk result (tasks.new.items ≡ tasks.old.items ++ map (λ w. w.job.task) self.now.jobs) }
+    {
+        self.lists.list_tasks(tasks)
     }
 
     /// Whether a job of the task is inside.

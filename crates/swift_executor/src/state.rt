@@ -108,11 +108,12 @@ impl ExecState {
         self.ready.has_room(taken)
     }
 
-    /// The tasks of the jobs that are ready, in an order that means nothing.
-    pub fn ready(&self) -> &[TaskId]
-        ensures { (t : TaskId) → times t result.now ≡ times t (tasks_in self.now.ready) }
+    /// The tasks of the jobs that are ready, in an order that means nothing. It takes memory and time for a list of them; an `Err` says
+    /// that there was no memory.
+    pub fn ready(&self, alloc: Global) -> Result<Vec<TaskId>, AllocError>
+        ensures { IfOk result (λ tasks. (t : TaskId) → times t tasks.items ≡ times t (tasks_in self.now.ready)) }
     {
-        self.ready.tasks()
+        self.ready.tasks(alloc)
     }
 
     /// The turns since the checkpoint, the oldest first.

@@ -1,12 +1,13 @@
 //! The list of one priority: jobs that wait, in the order of arrival.
 
-ghost use Rattle.std.specs.Prelude.{◌≡◌, ◌≢◌, ℕ, ◌<◌, ◌≤◌, ◌∷◌, All, IfSome, IfNone};
+ghost use Rattle.std.specs.Prelude.{◌≡◌, ◌≢◌, ℕ, ◌<◌, ◌≤◌, ◌∷◌, ◌++◌, All, IfSome, IfNone, OnOk, map};
 ghost use Rattle.std.specs.List.Sorted.{IsPermutation};
 ghost use Rattle.std.specs.VecDeque.{deque_len, deque_capacity};
 ghost use Rattle.swift_executor.specs.QueueInside.List.{HasArrival, IsByArrival, IsAtPlace};
 ghost use Rattle.swift_executor.specs.Queue.{IsWithout};
 
 use crate::queue::waiting::Waiting;
+use std::alloc::AllocError;
 use std::collections::VecDeque;
 use swift_types::TaskId;
 
@@ -60,4 +61,17 @@ pub(crate) fn insert_by_arrival<B>(list: &mut VecDeque<Waiting<B>>, waiting: Wai
         Ok(()) => {}
         Err(_refused) => unreachable!(),
     }
+}
+
+/// Puts the task of each job behind others.
+pub(crate) fn list_tasks<B>(
+    list: &VecDeque<Waiting<B>>,
+    tasks: &mut Vec<TaskId>,
+) -> Result<(), AllocError>
+    ensures { OnOk result (tasks.new.items ≡ tasks.old.items ++ map (λ w. w.job.task) list.now.items) }
+{
+    for place in 0..list.len() {
+        tasks.push(list[place].job.task())?;
+    }
+    Ok(())
 }

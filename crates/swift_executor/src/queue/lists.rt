@@ -1,6 +1,6 @@
 //! The lists of all priorities: jobs that wait, one list for each priority, in the order of arrival.
 
-ghost use Rattle.std.specs.Prelude.{◌≡◌, ◌≢◌, ℕ, ◌+◌, ◌<◌, ◌≤◌, ◌↔◌, [], ◌∷◌, All, IfOk, IfSome, IfNone, IsSome, IsTrue, length, map, false, slice_index_or};
+ghost use Rattle.std.specs.Prelude.{◌≡◌, ◌≢◌, ℕ, ◌+◌, ◌<◌, ◌≤◌, ◌↔◌, [], ◌∷◌, ◌++◌, All, IfOk, OnOk, IfSome, IfNone, IsSome, IsTrue, length, map, false, slice_index_or};
 ghost use Rattle.std.specs.List.{AllPairs};
 ghost use Rattle.std.specs.List.Sorted.{IsPermutation};
 ghost use Rattle.std.specs.VecDeque.{deque_len, deque_capacity};
@@ -9,7 +9,7 @@ ghost use Rattle.swift_executor.specs.QueueInside.List.{HasArrival};
 ghost use Rattle.swift_executor.specs.Picks.{IsOlder, PicksFirst, raised};
 ghost use Rattle.swift_executor.specs.Queue.{IsWithout};
 
-use crate::queue::list::{insert_by_arrival, place_of};
+use crate::queue::list::{insert_by_arrival, list_tasks, place_of};
 use crate::queue::waiting::Waiting;
 use std::alloc::{AllocError, Global};
 use std::collections::VecDeque;
@@ -140,6 +140,20 @@ fn insert_by_priority<B>(lists: &mut [VecDeque<Waiting<B>>; PRIORITIES], waiting
     insert_by_arrival(&mut lists[level], waiting);
 }
 
+/// Puts the task of each job of these lists behind others, one list after another.
+fn list_each<B>(
+    lists: &[VecDeque<Waiting<B>>; PRIORITIES],
+    tasks: &mut Vec<TaskId>,
+) -> Result<(), AllocError>
+    requires { (room : ℕ) × AreLists room lists.now }
+    ensures { OnOk result (tasks.new.items ≡ tasks.old.items ++ map (λ w. w.job.task) (jobs_of lists.now)) }
+{
+    for level in 0..PRIORITIES {
+        list_tasks(&lists[level], tasks)?;
+    }
+    Ok(())
+}
+
 /// Gives up the empty list of each priority.
 fn close_each<B>(lists: [VecDeque<Waiting<B>>; PRIORITIES])
     requires { AreEmptyFrom 0 lists }
@@ -193,6 +207,13 @@ impl<B> PriorityLists<B> {
                 Err(fault)
             }
         }
+    }
+
+    /// Puts the task of each job behind others.
+    pub(crate) fn list_tasks(&self, tasks: &mut Vec<TaskId>) -> Result<(), AllocError>
+        ensures { OnOk result (tasks.new.items ≡ tasks.old.items ++ map (λ w. w.job.task) self.now.jobs) }
+    {
+        list_each(&self.lists, tasks)
     }
 
     /// How many jobs are inside.
