@@ -85,8 +85,13 @@ def turns(steps):
             yield ".." + name
 
 
-def outcome_lines(outcome):
-    yield f"outcome {outcome['outcome']}"
+# How the text heads an outcome; of a Swift file's script, by what it says of Swift, and in this order.
+HEADS = {"outcome": "outcome ", "ends": "ends the process: before outcome ", "spins": "may spin: at a limit in outcome "}
+HEAD = "|".join(HEADS.values())
+
+
+def outcome_lines(outcome, said):
+    yield f"{HEADS[said]}{outcome['outcome']}"
     yield " ".join(["schedule", *turns(outcome["schedule"])])
     yield from lines(outcome["end"])
 
@@ -102,12 +107,13 @@ def search_faults(program, name):
     if STATUSES[found["answer"]] != ran[0].returncode:
         yield f"it answers {found['answer']}"
     text = ran[0].stdout.decode()
-    listed = re.split(r"(?m)^(?=outcome \d+$)", text)[1:]
-    made = ["".join(line + "\n" for line in outcome_lines(outcome)) for outcome in found["outcomes"]]
+    listed = re.split(rf"(?m)^(?=(?:{HEAD})\d+$)", text)[1:]
+    told = list(zip(found.get("swift", ["outcome"] * len(found["outcomes"])), found["outcomes"]))
+    made = ["".join(line + "\n" for line in outcome_lines(outcome, said)) for kind in HEADS for said, outcome in told if said == kind]
     if [part.strip() for part in listed] != [part.strip() for part in made]:
         yield "it lists other outcomes"
     undone = found["undone"] and " ".join(["schedule", *turns(found["undone"])])
-    if undone and undone not in text.split("\noutcome ")[0].splitlines():
+    if undone and undone not in re.split(rf"(?m)^(?:{HEAD})\d+$", text)[0].splitlines():
         yield "it has another turn that is undone"
 
 
@@ -115,7 +121,7 @@ def searches():
     """The examples of `explore` that list outcomes."""
     for name in examples.names():
         words = examples.arguments(name) if examples.is_second(name) else []
-        if words[:1] == [b"explore"] and os.path.exists(name + ".out") and not {b"--broken", b"--schedule", b"--format"} & {*words}:
+        if words[:1] == [b"explore"] and os.path.exists(name + ".out") and not {b"--broken", b"--schedule", b"--format", b"--save"} & {*words}:
             yield name
 
 
