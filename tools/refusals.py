@@ -36,8 +36,8 @@ SECONDS = 60
 UNREAD = "nothing was written"
 # The refusal of a script for which there is no memory, as `check --format json` says it.
 NO_MEMORY = b'"code":"S14"'
-# What a program says that has no memory for a script, for a run, or for its words.
-SAYS = (b"%s: line 0: S14 no memory\n", b"%s: N2 no memory\n", b"%s: no memory for the words\n")
+# What a program says that has no memory for a script, for a run, for its words, or for what it reads.
+SAYS = (b"%s: line 0: S14 no memory\n", b"%s: N2 no memory\n", b"%s: no memory for the words\n", b"%s: <stdin>: out of memory\n")
 # The same, as the kit's reader of words has it.
 NO_WORDS = b"error: out of memory\n"
 # Of how many allocations each is refused; of more, so many at both ends, and one in so many between, of many one in more.
