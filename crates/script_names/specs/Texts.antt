@@ -7,6 +7,7 @@ use Rattle.std.specs.Str.{bytes_eq}
 abbrev pub text_is : Vec ℕ → List ℕ
 text_is v = v.items
 
+-- the texts of names
 abbrev pub texts_of : List (Vec ℕ) → List (List ℕ)
 texts_of vs = map text_is vs
 

@@ -17,6 +17,7 @@ order_at picked = at_rest
 order_at (begun worker env) = under_way
 order_at (played worker env frame fields effects exit) = under_way
 
+-- the same of the job that is chosen, if one is
 abbrev pub order_of : Option ChosenView → TurnOrder
 order_of None = at_rest
 order_of (Some c) = order_at c.stage

@@ -27,7 +27,8 @@ pub record TakesFirst {B : Type 0} (Comes : Waiting B → Waiting B → Type 0) 
 abbrev pub IsWithout : {B : Type 0} → List (Waiting B) → TaskId → Type 0
 IsWithout jobs task = All (λ x. x.job.task ≢ task) jobs
 
--- a job of the task may be added with this arrival number: there is room, and neither is inside
+-- A job of the task may be added with this arrival number: there is room, the number was given before, and neither is inside. That the
+-- number was this job's it does not say.
 pub record IsRestorable {B : Type 0} (q : QueueView B) (task : TaskId) (arrival : ℕ) : Type 0 where
   pub room : length q.jobs < q.room
   pub below : arrival < q.arrived

@@ -23,6 +23,6 @@ abbrev pub all_packed : List ℤ → List ℕ
 all_packed [] = []
 all_packed (z ∷ zs) = packed z ++ all_packed zs
 
--- lists with equal bytes are equal
+-- Lists with equal bytes are equal, of whatever numbers. Of one past 64 bits the second of the nine is more than a byte holds.
 abbrev pub BytesAreRead : Type 0
 BytesAreRead = (xs ys : List ℤ) → all_packed xs ≡ all_packed ys → xs ≡ ys

@@ -43,7 +43,7 @@ pub record IsWithin (n m : ℕ) (d : Digest) : Type 0 where
   pub tasks : (o g : ℕ) → n ≤ o → d.groups o g ≡ no_group
   pub groups : (o g : ℕ) → m ≤ g → d.groups o g ≡ no_group
 
--- the numbers of a digest stand after those before
+-- The numbers of a digest stand after those before. Both counts may be greater than they need be.
 pub record IsWritten (d : Digest) (before after : List ℤ) : Type 0 where
   pub tasks : ℕ
   pub groups : ℕ

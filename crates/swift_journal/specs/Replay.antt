@@ -33,7 +33,8 @@ IsAfter script method s (returning v) after = after ≡ None
 IsAfter script method s (failing f) after = after ≡ None
 IsAfter script method s _ after = StandsFor script method s after
 
--- A record's exit, effects and frame after the turn are those of the kept turn.
+-- A record's exit, effects and frame after the turn are those of the kept turn. This does not say that its frame is the one which the
+-- task's turn before it left.
 pub record IsLawfulRecord (script : ScriptView) (fields : List (List ℤ)) (r : RecordView) : Type 0 where
   pub exit : r.exit ≡ (turn_of script fields r).exit
   pub effects : r.effects ≡ (turn_of script fields r).state.effects

@@ -53,7 +53,8 @@ TurnsAreNumbered = (script : ScriptView) (report : ReportView) (t : ℕ) → IsL
     → (turns_of t report.log ≡ range_with_len 0 (length (turns_of t report.log)))
     × ((p : TurnPlace) (n : ℕ) → HasTurn report p t n → n < length (turns_of t report.log))
 
--- where the script has a root, each actor runs on an executor of the script
+-- Where the script has a root, each actor runs on an executor of the script. It is asked of every number: one past the actors counts as on
+-- executor 0.
 abbrev pub ActorsHaveExecutors : ScriptView → Type 0
 ActorsHaveExecutors script = 0 < root_count script → (actor : ℕ) → actor_executor script actor < executor_count script
 

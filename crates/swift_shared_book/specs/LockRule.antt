@@ -43,6 +43,8 @@ module _ {T I V : Type 0} (image_of : T → I) (holds : I → List V → Type 0)
   IsKeptBy None image homes = IsUnlocked image homes
   IsKeptBy (Some seat) image homes = homes ≡ none ∷ []
 
+  -- Between any two steps at most one seat holds, and the word says whether one does. Where none does, a value lies in the slot, and else
+  -- the holder has it; and the user's rule holds of that value, or of what the holder took, beside what all seats know.
   pub record LockInvariant (s : TableOf T I V) : Type 0 where
     -- of what is in the slot, or of what the holder took from it
     pub image : I
