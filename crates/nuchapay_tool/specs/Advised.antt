@@ -1,20 +1,23 @@
 -- What is said to help at some bytes of a text that is refused (our own).
-use Rattle.std.specs.Prelude.{◌≡◌, ◌⊎◌, ◌≤◌, ◌==◌, ℕ, Bool, Option, Some, None, List, [], length, map, min, slice_range, take, if◌then◌else◌}
+use Rattle.std.specs.Prelude.{◌≡◌, ◌⊎◌, ◌≤◌, ◌==◌, ℕ, Bool, Option, Some, None, List, [], length, map, min, nat_lt, slice_get, slice_range, if◌then◌else◌}
+use Rattle.std.specs.List.{prefix_len}
 use Rattle.script_tokens.specs.Lexes.{Lexes}
-use Rattle.script_tokens.specs.Pieces.{TokenView, piece}
+use Rattle.script_tokens.specs.Pieces.{piece}
+use Rattle.script_tokens.specs.Spans.{StandAt}
 use Rattle.script_context.specs.declared.blamed.Blamed.{Blamed}
 use Rattle.script_hints.specs.Helps.{HelpsArguments, HelpsConfused, HelpsEnd, HelpsHuge, HelpsInvariant, HelpsLimit, HelpsRoot, HelpsStray, HelpsTwice, HelpsUnexpected, HelpsUnknown}
 use Rattle.swift_script.specs.declared.fault.ScriptFaultKind.{ScriptFaultKind}
 use Rattle.swift_script.specs.declared.fault.ScriptFaultKind.TheVariants as kind
-use Rattle.nuchapay_tool.specs.declared.location.span.Span.{Span}
+use Rattle.script_tokens.specs.declared.span.Span.{Span}
 use Rattle.nuchapay_tool.specs.declared.page.Page.{Page}
-use Rattle.nuchapay_tool.specs.Location.Spans.{StandsAt}
 use Rattle.nuchapay_tool.specs.Sources.{shown_byte}
 
 -- Some bytes of a text are one of its tokens, from its first byte to its last.
 pub record IsOnToken (text : List ℕ) (span : Span) : Type 0 where
+  pub spans : List Span
+  pub stand : StandAt text text spans
   pub place : ℕ
-  pub stands : StandsAt text text place span.from span.to
+  pub is : slice_get spans place ≡ Some span
 
 -- Some bytes lie in a text.
 abbrev pub IsWithin : List ℕ → Span → Type 0
@@ -24,12 +27,12 @@ IsWithin text s = (s.from ≤ s.to) × (s.to ≤ length text)
 abbrev pub bytes_of : List ℕ → Span → List ℕ
 bytes_of text s = slice_range text (min s.from (min s.to (length text))) (min s.to (length text))
 
--- What hints are given of some bytes of a text: its tokens, how many come before these bytes, and the bytes.
+-- What hints are given of some bytes of a text: its tokens, how many begin before these bytes, and the bytes.
 pub record IsBlamed (text : List ℕ) (span : Span) (b : Blamed) : Type 0 where
   pub tokens : Lexes text (map piece b.tokens.now)
-  pub before : List TokenView
-  pub are_before : Lexes (take (min span.from (length text)) text) before
-  pub place : b.place ≡ length before
+  pub spans : List Span
+  pub stand : StandAt text text spans
+  pub place : b.place ≡ prefix_len (λ s. nat_lt s.from span.from) spans
   pub found : b.found.now ≡ bytes_of text span
 
 -- What helps at a token, by the cause.
@@ -66,7 +69,7 @@ pub record HelpsByte (help : List ℕ) : Type 0 where
   pub helps : HelpsStray in_comment width hint
   pub is : help ≡ map shown_byte hint
 
--- What helps at the bytes that a refusal blames; nothing where these are not known.
+-- What helps at the bytes that a refusal blames; nothing where it blames none.
 abbrev pub IsHelp : ScriptFaultKind → List ℕ → Option Span → List ℕ → Type 0
 IsHelp cause text None help = help ≡ []
 IsHelp cause text (Some s) help = HelpsToken cause text s help ⊎ ((cause ≡ kind.NotText) × HelpsByte help)

@@ -2,11 +2,10 @@
 use Rattle.std.specs.Prelude.{◌≡◌, ℕ, ◌==◌, Bool, Option, Some, None, IfSome, List, [], ◌∷◌, codes, decimal, if◌then◌else◌}
 use Rattle.std.specs.List.{concat}
 use Rattle.std.specs.String.{string_bytes}
-use Rattle.nuchapay_tool.specs.declared.location.span.Span.{Span}
-use Rattle.nuchapay_tool.specs.Location.Blames.{Blames}
+use Rattle.script_tokens.specs.declared.span.Span.{Span}
 use Rattle.nuchapay_tool.specs.Advised.{IsHelp, IsOnToken, help_text}
 use Rattle.swift_script.specs.Accepted.{IsAccepted}
-use Rattle.swift_script.specs.FaultLines.{IsAtItsLine}
+use Rattle.swift_script.specs.FaultPlaces.{IsAtItsPlace}
 use Rattle.swift_script.specs.Refuses.{Refuses}
 use Rattle.swift_script.specs.Scripts.{ScriptView, actor_count, method_count, root_count}
 use Rattle.swift_script.specs.declared.fault.ScriptFault.{ScriptFault}
@@ -48,16 +47,14 @@ pub record IsRefusedAs (colour : Bool) (file text said : List ℕ) : Type 0 wher
   pub fault : ScriptFault
   pub page : Page
   pub cause : Refuses fault.kind text
-  pub line : IsAtItsLine fault text
+  pub at : IsAtItsPlace fault text
   pub named : page.name.now ≡ refusal_name fault.kind
-  pub span : Option Span
-  pub blames : IfSome span (Blames fault.kind text)
   pub expected : List ℕ
   pub help : List ℕ
-  pub helps : IsHelp fault.kind text span help
+  pub helps : IsHelp fault.kind text fault.span help
   pub second : Option Second
   pub on_token : IfSome second (λ s. IsOnToken text s.span)
-  pub is : said ≡ concat (refusal_text colour file text fault.line (mark_of text fault.line span) page expected (help_text help page) ∷ second_part colour file text second ∷ [])
+  pub is : said ≡ concat (refusal_text colour file text fault.line (mark_of text fault.line fault.span) page expected (help_text help page) ∷ second_part colour file text second ∷ [])
 
 -- A text is accepted, and what is said of it is so.
 pub record IsAcceptedAs (file text said : List ℕ) : Type 0 where

@@ -2,11 +2,10 @@
 use Rattle.std.specs.Prelude.{◌≡◌, ℕ, ◌==◌, ◌++◌, Option, Some, None, IfSome, List, [], ◌∷◌, codes, decimal, length, map, min, if◌then◌else◌}
 use Rattle.std.specs.List.{concat}
 use Rattle.std.specs.String.{string_bytes}
-use Rattle.nuchapay_tool.specs.declared.location.span.Span.{Span}
-use Rattle.nuchapay_tool.specs.Location.Blames.{Blames}
+use Rattle.script_tokens.specs.declared.span.Span.{Span}
 use Rattle.nuchapay_tool.specs.Advised.{IsHelp, IsOnToken, help_text}
 use Rattle.swift_script.specs.Accepted.{IsAccepted}
-use Rattle.swift_script.specs.FaultLines.{IsAtItsLine}
+use Rattle.swift_script.specs.FaultPlaces.{IsAtItsPlace}
 use Rattle.swift_script.specs.Refuses.{Refuses}
 use Rattle.swift_script.specs.Scripts.{ScriptView, actor_count, method_count, root_count}
 use Rattle.swift_script.specs.declared.fault.ScriptFault.{ScriptFault}
@@ -73,18 +72,16 @@ pub record IsRefusedJson (text said : List ℕ) : Type 0 where
   pub fault : ScriptFault
   pub page : Page
   pub cause : Refuses fault.kind text
-  pub at_line : IsAtItsLine fault text
+  pub at : IsAtItsPlace fault text
   pub named : page.name.now ≡ refusal_name fault.kind
-  pub span : Option Span
-  pub blames : IfSome span (Blames fault.kind text)
   pub file : List ℕ
   pub expected : List ℕ
   pub help : List ℕ
-  pub helps : IsHelp fault.kind text span help
+  pub helps : IsHelp fault.kind text fault.span help
   pub second : Option Second
   pub on_token : IfSome second (λ s. IsOnToken text s.span)
   pub fix : List ℕ
-  pub is : said ≡ concat (codes "{\"file\":\"" ∷ file ∷ codes "\",\"accepted\":false,\"diagnostics\":[" ∷ code_json page ∷ place_json text fault.line span (mark_of text fault.line span) ∷ advice_json expected (help_text help page) ∷ second_json text second ∷ fix ∷ codes "}]}\n" ∷ [])
+  pub is : said ≡ concat (codes "{\"file\":\"" ∷ file ∷ codes "\",\"accepted\":false,\"diagnostics\":[" ∷ code_json page ∷ place_json text fault.line fault.span (mark_of text fault.line fault.span) ∷ advice_json expected (help_text help page) ∷ second_json text second ∷ fix ∷ codes "}]}\n" ∷ [])
 
 -- what is said of a script without a root
 abbrev pub rootless_json : ℕ → List ℕ

@@ -4,7 +4,6 @@ pub mod ChecksJson
 pub mod Colours
 pub mod InputInside
 pub mod LayoutsInside
-pub mod Location
 pub mod Marks
 pub mod Pages
 pub mod Prints

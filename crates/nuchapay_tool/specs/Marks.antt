@@ -1,7 +1,7 @@
 -- The mark under a line of a text (our own).
 use Rattle.std.specs.Prelude.{ℕ, ◌+◌, ◌-◌, ◌&&◌, Bool, Option, Some, None, List, [], ◌∷◌, length, min, nat_le, codes, decimal, if◌then◌else◌}
 use Rattle.std.specs.List.{concat, repeat}
-use Rattle.nuchapay_tool.specs.declared.location.span.Span.{Span}
+use Rattle.script_tokens.specs.declared.span.Span.{Span}
 use Rattle.nuchapay_tool.specs.declared.mark.LineMark.{LineMark}
 use Rattle.nuchapay_tool.specs.Colours.{red, blue, plain}
 use Rattle.nuchapay_tool.specs.Sources.{line_start, source_line}

@@ -1,21 +1,20 @@
 //! What helps to mend a text that is refused.
 
-ghost use Rattle.std.specs.Prelude.{◌≡◌, ◌≤◌, List, IfOk, IfSome, Ok, length, min, take};
+ghost use Rattle.std.specs.Prelude.{◌≡◌, ◌≤◌, IfOk, IfSome, Ok, length, nat_lt};
+ghost use Rattle.std.specs.List.{prefix_len};
 ghost use Rattle.std.specs.String.{string_bytes};
-ghost use Rattle.script_tokens.specs.Lexes.{Lexes};
-ghost use Rattle.script_tokens.specs.Pieces.{TokenView};
+ghost use Rattle.script_tokens.specs.Spans.{StandAt};
 ghost use Rattle.nuchapay_tool.specs.Advised.{Helps, HelpsByte, HelpsToken, HintHelps, IsHelp, IsOnToken, IsWithin, bytes_of};
 
 use crate::fixes::{Change, change_of, offered};
-use crate::location::{Span, token_span};
-use crate::source::{line_of, shown};
+use crate::source::shown;
 use script_context::Blamed;
 use script_hints::{
-    Fix, Hint, Note, arguments_hint, bound_hint, confused_hint, deep_hint, end_hint,
+    Hint, Note, arguments_hint, bound_hint, confused_hint, deep_hint, end_hint,
     false_invariant_hint, huge_hint, limit_hint, root_hint, stray_hint, twice_hint,
     unexpected_hint, unknown_hint,
 };
-use script_tokens::tokens;
+use script_tokens::{Span, Tokens, line_of, tokens};
 use std::alloc::{AllocError, Global};
 use swift_script::ScriptFaultKind;
 
@@ -41,6 +40,13 @@ pub(crate) struct Advice {
     pub second: Option<Second>,
     /// What to write.
     pub fix: Option<Change>,
+}
+
+// A hint, and the bytes of each token.
+#[derive(Drop)]
+struct Found {
+    hint: Hint,
+    spans: Vec<Span>,
 }
 
 impl Advice {
@@ -160,11 +166,15 @@ fn of_token(
     ensures second { IfOk result (λ a. IfSome a.second (λ s. IsOnToken text.now s.span)) }
     ensures fix { IfOk result (λ a. IfSome a.fix (λ c. IsWithin text.now c.span)) }
 {
-    let hint = hint_at(alloc, text, kind, blame)?;
+    let Found { hint, spans } = hint_at(alloc, text, kind, blame)?;
     let help = shown(alloc, &hint.help);
     let expected = shown(alloc, &hint.expected);
-    let second = second_of(text, hint.note);
-    let fix = fix_at(alloc, text, kind, blame, hint.fix);
+    let second = second_of(text, &spans, hint.note);
+    let change = change_of(alloc, &spans, hint.fix);
+    let fix = match change {
+        Ok(change) => offered(alloc, text, kind, blame, change),
+        Err(error) => Err(error),
+    };
     Advice::of(expected, help, second, fix)
 }
 
@@ -174,39 +184,25 @@ fn hint_at(
     text: &[u8],
     kind: ScriptFaultKind,
     blame: Span,
-) -> Result<Hint, AllocError>
-    ensures { IfOk result (λ hint. HintHelps kind text.now blame hint.help.items) }
+) -> Result<Found, AllocError>
+    ensures helps { IfOk result (λ found. HintHelps kind text.now blame found.hint.help.items) }
+    ensures spans { IfOk result (λ found. StandAt text.now text.now found.spans.items) }
 {
-    let place = place_at(alloc, text, blame.from)?;
-    let found = tokens(alloc, text)?;
+    let Tokens { tokens, spans } = tokens(alloc, text)?;
     let blamed = Blamed {
-        tokens: &found.tokens,
-        place,
+        tokens: &tokens,
+        place: place_at(&spans, blame.from),
         found: bytes_of(text, blame),
     };
-    hint_of(alloc, kind, blamed)
+    let hint = hint_of(alloc, kind, blamed)?;
+    Ok(Found { hint, spans })
 }
 
-// The change that a fix is, where it helps.
-fn fix_at(
-    alloc: Global,
-    text: &[u8],
-    kind: ScriptFaultKind,
-    blame: Span,
-    fix: Option<Fix>,
-) -> Result<Option<Change>, AllocError>
-    ensures { IfOk result (λ found. IfSome found (λ c. IsWithin text.now c.span)) }
+// How many tokens begin before a byte.
+fn place_at(spans: &[Span], from: usize) -> usize
+    ensures { result ≡ prefix_len (λ s. nat_lt s.from from) spans.now }
 {
-    let change = change_of(alloc, text, fix)?;
-    offered(alloc, text, kind, blame, change)
-}
-
-// How many tokens stand before a byte that begins one.
-fn place_at(alloc: Global, text: &[u8], from: usize) -> Result<usize, AllocError>
-    ensures { IfOk result (λ place. (before : List TokenView) × Lexes (take (min from (length text.now)) text.now) before × (place ≡ length before)) }
-{
-    let before = tokens(alloc, &text[..from.min(text.len())])?;
-    Ok(before.tokens.len())
+    spans.iter().take_while(|span| span.from < from).count()
 }
 
 fn bytes_of(text: &[u8], span: Span) -> &[u8]
@@ -238,13 +234,14 @@ fn hint_of(alloc: Global, kind: ScriptFaultKind, blamed: Blamed<'_>) -> Result<H
 }
 
 // The bytes of the second token.
-fn second_of(text: &[u8], note: Option<Note>) -> Option<Second>
+fn second_of(text: &[u8], spans: &[Span], note: Option<Note>) -> Option<Second>
+    requires { StandAt text.now text.now spans.now }
     ensures { IfSome result (λ s. IsOnToken text.now s.span) }
 {
     let Some(note) = note else {
         return None;
     };
-    match token_span(text, note.place) {
+    match spans.get(note.place).copied() {
         Some(span) => Some(Second {
             span,
             line: line_of(text, span.from),

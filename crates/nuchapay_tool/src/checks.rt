@@ -2,13 +2,12 @@
 
 ghost use Rattle.std.specs.Prelude.{◌≡◌, IfOk};
 ghost use Rattle.std.specs.String.{string_bytes};
-ghost use Rattle.swift_script.specs.FaultLines.{IsAtItsLine};
+ghost use Rattle.swift_script.specs.FaultPlaces.{IsAtItsPlace};
 ghost use Rattle.swift_script.specs.Refuses.{Refuses};
 ghost use Rattle.nuchapay_tool.specs.Advised.{help_text};
 ghost use Rattle.nuchapay_tool.specs.Checks.{IsRefusedAs, Says, accepted_text, counted, counts_text, rootless, second_part};
 
 use crate::advice::{Second, advise};
-use crate::location::blamed;
 use crate::mark::mark_of;
 use crate::page::Page;
 use crate::pages::page_of;
@@ -52,13 +51,12 @@ fn refused(
     fault: ScriptFault,
 ) -> Result<String, AllocError>
     requires cause { Refuses fault.kind text.now }
-    requires line { IsAtItsLine fault text.now }
+    requires place { IsAtItsPlace fault text.now }
     ensures { IfOk result (λ said. IsRefusedAs colour file.now text.now (string_bytes said)) }
 {
-    let span = blamed(alloc, text, fault.kind)?;
-    let mark = mark_of(text, fault.line, span);
+    let mark = mark_of(text, fault.line, fault.span);
     let page = page_of(Topic::Script(fault.kind));
-    let advice = advise(alloc, text, fault.kind, span)?;
+    let advice = advise(alloc, text, fault.kind, fault.span)?;
     let help = help_of(advice.help.as_str(), page);
     let expected = advice.expected.as_str();
     let first = refusal(

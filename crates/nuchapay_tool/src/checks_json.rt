@@ -2,7 +2,7 @@
 
 ghost use Rattle.std.specs.Prelude.{◌≡◌, IfOk, Some};
 ghost use Rattle.std.specs.String.{string_bytes};
-ghost use Rattle.swift_script.specs.FaultLines.{IsAtItsLine};
+ghost use Rattle.swift_script.specs.FaultPlaces.{IsAtItsPlace};
 ghost use Rattle.swift_script.specs.Refuses.{Refuses};
 ghost use Rattle.nuchapay_tool.specs.Advised.{help_text};
 ghost use Rattle.nuchapay_tool.specs.Marks.{mark_of};
@@ -12,12 +12,11 @@ use crate::advice::{Advice, Second, advise};
 use crate::checks::{Checked, help_of};
 use crate::fixes::Change;
 use crate::json_text::{escaped_name, escaped_text};
-use crate::location::{Span, blamed};
 use crate::mark::{LineMark, mark_of};
 use crate::page::Page;
 use crate::pages::page_of;
-use crate::source::line_of;
 use crate::topic::Topic;
+use script_tokens::{Span, line_of};
 use std::alloc::{AllocError, Global};
 use swift_script::{Script, ScriptFault, read};
 
@@ -107,20 +106,19 @@ fn refused_json(
     fault: ScriptFault,
 ) -> Result<String, AllocError>
     requires cause { Refuses fault.kind text.now }
-    requires line { IsAtItsLine fault text.now }
+    requires place { IsAtItsPlace fault text.now }
     ensures { IfOk result (λ said. IsRefusedJson text.now (string_bytes said)) }
 {
-    let span = blamed(alloc, text, fault.kind)?;
     let page = page_of(Topic::Script(fault.kind));
-    let advice = advise(alloc, text, fault.kind, span)?;
+    let advice = advise(alloc, text, fault.kind, fault.span)?;
     let second = second_json(alloc, text, advice.second)?;
     let said = said_json(alloc, page, &advice)?;
     let fix = fix_json(alloc, text, &advice.fix)?;
     drop(advice);
     let name = escaped_name(alloc, file)?;
     let code = code_json(alloc, page)?;
-    let mark = mark_of(text, fault.line, span);
-    let place = place_json(alloc, text, fault.line, span, mark)?;
+    let mark = mark_of(text, fault.line, fault.span);
+    let place = place_json(alloc, text, fault.line, fault.span, mark)?;
     let parts = [
         "{\"file\":\"",
         name.as_str(),

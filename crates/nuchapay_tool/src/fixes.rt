@@ -3,9 +3,9 @@
 ghost use Rattle.std.specs.Prelude.{◌≡◌, ◌≤◌, IfOk, IfSome, length};
 ghost use Rattle.nuchapay_tool.specs.Advised.{IsWithin};
 
-use crate::location::{Span, blamed, token_span};
 use crate::source::shown;
 use script_hints::{Fix, FixPlace};
+use script_tokens::Span;
 use std::alloc::{AllocError, Global};
 use swift_script::{ScriptFaultKind, read};
 
@@ -18,16 +18,16 @@ pub(crate) struct Change {
     pub text: String,
 }
 
-/// The change of a text that a fix is, if its tokens stand there.
+/// The change that a fix is, if its tokens are among these.
 pub(crate) fn change_of(
     alloc: Global,
-    text: &[u8],
+    spans: &[Span],
     fix: Option<Fix>,
 ) -> Result<Option<Change>, AllocError> {
     let Some(fix) = fix else {
         return Ok(None);
     };
-    match span_of(text, fix.place) {
+    match span_of(spans, fix.place) {
         Some(span) => Ok(Some(Change {
             span,
             text: shown(alloc, &fix.text)?,
@@ -36,18 +36,18 @@ pub(crate) fn change_of(
     }
 }
 
-fn span_of(text: &[u8], place: FixPlace) -> Option<Span> {
+fn span_of(spans: &[Span], place: FixPlace) -> Option<Span> {
     match place {
         FixPlace::After(place) => {
-            let span = token_span(text, place)?;
+            let span = spans.get(place)?;
             Some(Span {
                 from: span.to,
                 to: span.to,
             })
         }
         FixPlace::Over(first, last) => {
-            let from = token_span(text, first)?.from;
-            let to = token_span(text, last)?.to;
+            let from = spans.get(first)?.from;
+            let to = spans.get(last)?.to;
             Some(Span { from, to })
         }
     }
@@ -103,7 +103,7 @@ fn is_better(
     if stage(fault.kind) != stage(kind) {
         return Ok(stage(fault.kind) > stage(kind));
     }
-    match blamed(alloc, &changed, fault.kind)? {
+    match fault.span {
         Some(next) => {
             let is_after = next.from >= from.saturating_add(change.text.len());
             let left = changed.len().saturating_sub(next.from);

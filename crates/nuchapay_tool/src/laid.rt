@@ -1,8 +1,8 @@
 //! A script as a person would lay it out.
 
-ghost use Rattle.std.specs.Prelude.{◌≡◌, IfErr, IfOk, IsTrue};
+ghost use Rattle.std.specs.Prelude.{◌≡◌, IfErr, IfOk, IsTrue, None};
 ghost use Rattle.swift_script.specs.Accepted.{IsAccepted};
-ghost use Rattle.swift_script.specs.FaultLines.{IsAtItsLine};
+ghost use Rattle.swift_script.specs.FaultPlaces.{IsAtItsPlace};
 ghost use Rattle.swift_script.specs.Refuses.{Refuses};
 ghost use Rattle.swift_script.specs.declared.fault.ScriptFaultKind.TheVariants.{Memory};
 ghost use Rattle.nuchapay_tool.specs.Prints.{IsLaidOutOf};
@@ -24,7 +24,7 @@ use swift_script::{Script, ScriptFault, ScriptFaultKind, print_script, read};
 pub fn pretty(alloc: Global, text: &[u8]) -> Result<Vec<u8>, ScriptFault>
     ensures laid { IfOk result (λ said. IsLaidOutOf text.now said.items) }
     ensures refused { IfErr result (λ fault. Refuses fault.kind text.now) }
-    ensures line { IfErr result (λ fault. IsAtItsLine fault text.now) }
+    ensures place { IfErr result (λ fault. IsAtItsPlace fault text.now) }
 {
     let script = read(alloc, text)?;
     let printed = print_script(alloc, &script)?;
@@ -45,7 +45,7 @@ fn laid_out(alloc: Global, printed: &[u8]) -> Result<Vec<u8>, AllocError> {
 // Whether a text is accepted as this script.
 fn is_read_as(alloc: Global, text: &[u8], script: &Script) -> Result<bool, ScriptFault>
     ensures is { IfOk result (λ same. IsTrue same → IsAccepted text.now script.now) }
-    ensures memory { IfErr result (λ fault. (fault.kind ≡ Memory) × (fault.line ≡ 0)) }
+    ensures memory { IfErr result (λ fault. (fault.kind ≡ Memory) × (fault.line ≡ 0) × (fault.span ≡ None)) }
 {
     match read(alloc, text) {
         Ok(again) => Ok(again.says_the_same(script)),

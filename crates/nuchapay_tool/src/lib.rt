@@ -17,8 +17,6 @@ mod input;
 mod json_text;
 // Tokens as a person would lay them out.
 mod layout;
-// Where in a text a refusal stands.
-mod location;
 // The mark under a line of a text.
 mod mark;
 // The words of `explore`.

@@ -5,8 +5,8 @@ ghost use Rattle.std.specs.String.{string_bytes};
 ghost use Rattle.nuchapay_tool.specs.Marks.{column_text, drawn_text, mark_of, mark_text};
 
 use crate::colours::{blue, plain, red};
-use crate::location::Span;
 use crate::source::{SHOWN, first_line, from_line};
+use script_tokens::Span;
 use std::alloc::{AllocError, Global};
 
 /// Where on its line stands what is to blame (our own).

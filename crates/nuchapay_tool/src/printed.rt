@@ -2,7 +2,7 @@
 
 ghost use Rattle.std.specs.Prelude.{IfErr, IfOk};
 ghost use Rattle.std.specs.String.{string_bytes};
-ghost use Rattle.swift_script.specs.FaultLines.{IsAtItsLine};
+ghost use Rattle.swift_script.specs.FaultPlaces.{IsAtItsPlace};
 ghost use Rattle.swift_script.specs.Refuses.{Refuses};
 ghost use Rattle.nuchapay_tool.specs.Prints.{IsPrintedOf};
 
@@ -18,7 +18,7 @@ use swift_script::{ScriptFault, print_script, read};
 pub fn print(alloc: Global, text: &[u8]) -> Result<String, ScriptFault>
     ensures printed { IfOk result (λ said. IsPrintedOf text.now (string_bytes said)) }
     ensures refused { IfErr result (λ fault. Refuses fault.kind text.now) }
-    ensures line { IfErr result (λ fault. IsAtItsLine fault text.now) }
+    ensures place { IfErr result (λ fault. IsAtItsPlace fault text.now) }
 {
     let script = read(alloc, text)?;
     Ok(print_script(alloc, &script)?)

@@ -74,17 +74,6 @@ pub(crate) fn from_line(text: &[u8], line: u32) -> &[u8]
     rest
 }
 
-/// The line on which a byte of a text stands, counted from 1.
-pub(crate) fn line_of(text: &[u8], place: usize) -> u32 {
-    let mut line = 1u32;
-    for byte in &text[..place.min(text.len())] {
-        if *byte == b'\n' {
-            line = line.saturating_add(1);
-        }
-    }
-    line
-}
-
 /// What stands before the first line feed.
 pub(crate) fn first_line(text: &[u8]) -> &[u8]
     ensures line { result.now ≡ before_feed (feed_in text.now) text.now }

@@ -1,4 +1,3 @@
-pub mod Feeds
 pub mod Few
 pub mod Numbers
 pub mod Reading

@@ -1,8 +1,9 @@
--- A text has one list of pieces, and one list of their lines.
+-- A text has one list of pieces, and one list of their bytes.
 use Rattle.std.proofs.Common.{◌≡◌, ℕ, List, ◌∷◌, Option, Some, None, refl, sym, ap, subst, ◌∙◌}
 use Rattle.script_tokens.specs.Pieces.{TokenView}
 use Rattle.script_tokens.specs.Lexes.{Lexes, at_end, separated, next_is}
-use Rattle.script_tokens.specs.Lines.{line_of, BeginOn, none_left, none_here, one_here}
+use Rattle.script_tokens.specs.Spans.{between, StandAt, none_left, none_here, one_here}
+use Rattle.script_tokens.specs.declared.span.Span.{Span}
 
 -- what a text whose front is known reads as
 same_rest : (x y : Option TokenView × List ℕ) → x ≡ y → x.1 ≡ y.1
@@ -28,18 +29,18 @@ unique b (next_is {b = c} {bs = bs} {rest = rest} {p = l} e d) (separated {b = c
     let first : Some l ≡ None = same_first (Some l, rest) (None, rest') (sym e ∙ e') in
     absurd cc
 
-pub unique_lines : {text rest a : List ℕ} (b : List ℕ) → BeginOn text rest a → BeginOn text rest b → a ≡ b
-unique_lines b none_left none_left = refl
-unique_lines {text = text} b (none_here {b = c} {bs = bs} {rest = rest} {ls = ls} e d) (none_here {b = c'} {bs = bs'} {rest = rest'} {ls = ls'} e' d') =
+pub unique_spans : {text rest : List ℕ} {a : List Span} (b : List Span) → StandAt text rest a → StandAt text rest b → a ≡ b
+unique_spans b none_left none_left = refl
+unique_spans {text = text} b (none_here {b = c} {bs = bs} {rest = rest} {ss = ss} e d) (none_here {b = c'} {bs = bs'} {rest = rest'} {ss = ss'} e' d') =
     let same : rest' ≡ rest = same_rest (None, rest') (None, rest) (sym e' ∙ e) in
-    unique_lines ls' d (subst (λ (r : List ℕ). BeginOn text r ls') same d')
-unique_lines {text = text} b (one_here {b = c} {bs = bs} {rest = rest} {ls = ls} {p = p} e d) (one_here {b = c'} {bs = bs'} {rest = rest'} {ls = ls'} {p = p'} e' d') =
+    unique_spans ss' d (subst (λ (r : List ℕ). StandAt text r ss') same d')
+unique_spans {text = text} b (one_here {b = c} {bs = bs} {rest = rest} {ss = ss} {p = p} e d) (one_here {b = c'} {bs = bs'} {rest = rest'} {ss = ss'} {p = p'} e' d') =
     let same : rest' ≡ rest = same_rest (Some p', rest') (Some p, rest) (sym e' ∙ e) in
-    let others : ls ≡ ls' = unique_lines ls' d (subst (λ (r : List ℕ). BeginOn text r ls') same d') in
-    ap (λ (t : List ℕ). line_of text (c ∷ bs) ∷ t) others
-unique_lines {text = text} b (none_here {b = c} {bs = bs} {rest = rest} e d) (one_here {b = c'} {bs = bs'} {rest = rest'} {p = p'} e' d') =
+    let others : ss ≡ ss' = unique_spans ss' d (subst (λ (r : List ℕ). StandAt text r ss') same d') in
+    ap (λ (t : List Span). between text (c ∷ bs) rest ∷ t) others ∙ ap (λ (r : List ℕ). between text (c ∷ bs) r ∷ ss') (sym same)
+unique_spans {text = text} b (none_here {b = c} {bs = bs} {rest = rest} e d) (one_here {b = c'} {bs = bs'} {rest = rest'} {p = p'} e' d') =
     let first : None ≡ Some p' = same_first (None, rest) (Some p', rest') (sym e ∙ e') in
     absurd cc
-unique_lines {text = text} b (one_here {b = c} {bs = bs} {rest = rest} {p = p} e d) (none_here {b = c'} {bs = bs'} {rest = rest'} e' d') =
+unique_spans {text = text} b (one_here {b = c} {bs = bs} {rest = rest} {p = p} e d) (none_here {b = c'} {bs = bs'} {rest = rest'} e' d') =
     let first : Some p ≡ None = same_first (Some p, rest) (None, rest') (sym e ∙ e') in
     absurd cc

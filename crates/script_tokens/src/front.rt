@@ -1,11 +1,10 @@
 //! What stands at the front of a text.
 
-ghost use Rattle.std.specs.Prelude.{◌≡◌, ◌≤◌, ◌<◌, ◌+◌, length, drop};
+ghost use Rattle.std.specs.Prelude.{◌≡◌, ◌≤◌, ◌<◌, length, drop};
 ghost use Rattle.std.specs.List.{prefix_len};
 ghost use Rattle.std.specs.Option.{option_map};
 ghost use Rattle.script_tokens.specs.Bytes.{is_no_line_feed};
 ghost use Rattle.script_tokens.specs.Lexes.{pair_of, single_of, mark_at, front_of};
-ghost use Rattle.script_tokens.specs.Lines.{line_feeds, feeds_at};
 ghost use Rattle.script_tokens.specs.Pieces.{lexeme_piece};
 
 use crate::class::{digit, digits_len, letter, line_len, name_len, space};
@@ -54,11 +53,9 @@ fn single(byte: u8) -> Option<Mark>
 }
 
 /// What is left of a text from its first LF on.
-#[tactic(auto, using(crate::proofs::Feeds::line_has_none))]
 fn line_end(bytes: &[u8]) -> &[u8]
     ensures end { result.now ≡ drop (prefix_len is_no_line_feed bytes.now) bytes.now }
     ensures shorter { length result.now ≤ length bytes.now }
-    ensures feeds { line_feeds result.now ≡ line_feeds bytes.now }
 {
     let (_, after) = bytes.split_at(line_len(bytes));
     after
@@ -70,7 +67,6 @@ fn line_end(bytes: &[u8]) -> &[u8]
 fn mark(first: u8, rest: &[u8]) -> (Option<Lexeme<'_>>, &[u8])
     ensures front { (option_map lexeme_piece result.0, result.1.now) ≡ mark_at first rest.now }
     ensures shorter { length result.1.now ≤ length rest.now }
-    ensures feeds { line_feeds rest.now ≡ line_feeds result.1.now }
 {
     let alone = match single(first) {
         Some(mark) => Lexeme::Sign(mark),
@@ -92,12 +88,11 @@ fn mark(first: u8, rest: &[u8]) -> (Option<Lexeme<'_>>, &[u8])
 }
 
 /// The lexeme at the front, or none where what stands there separates tokens, and what is after it.
-#[tactic(auto, unfolding(crate::specs::Lexes::front_at), using(crate::proofs::Feeds::digits_have_none, crate::proofs::Feeds::name_has_none))]
+#[tactic(auto, unfolding(crate::specs::Lexes::front_at))]
 pub(crate) fn front(bytes: &[u8]) -> (Option<Lexeme<'_>>, &[u8])
     requires { 0 < length bytes.now }
     ensures front { (option_map lexeme_piece result.0, result.1.now) ≡ front_of bytes.now }
     ensures shorter { length result.1.now < length bytes.now }
-    ensures feeds { line_feeds bytes.now ≡ feeds_at bytes.now + line_feeds result.1.now }
 {
     match bytes {
         [] => (None, bytes),

@@ -1,4 +1,4 @@
-//! The tokens of a script's text: what stands between white space and comments, and on which lines.
+//! The tokens of a script's text: what stands between white space and comments, and which bytes it is.
 #![tactic(auto)]
 
 // The kinds of bytes.
@@ -11,7 +11,9 @@ mod keyword;
 mod laws;
 // A token while its name still lies in the text.
 mod lexeme;
-// The list of a text's tokens, with their lines.
+// On which line a byte stands.
+mod line;
+// The list of a text's tokens, with their bytes.
 mod list;
 // The marks.
 mod mark;
@@ -19,6 +21,8 @@ mod mark;
 mod number;
 // All tokens of a text.
 mod read;
+// Bytes of a text.
+mod span;
 // How keywords and marks are spelled.
 mod spelling;
 // Bytes that no script may contain.
@@ -29,9 +33,11 @@ mod token;
 mod word;
 
 pub use keyword::Keyword;
-pub use laws::{few_tokens, one_list_of_lines, one_reading};
+pub use laws::{few_tokens, one_list_of_spans, one_reading};
+pub use line::line_of;
 pub use list::Tokens;
 pub use mark::Mark;
 pub use read::tokens;
-pub use stray::stray_line;
+pub use span::Span;
+pub use stray::stray_byte;
 pub use token::{NameText, Token};

@@ -4,7 +4,7 @@ ghost use Rattle.std.specs.Prelude.{IfErr, IfOk, map};
 ghost use Rattle.script_grammar.specs.Tree.{view_decl};
 ghost use Rattle.script_parser.specs.declared.limits.TheConstants.{NESTING};
 ghost use Rattle.swift_script.specs.Accepted.{SpellsDecls};
-ghost use Rattle.swift_script.specs.FaultLines.{IsAtItsLine};
+ghost use Rattle.swift_script.specs.FaultPlaces.{IsAtItsPlace};
 ghost use Rattle.swift_script.specs.Refuses.{Refuses};
 ghost use Rattle.swift_programs.specs.Translations.{IsSwiftOf};
 
@@ -24,7 +24,7 @@ use swift_script::{ScriptFault, read};
 pub fn translate(alloc: Global, text: &[u8]) -> Result<Vec<u8>, ScriptFault>
     ensures translated { IfOk result (λ said. IsSwiftOf text.now said.items) }
     ensures refused { IfErr result (λ fault. Refuses fault.kind text.now) }
-    ensures line { IfErr result (λ fault. IsAtItsLine fault text.now) }
+    ensures place { IfErr result (λ fault. IsAtItsPlace fault text.now) }
 {
     let script = read(alloc, text)?;
     drop(script);

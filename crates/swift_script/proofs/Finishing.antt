@@ -4,6 +4,7 @@ use Rattle.std.specs.Prelude.{IfSome, IfNone}
 use Rattle.swift_types.specs.declared.limits.TheConstants.{BYTES}
 use Rattle.script_tokens.specs.Pieces.{TokenView, piece}
 use Rattle.script_tokens.specs.declared.list.Tokens.{Tokens}
+use Rattle.script_tokens.specs.declared.span.Span.{Span}
 use Rattle.script_tokens.specs.declared.token.Token.{Token}
 use Rattle.script_tokens.proofs.Unique.{unique}
 use Rattle.script_grammar.specs.Grammar.{IsScript}
@@ -21,14 +22,13 @@ use Rattle.script_compiler.specs.IsCompiled.{IsCompiled}
 use Rattle.script_compiler.proofs.Small.{methods_are_few}
 use Rattle.swift_script.specs.Accepted.{IsAccepted, first_false, RootWaits, NoRootWaits}
 use Rattle.swift_script.specs.BrokenInside.{IsFirstWaiting, NoneEarlier}
-use Rattle.swift_script.specs.FaultLines.{is_root, place_of, RootStandsOn}
-use Rattle.swift_script.specs.SpelledInside.{pieces_of, AreKept, IsNamed, HasNamesInOrder, line_in}
+use Rattle.swift_script.specs.FaultPlaces.{span_at, is_invariant, is_root, place_of, invariants_before, BlamesInvariant, BlamesRoot}
+use Rattle.swift_script.specs.SpelledInside.{pieces_of, AreKept, IsNamed, HasNamesInOrder}
 use Rattle.swift_script.specs.Scripts.{parts_of}
 use Rattle.swift_script.specs.ScriptInvariant.{ScriptInvariant, tree_of}
 use Rattle.swift_script.specs.declared.split.Declarations.{Declarations}
 use Rattle.swift_script.specs.TreeInside.{tree_in}
 use Rattle.swift_script.proofs.Short.{within_limit}
-use Rattle.swift_script.proofs.Refusing.{kept_line}
 use Rattle.swift_script.proofs.TreeAgain.{tree_again}
 
 pub none_waits : (s : ScriptView) (o : Option ℕ) → o ≡ None → IfNone o (NoRootWaits s) → NoRootWaits s
@@ -38,21 +38,38 @@ none_waits s (Some k) is h = absurd cc
 pub some_at : (P : ℕ → Type 0) (o : Option ℕ) (k : ℕ) → o ≡ Some k → IfSome o P → P k
 some_at P o k is h = subst (λ (x : Option ℕ). IfSome x P) is h
 
--- a root that waits stands at its keyword
-pub root_stands : (text : List ℕ) (s : ScriptView) (kept : Tokens) (lent : List Token) (root place line : ℕ) → IsNamed text s kept → IsFirstWaiting s root
-    → lent ≡ kept.tokens.items → place ≡ place_of is_root root (map piece lent) → line ≡ line_in kept place → RootStandsOn text line
-root_stands text s kept lent root place line n w same at on =
+-- an invariant that is false at the start blames its keyword
+pub invariant_blames : (text : List ℕ) (d : Declarations) (kept : Tokens) (lent : List Token) (spans : List Span) (actors : List Actor) (actor before place : ℕ) (span : Option Span) → IsNamed text (tree_of d) kept → first_false (tree_of d) ≡ Some actor
+    → lent ≡ kept.tokens.items → spans ≡ kept.spans.items → actors ≡ d.actors.items → before ≡ invariants_before actor (map view_actor actors) → place ≡ place_of is_invariant before (map piece lent) → span ≡ Some (span_at text spans place) → BlamesInvariant text span
+invariant_blames text d kept lent spans actors actor before place span n broken same same' same'' counted at is =
+    let here : before ≡ invariants_before actor (script_in n.decls).actors = counted ∙ ap (λ (xs : List Actor). invariants_before actor (map view_actor xs)) same'' ∙ ap (λ (t : ScriptView). invariants_before actor t.actors) n.is in
+    let there : place ≡ place_of is_invariant before (pieces_of kept) = at ∙ ap (λ (ts : List Token). place_of is_invariant before (map piece ts)) same in
+    record {
+      pieces = pieces_of kept;
+      spans = kept.spans.items;
+      are = n.spelled.are_kept.are;
+      decls = n.decls;
+      spelled = n.spelled.spelled;
+      actor = actor;
+      first = ap first_false (sym n.is) ∙ broken;
+      at = is ∙ ap (λ (ss : List Span). Some (span_at text ss place)) same' ∙ ap (λ (p : ℕ). Some (span_at text kept.spans.items p)) there ∙ ap (λ (k : ℕ). Some (span_at text kept.spans.items (place_of is_invariant k (pieces_of kept)))) here;
+    }
+
+-- a root that waits blames its keyword
+pub root_blames : (text : List ℕ) (s : ScriptView) (kept : Tokens) (lent : List Token) (spans : List Span) (root place : ℕ) (span : Option Span) → IsNamed text s kept → IsFirstWaiting s root
+    → lent ≡ kept.tokens.items → spans ≡ kept.spans.items → place ≡ place_of is_root root (map piece lent) → span ≡ Some (span_at text spans place) → BlamesRoot text span
+root_blames text s kept lent spans root place span n w same same' at is =
     let there : place ≡ place_of is_root root (pieces_of kept) = at ∙ ap (λ (ts : List Token). place_of is_root root (map piece ts)) same in
     record {
       pieces = pieces_of kept;
-      lines = kept.lines.items;
+      spans = kept.spans.items;
       are = n.spelled.are_kept.are;
       decls = n.decls;
       spelled = n.spelled.spelled;
       root = root;
       waits = subst (λ (t : ScriptView). RootWaits t root) n.is w.waits;
       first = subst (λ (t : ScriptView). NoneEarlier t root) n.is w.first;
-      on = on ∙ ap (line_in kept) there ∙ kept_line text kept (place_of is_root root (pieces_of kept)) n.spelled.are_kept;
+      at = is ∙ ap (λ (ss : List Span). Some (span_at text ss place)) same' ∙ ap (λ (p : ℕ). Some (span_at text kept.spans.items p)) there;
     }
 
 -- the tokens of a text are the ones that spell it, whenever they are found

@@ -2,7 +2,7 @@ pub mod Codes
 pub mod Scripts
 pub mod Accepted
 pub mod Refuses
-pub mod FaultLines
+pub mod FaultPlaces
 pub mod Answers
 pub mod SpelledInside
 pub mod TreeInside

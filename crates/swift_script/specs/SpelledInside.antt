@@ -1,7 +1,8 @@
 -- What is kept of a text while it is checked. No public clause names these words.
-use Rattle.std.specs.Prelude.{◌≡◌, ◌+◌, ◌-◌, Bool, ℕ, None, List, map, length, slice_index_or}
+use Rattle.std.specs.Prelude.{◌≡◌, ◌+◌, ◌-◌, Bool, ℕ, Option, Some, None, List, map, length}
 use Rattle.script_tokens.specs.Pieces.{TokenView, piece}
 use Rattle.script_tokens.specs.declared.list.Tokens.{Tokens}
+use Rattle.script_tokens.specs.declared.span.Span.{Span}
 use Rattle.script_grammar.specs.Tree.{DeclTree}
 use Rattle.script_grammar.specs.Grammar.{IsScript}
 use Rattle.script_parser.specs.declared.fault.Kind.{Kind}
@@ -20,26 +21,21 @@ use Rattle.swift_script.specs.declared.fault.ScriptFaultKind.TheVariants as kind
 use Rattle.swift_script.specs.declared.place.Sought.{Sought}
 use Rattle.swift_script.specs.declared.place.Sought.TheVariants as sought
 use Rattle.swift_script.specs.Accepted.{IsPlain, SpellsDecls}
-use Rattle.swift_script.specs.FaultLines.{AreTokens, last_line, is_name, is_invariant, is_root, place_of, past_name}
+use Rattle.swift_script.specs.FaultPlaces.{AreTokens, span_at, is_name, is_invariant, is_root, place_of, past_name}
 
 abbrev pub pieces_of : Tokens → List TokenView
 pieces_of kept = map piece kept.tokens.items
 
--- The tokens of a text, its lines and its last line are kept.
+-- The tokens of a text and their bytes are kept.
 pub record AreKept (text : List ℕ) (kept : Tokens) : Type 0 where
-  pub are : AreTokens text (pieces_of kept) kept.lines.items
-  pub as_many : length kept.lines.items ≡ length (pieces_of kept)
-  pub last : kept.last_line ≡ last_line text
+  pub are : AreTokens text (pieces_of kept) kept.spans.items
+  pub as_many : length kept.spans.items ≡ length (pieces_of kept)
 
 -- A plain text spells these declarations, and its tokens are kept.
 pub record IsSpelled (text : List ℕ) (decls : List DeclTree) (kept : Tokens) : Type 0 where
   pub plain : IsPlain text
   pub are_kept : AreKept text kept
   pub spelled : IsScript NESTING (pieces_of kept) decls
-
--- the line of the token at a place, by what is kept
-abbrev pub line_in : Tokens → ℕ → ℕ
-line_in kept place = slice_index_or kept.lines.items place kept.last_line
 
 -- the test of what is looked for
 abbrev pub passes : Sought → TokenView → Bool
@@ -58,9 +54,9 @@ abbrev pub read_kind : ReadError → ScriptFaultKind
 read_kind reading.Memory = kind.Memory
 read_kind (reading.Fault f) = grammar_kind f.kind
 
-abbrev pub read_line : Tokens → ReadError → ℕ
-read_line kept reading.Memory = 0
-read_line kept (reading.Fault f) = line_in kept (length kept.lines.items - f.tokens_left)
+abbrev pub read_span : List ℕ → Tokens → ReadError → Option Span
+read_span text kept reading.Memory = None
+read_span text kept (reading.Fault f) = Some (span_at text kept.spans.items (length kept.spans.items - f.tokens_left))
 
 -- an error of the names and counts, as a refusal
 abbrev pub names_kind : NameErrorKind → ScriptFaultKind
@@ -76,9 +72,9 @@ abbrev pub check_kind : CheckError → ScriptFaultKind
 check_kind naming.Memory = kind.Memory
 check_kind (naming.Name e) = names_kind e.kind
 
-abbrev pub check_line : Tokens → CheckError → ℕ
-check_line kept naming.Memory = 0
-check_line kept (naming.Name e) = line_in kept (place_of is_name e.names_before (pieces_of kept) + past_name e.kind)
+abbrev pub check_span : List ℕ → Tokens → CheckError → Option Span
+check_span text kept naming.Memory = None
+check_span text kept (naming.Name e) = Some (span_at text kept.spans.items (place_of is_name e.names_before (pieces_of kept) + past_name e.kind))
 
 -- A plain text spells a script whose names and counts are in order, and its tokens are kept.
 pub record IsNamed (text : List ℕ) (tree : ScriptView) (kept : Tokens) : Type 0 where

@@ -1,8 +1,9 @@
 //! Why a text is not accepted.
 
-ghost use Rattle.std.specs.Prelude.{◌≡◌};
+ghost use Rattle.std.specs.Prelude.{◌≡◌, None};
 ghost use Rattle.swift_script.specs.declared.fault.ScriptFaultKind.TheVariants.{Memory};
 
+use script_tokens::Span;
 use std::alloc::{AllocError, AllocFailed};
 use thiserror::Error;
 
@@ -61,18 +62,29 @@ pub struct ScriptFault {
     pub line: u32,
     /// What is wrong.
     pub kind: ScriptFaultKind,
+    /// The bytes that are to blame: a token, a byte outside text, or the end of the text, as if one more byte stood there; none
+    /// where the text is too long or memory ran out.
+    pub span: Option<Span>,
 }
 
 impl ScriptFault {
-    /// The fault where memory runs out, which stands on no line.
+    /// The fault where memory runs out, which stands on no line and blames no bytes.
     pub(crate) const MEMORY: ScriptFault = ScriptFault {
         line: 0,
         kind: ScriptFaultKind::Memory,
+        span: None,
+    };
+
+    /// The fault of a text that is too long to be read.
+    pub(crate) const TOO_LONG: ScriptFault = ScriptFault {
+        line: 1,
+        kind: ScriptFaultKind::LimitPassed,
+        span: None,
     };
 }
 
 impl From<AllocError> for ScriptFault {
-    ghost from_gives = { λ _ f. (f.kind ≡ Memory) × (f.line ≡ 0) };
+    ghost from_gives = { λ _ f. (f.kind ≡ Memory) × (f.line ≡ 0) × (f.span ≡ None) };
 
     fn from(_e: AllocError) -> ScriptFault {
         ScriptFault::MEMORY
@@ -80,7 +92,7 @@ impl From<AllocError> for ScriptFault {
 }
 
 impl<T: Drop> From<AllocFailed<T>> for ScriptFault {
-    ghost from_gives = { λ _ f. (f.kind ≡ Memory) × (f.line ≡ 0) };
+    ghost from_gives = { λ _ f. (f.kind ≡ Memory) × (f.line ≡ 0) × (f.span ≡ None) };
 
     fn from(_e: AllocFailed<T>) -> ScriptFault {
         ScriptFault::MEMORY

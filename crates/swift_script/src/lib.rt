@@ -11,7 +11,7 @@ pub mod laws;
 mod naming;
 // What there is in a script, by numbers.
 mod parts;
-// At which places the tokens of a text stand, and on which lines.
+// At which places the tokens of a text stand, and which bytes they are.
 mod place;
 // The printed form of a script.
 mod printed;

@@ -1,17 +1,17 @@
 //! The rules on names and counts.
 
-ghost use Rattle.std.specs.Prelude.{◌≡◌, ◌≤◌, ℕ, List, None, map, IfOk, IfErr};
+ghost use Rattle.std.specs.Prelude.{◌≡◌, ◌≤◌, None, map, IfOk, IfErr};
 ghost use Rattle.swift_types.specs.declared.limits.TheConstants.{BYTES};
 ghost use Rattle.script_grammar.specs.Tree.{view_decl};
 ghost use Rattle.script_names.specs.Directory.{directory_of};
 ghost use Rattle.script_names.specs.Rules.{names_in, names_error};
-ghost use Rattle.swift_script.specs.FaultLines.{IsAtItsLine, past_name};
+ghost use Rattle.swift_script.specs.FaultPlaces.{IsAtItsPlace, fault_line, past_name};
 ghost use Rattle.swift_script.specs.Refuses.{Refuses};
-ghost use Rattle.swift_script.specs.SpelledInside.{IsSpelled, names_kind, check_kind, check_line};
+ghost use Rattle.swift_script.specs.SpelledInside.{IsSpelled, names_kind, check_kind, check_span};
 
 use crate::fault::{ScriptFault, ScriptFaultKind};
-use crate::place::{Sought, line_at, place_of};
-use crate::spelled::fault;
+use crate::place::{Sought, place_of, span_at};
+use crate::spelled::fault_at;
 use script_grammar::Decl;
 use script_names::{CheckError, Declared, NameErrorKind, Seed, check};
 use script_tokens::Tokens;
@@ -20,32 +20,37 @@ use std::alloc::Global;
 /// What the declarations declare, where their names are in order.
 pub(crate) fn check_names(
     alloc: Global,
-    seed: Seed,
+    text: &[u8],
     decls: &[Decl],
     tokens: &Tokens,
 ) -> Result<Declared, ScriptFault>
     requires { names_in (map view_decl decls.now) ≤ BYTES }
     ensures names { IfOk result (λ d. names_error (map view_decl decls.now) ≡ None) }
     ensures directory { IfOk result (λ d. d ≡ directory_of (map view_decl decls.now)) }
-    ensures refused { (text : List ℕ) → IsSpelled text (map view_decl decls.now) tokens.now → IfErr result (λ e. Refuses e.kind text) }
-    ensures line { (text : List ℕ) → IsSpelled text (map view_decl decls.now) tokens.now → IfErr result (λ e. IsAtItsLine e text) }
+    ensures refused { IsSpelled text.now (map view_decl decls.now) tokens.now → IfErr result (λ e. Refuses e.kind text.now) }
+    ensures place { IsSpelled text.now (map view_decl decls.now) tokens.now → IfErr result (λ e. IsAtItsPlace e text.now) }
 {
-    match check(alloc, seed, decls) {
+    match check(alloc, Seed::of(text), decls) {
         Ok(declared) => Ok(declared),
-        Err(error) => Err(refusal(tokens, error)),
+        Err(error) => Err(refusal(text, tokens, error)),
     }
 }
 
-fn refusal(tokens: &Tokens, error: CheckError) -> ScriptFault
+fn refusal(text: &[u8], tokens: &Tokens, error: CheckError) -> ScriptFault
     ensures kind { result.kind ≡ check_kind error }
-    ensures line { result.line ≡ check_line tokens.now error }
+    ensures span { result.span ≡ check_span text.now tokens.now error }
+    ensures line { result.line ≡ fault_line result.span result.kind text.now }
 {
     match error {
         CheckError::Memory => ScriptFault::MEMORY,
         CheckError::Name(found) => {
             let name = place_of(&tokens.tokens, Sought::Name, found.names_before as usize);
             let place = name.saturating_add(past_name(found.kind));
-            fault(line_at(tokens, place), kind_of(found.kind))
+            fault_at(
+                text,
+                span_at(text, &tokens.spans, place),
+                kind_of(found.kind),
+            )
         }
     }
 }

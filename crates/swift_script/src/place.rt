@@ -1,11 +1,11 @@
-//! At which places the tokens of a text stand, and on which lines.
+//! At which places the tokens of a text stand, and which bytes they are.
 
 ghost use Rattle.std.specs.Prelude.{◌≡◌, map};
 ghost use Rattle.script_tokens.specs.Pieces.{piece};
-ghost use Rattle.swift_script.specs.FaultLines.{place_of};
-ghost use Rattle.swift_script.specs.SpelledInside.{line_in, passes};
+ghost use Rattle.swift_script.specs.FaultPlaces.{place_of, span_at};
+ghost use Rattle.swift_script.specs.SpelledInside.{passes};
 
-use script_tokens::{Keyword, Token, Tokens};
+use script_tokens::{Keyword, Span, Token};
 
 /// What is looked for among tokens.
 #[derive(Clone, Copy)]
@@ -42,9 +42,13 @@ pub(crate) fn place_of(tokens: &[Token], sought: Sought, before: usize) -> usize
     tokens.len()
 }
 
-/// The line of the token at a place; past the last token the line on which the text ends.
-pub(crate) fn line_at(tokens: &Tokens, place: usize) -> u32
-    ensures { result ≡ line_in tokens.now place }
+/// The bytes of the token at a place; past the last token the end of the text.
+pub(crate) fn span_at(text: &[u8], spans: &[Span], place: usize) -> Span
+    ensures { result ≡ span_at text.now spans.now place }
 {
-    tokens.lines.get(place).copied().unwrap_or(tokens.last_line)
+    let end = Span {
+        from: text.len(),
+        to: text.len() + 1,
+    };
+    spans.get(place).copied().unwrap_or(end)
 }

@@ -9,7 +9,7 @@ ghost use Rattle.script_printing.specs.Script.{ScriptView};
 ghost use Rattle.script_compiler.specs.IsCompiled.{IsCompiled};
 ghost use Rattle.swift_script.specs.Accepted.{IsAccepted, IsPlain, NoRootWaits, SpellsDecls, first_false};
 ghost use Rattle.swift_script.specs.Answers.{IsReadAs};
-ghost use Rattle.swift_script.specs.FaultLines.{IsAtItsLine};
+ghost use Rattle.swift_script.specs.FaultPlaces.{IsAtItsPlace};
 ghost use Rattle.swift_script.specs.Refuses.{Refuses};
 ghost use Rattle.swift_script.specs.ScriptInvariant.{tree_of};
 ghost use Rattle.swift_script.specs.Scripts.{parts_of};
@@ -23,15 +23,15 @@ use crate::split::{Declarations, split};
 use crate::start::{fault_of, first_broken};
 use script_compiler::{Compiled, compile};
 use script_grammar::Decl;
-use script_names::{Declared, Seed};
+use script_names::Declared;
 use script_printing::print;
 use std::alloc::Global;
 
 /// The script that a text spells (the language is our own), in time and memory linear in the text.
 ///
-/// Faults are looked for in this order, and the first one is answered with its line: the length (line 1), bytes outside
-/// text anywhere, the grammar from left to right, names and counts by place, invariants at the start by actors, roots
-/// that wait by roots. Out of memory is answered, with line 0, wherever a growth was refused.
+/// Faults are looked for in this order, and the first one is answered with its line and the bytes that it blames: the length
+/// (line 1, no bytes), bytes outside text anywhere, the grammar from left to right, names and counts by place, invariants at the
+/// start by actors, roots that wait by roots. Out of memory is answered, with line 0 and no bytes, wherever a growth was refused.
 pub fn read(alloc: Global, bytes: &[u8]) -> Result<Script, ScriptFault>
     // What is read is accepted, and its tree is what the text spells.
     ensures found { IfOk result (λ s. IsAccepted bytes.now s) }
@@ -39,10 +39,9 @@ pub fn read(alloc: Global, bytes: &[u8]) -> Result<Script, ScriptFault>
     ensures accepted { (tree : ScriptView) → IsAccepted bytes.now tree → IsReadAs tree result }
     // Each refusal has its stated cause, and for none that is looked for before it.
     ensures refused { IfErr result (λ e. Refuses e.kind bytes.now) }
-    // It stands on the line of the first byte outside text, of the token at which the grammar fails, of the name that
-    // is concerned, of the keyword of the first invariant that is false at the start or of the first root that waits;
-    // out of memory on line 0.
-    ensures line { IfErr result (λ e. IsAtItsLine e bytes.now) }
+    // It blames the first byte outside text, the token at which the grammar fails, the name that is concerned, the keyword
+    // of the first invariant that is false at the start or of the first root that waits; and stands on the line of that.
+    ensures place { IfErr result (λ e. IsAtItsPlace e bytes.now) }
 {
     accept(alloc, bytes)
 }
@@ -51,10 +50,10 @@ pub fn read(alloc: Global, bytes: &[u8]) -> Result<Script, ScriptFault>
 fn accept(alloc: Global, text: &[u8]) -> Result<Script, ScriptFault>
     ensures found { IfOk result (λ s. IsAccepted text.now s) }
     ensures refused { IfErr result (λ e. Refuses e.kind text.now) }
-    ensures line { IfErr result (λ e. IsAtItsLine e text.now) }
+    ensures place { IfErr result (λ e. IsAtItsPlace e text.now) }
 {
     let spelled = spell(alloc, text)?;
-    let declared = check_names(alloc, Seed::of(text), &spelled.decls, &spelled.tokens)?;
+    let declared = check_names(alloc, text, &spelled.decls, &spelled.tokens)?;
     // Tokens take much memory, and after this a refusal alone needs them, which finds them again.
     let Spelled { decls, tokens } = spelled;
     drop(tokens);
@@ -74,7 +73,7 @@ fn build(
     requires directory { declared ≡ directory_of (map view_decl decls.items) }
     ensures found { IfOk result (λ s. IsAccepted text.now s) }
     ensures refused { IfErr result (λ e. Refuses e.kind text.now) }
-    ensures line { IfErr result (λ e. IsAtItsLine e text.now) }
+    ensures place { IfErr result (λ e. IsAtItsPlace e text.now) }
 {
     let compiled = compile(alloc, declared, &decls)?;
     let declarations = split(alloc, decls)?;
@@ -92,7 +91,7 @@ fn finish(
     requires compiled { IsCompiled compiled (parts_of (tree_of declarations)) }
     ensures found { IfOk result (λ s. IsAccepted text.now s) }
     ensures refused { IfErr result (λ e. Refuses e.kind text.now) }
-    ensures line { IfErr result (λ e. IsAtItsLine e text.now) }
+    ensures place { IfErr result (λ e. IsAtItsPlace e text.now) }
 {
     settle(alloc, text, &declarations, &compiled)?;
     let printed = print(
@@ -105,7 +104,7 @@ fn finish(
     Ok(Script::of(printed, compiled))
 }
 
-// The rules that are looked at once a script is compiled. Only where one is broken the tokens are found again, for its line.
+// The rules that are looked at once a script is compiled. Only where one is broken the tokens are found again, for its bytes.
 #[tactic(auto, using(crate::proofs::Finishing::named_again))]
 fn settle(
     alloc: Global,
@@ -118,11 +117,11 @@ fn settle(
     ensures starts { OnOk result (first_false (tree_of declarations.now) ≡ None) }
     ensures waits { OnOk result (NoRootWaits (tree_of declarations.now)) }
     ensures refused { IfErr result (λ e. Refuses e.kind text.now) }
-    ensures line { IfErr result (λ e. IsAtItsLine e text.now) }
+    ensures place { IfErr result (λ e. IsAtItsPlace e text.now) }
 {
     let Some(rule) = first_broken(alloc, declarations, compiled)? else {
         return Ok(());
     };
     let tokens = all_tokens(alloc, text)?;
-    Err(fault_of(&tokens, declarations, rule))
+    Err(fault_of(text, &tokens, declarations, rule))
 }

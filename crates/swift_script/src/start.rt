@@ -1,20 +1,20 @@
 //! The rules that are looked at once a script is compiled: on invariants, and on roots that wait.
 
-ghost use Rattle.std.specs.Prelude.{◌≡◌, ◌≤◌, ℕ, List, None, length, map, IfOk, IfSome, IfNone};
+ghost use Rattle.std.specs.Prelude.{◌≡◌, ◌≤◌, None, length, map, IfOk, IfSome, IfNone};
 ghost use Rattle.swift_types.specs.declared.limits.TheConstants.{BYTES};
 ghost use Rattle.script_grammar.specs.Tree.{view_actor};
 ghost use Rattle.script_compiler.specs.IsCompiled.{IsCompiled};
 ghost use Rattle.swift_script.specs.Accepted.{first_false, NoRootWaits};
 ghost use Rattle.swift_script.specs.BrokenInside.{IsBroken};
-ghost use Rattle.swift_script.specs.FaultLines.{IsAtItsLine, invariants_before};
+ghost use Rattle.swift_script.specs.FaultPlaces.{IsAtItsPlace, invariants_before};
 ghost use Rattle.swift_script.specs.Refuses.{Refuses};
 ghost use Rattle.swift_script.specs.ScriptInvariant.{tree_of};
 ghost use Rattle.swift_script.specs.Scripts.{parts_of};
 ghost use Rattle.swift_script.specs.SpelledInside.{IsNamed};
 
 use crate::fault::{ScriptFault, ScriptFaultKind};
-use crate::place::{Sought, line_at, place_of};
-use crate::spelled::fault;
+use crate::place::{Sought, place_of, span_at};
+use crate::spelled::fault_at;
 use crate::split::Declarations;
 use script_compiler::{Compiled, first_false, first_waiting_root};
 use script_grammar::Actor;
@@ -71,25 +71,34 @@ pub(crate) fn first_broken(
     }
 }
 
-/// The fault of a script that breaks a rule, on the line of the keyword of what breaks it. Linear in the tokens and the actors.
+/// The fault of a script that breaks a rule, at the keyword of what breaks it. Linear in the text.
 pub(crate) fn fault_of(
+    text: &[u8],
     tokens: &Tokens,
     declarations: &Declarations,
     rule: BrokenRule,
 ) -> ScriptFault
     requires { IsBroken (tree_of declarations.now) rule }
-    ensures refused { (text : List ℕ) → IsNamed text (tree_of declarations.now) tokens.now → Refuses result.kind text }
-    ensures line { (text : List ℕ) → IsNamed text (tree_of declarations.now) tokens.now → IsAtItsLine result text }
+    ensures refused { IsNamed text.now (tree_of declarations.now) tokens.now → Refuses result.kind text.now }
+    ensures place { IsNamed text.now (tree_of declarations.now) tokens.now → IsAtItsPlace result text.now }
 {
     match rule {
         BrokenRule::FalseInvariant(actor) => {
             let before = invariants_before(&declarations.actors, actor);
             let place = place_of(&tokens.tokens, Sought::Invariant, before);
-            fault(line_at(tokens, place), ScriptFaultKind::InvariantFalse)
+            fault_at(
+                text,
+                span_at(text, &tokens.spans, place),
+                ScriptFaultKind::InvariantFalse,
+            )
         }
         BrokenRule::WaitingRoot(root) => {
             let place = place_of(&tokens.tokens, Sought::Root, root);
-            fault(line_at(tokens, place), ScriptFaultKind::RootWaits)
+            fault_at(
+                text,
+                span_at(text, &tokens.spans, place),
+                ScriptFaultKind::RootWaits,
+            )
         }
     }
 }

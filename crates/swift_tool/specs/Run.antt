@@ -9,7 +9,7 @@ use Rattle.swift_events.specs.declared.life.Origin.{Origin}
 use Rattle.std.specs.Io.KnownBytes.{Appends}
 use Rattle.swift_script.specs.Accepted.{IsAccepted}
 use Rattle.swift_script.specs.Refuses.{Refuses}
-use Rattle.swift_script.specs.FaultLines.{IsAtItsLine}
+use Rattle.swift_script.specs.FaultPlaces.{IsAtItsPlace}
 use Rattle.swift_history.specs.Orderly.{IsOrderlyLegal}
 use Rattle.swift_course.specs.Whole.{HasWhole}
 use Rattle.swift_certificate.specs.Reports.{report_view}
@@ -91,7 +91,7 @@ IsRunRefusal bytes workers Executor = IsRunning bytes workers
 
 -- Why no run of these bytes gave a text: the script was refused, for the stated cause and on its line, or the run was.
 abbrev pub IsRefusal : List ℕ → ℕ → ToolFault → Type 0
-IsRefusal bytes workers (tool.Script f) = IsCrew workers × Refuses f.kind bytes × IsAtItsLine f bytes
+IsRefusal bytes workers (tool.Script f) = IsCrew workers × Refuses f.kind bytes × IsAtItsPlace f bytes
 IsRefusal bytes workers (tool.Run f) = IsRunRefusal bytes workers f
 IsRefusal bytes workers tool.Device = ⊥
 

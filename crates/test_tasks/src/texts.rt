@@ -52,7 +52,8 @@ fn check(alloc: Global, script: &Script, out: &mut Said) -> Result<(), CaseFault
     Ok(())
 }
 
-// Why a text is refused, if it is. A line more where it is accepted and its printed form is not read again.
+// Why a text is refused, if it is: the cause and the line, without the bytes that differ at each place. A line more where it is accepted
+// and its printed form is not read again.
 fn refusal(alloc: Global, text: &[u8], out: &mut Said) -> Result<Option<ScriptFault>, CaseFault> {
     match read(alloc, text) {
         Ok(script) => {
@@ -60,7 +61,10 @@ fn refusal(alloc: Global, text: &[u8], out: &mut Said) -> Result<Option<ScriptFa
             Ok(None)
         }
         Err(fault) if fault.kind == ScriptFaultKind::Memory => Err(CaseFault::Memory),
-        Err(fault) => Ok(Some(fault)),
+        Err(fault) => Ok(Some(ScriptFault {
+            span: None,
+            ..fault
+        })),
     }
 }
 

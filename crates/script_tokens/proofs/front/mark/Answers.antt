@@ -1,6 +1,5 @@
 use Rattle.std.proofs.Common.{◌≡◌, ℕ, ◌-◌, ◌≤◌, List, [], ◌∷◌, length, get_or, take, drop, Option, Some}
 use Rattle.std.proofs.Common.{take_all, ap, sym, ◌∙◌, arith}
-use Rattle.std.proofs.lemmas.Grind.{common_steps}
 use Rattle.script_tokens.specs.declared.mark.Mark.{Mark}
 use Rattle.script_tokens.specs.Lexes.{mark_at, pair_of, paired}
 use Rattle.script_tokens.specs.Pieces.{TokenView, Sign}
@@ -19,9 +18,3 @@ before_pair a m (b ∷ bs) l is =
 pub returns-in-Some-pair-clause-front : goal.returns-in-Some-pair-clause-front
 returns-in-Some-pair-clause-front c =
     before_pair c.args.first c.in-Some-pair.mark c.args.rest.now c.in-len1-up.len_at_least (sym c.pair.ensures ∙ c.in-Some-pair.is)
-
-pub returns-in-Some-pair-clause-feeds : goal.returns-in-Some-pair-clause-feeds
-returns-in-Some-pair-clause-feeds c = grind (arith, common_steps)
-
-pub returns-then-second-eq47-clause-feeds : goal.returns-then-second-eq47-clause-feeds
-returns-then-second-eq47-clause-feeds c = grind (arith, common_steps)

@@ -1,6 +1,6 @@
 use Rattle.std.proofs.Common.{◌≡◌, map, ◌+◌, drop}
 use Rattle.script_tokens.specs.Pieces.{piece}
-use Rattle.swift_script.specs.FaultLines.{place_of}
+use Rattle.swift_script.specs.FaultPlaces.{place_of}
 use Rattle.swift_script.specs.SpelledInside.{passes}
 use Rattle.swift_script.proofs.place.place_of.Given as goal
 

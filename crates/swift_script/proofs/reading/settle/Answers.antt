@@ -7,8 +7,8 @@ first_broken-requires-clause-few c = few_methods c.args.text.now (tree_of c.args
 
 pub returns-clause-refused : goal.returns-clause-refused
 returns-clause-refused c =
-    c.fault_of.ensures.refused c.args.text.now (named_again c.args.text.now (tree_of c.args.declarations.now) c.in_ok-tokens.tokens c.requires.named c.in_ok-tokens.ensures.kept)
+    c.fault_of.ensures.refused (named_again c.args.text.now (tree_of c.args.declarations.now) c.in_ok-tokens.tokens c.requires.named c.in_ok-tokens.ensures.kept)
 
-pub returns-clause-line : goal.returns-clause-line
-returns-clause-line c =
-    c.fault_of.ensures.line c.args.text.now (named_again c.args.text.now (tree_of c.args.declarations.now) c.in_ok-tokens.tokens c.requires.named c.in_ok-tokens.ensures.kept)
+pub returns-clause-place : goal.returns-clause-place
+returns-clause-place c =
+    c.fault_of.ensures.place (named_again c.args.text.now (tree_of c.args.declarations.now) c.in_ok-tokens.tokens c.requires.named c.in_ok-tokens.ensures.kept)
