@@ -39,7 +39,7 @@ pub fn pretty(alloc: Global, text: &[u8]) -> Result<Vec<u8>, ScriptFault>
 // A script, laid out.
 fn laid_out(alloc: Global, text: &[u8]) -> Result<Vec<u8>, AllocError> {
     let found = tokens(alloc, text)?;
-    layout(alloc, text, &found)
+    layout(alloc, text, &found.tokens, &found.spans)
 }
 
 // Whether a text is accepted as this script.

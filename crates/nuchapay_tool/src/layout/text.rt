@@ -10,7 +10,7 @@ use crate::layout::comment::{Comment, between, feeds_in, next_comment};
 use crate::layout::gap::{Gap, gap_after_comment, gap_before, gap_before_comment, is_inside};
 use crate::layout::needless::needless;
 use crate::layout::part::{LayoutPart, part_at};
-use script_tokens::{Mark, Token, Tokens};
+use script_tokens::{Mark, Span, Token};
 use std::alloc::{AllocError, Global};
 
 // In how many blocks a token is, by that of the token before it.
@@ -105,15 +105,23 @@ impl WrittenLayout {
         }
     }
 
+    // Puts what comes before a comment after the others: it stands before a token that is `part`, after so many line feeds.
+    fn begin_comment(&mut self, part: LayoutPart, feeds: usize) -> Result<(), AllocError>
+        ensures { (ts : List Token) → LaysOut ts self.old.text.items → OnOk result (LaysOut ts self.new.text.items) }
+    {
+        if self.text.is_empty() {
+            return Ok(());
+        }
+        let plain = gap_before(self.last, part, self.depth);
+        self.space(gap_before_comment(self.has_comment, plain, feeds))
+    }
+
     // Puts a comment and a line feed after the others, before a token that is `part`.
     fn comment(&mut self, comment: Comment<'_>, part: LayoutPart) -> Result<(), AllocError>
         requires { HasNoFeed comment.text.now }
         ensures { (ts : List Token) → LaysOut ts self.old.text.items → OnOk result (LaysOut ts self.new.text.items) }
     {
-        if !self.text.is_empty() {
-            let plain = gap_before(self.last, part, self.depth);
-            self.space(gap_before_comment(self.has_comment, plain, comment.feeds))?;
-        }
+        self.begin_comment(part, comment.feeds)?;
         self.line_of_comment(comment.text)?;
         self.has_comment = true;
         Ok(())
@@ -230,23 +238,28 @@ fn is_left_out(is_needless: bool, token: &Token) -> bool
 /// # Errors
 ///
 /// `AllocError` where there is no memory for the text.
-pub(crate) fn layout(alloc: Global, text: &[u8], found: &Tokens) -> Result<Vec<u8>, AllocError>
-    ensures { IfOk result (λ laid. LaysOut found.now.tokens.items laid.items) }
+pub(crate) fn layout(
+    alloc: Global,
+    text: &[u8],
+    tokens: &[Token],
+    spans: &[Span],
+) -> Result<Vec<u8>, AllocError>
+    ensures { IfOk result (λ laid. LaysOut tokens.now laid.items) }
 {
-    let needless = needless(alloc, &found.tokens)?;
+    let needless = needless(alloc, tokens)?;
     let mut written = WrittenLayout {
         text: Vec::new(alloc),
         depth: 0,
         last: LayoutPart::Semicolon,
         has_comment: false,
     };
-    for (place, token) in found.tokens.iter().enumerate() {
+    for (place, token) in tokens.iter().enumerate() {
         let is_needless = needless.get(place).copied().unwrap_or(false);
-        let part = part_at(&found.tokens, place);
-        let feeds = written.comments(between(text, &found.spans, place), part)?;
+        let part = part_at(tokens, place);
+        let feeds = written.comments(between(text, spans, place), part)?;
         written.token_unless(alloc, is_needless, part, token, feeds)?;
     }
-    let last = between(text, &found.spans, found.tokens.len());
+    let last = between(text, spans, tokens.len());
     written.comments(last, LayoutPart::Word)?;
     written.end()?;
     Ok(written.text)

@@ -3,4 +3,4 @@ use Rattle.nuchapay_tool.specs.LayoutsInside.{LaysOut}
 use Rattle.nuchapay_tool.proofs.layout.text.layout.Given as goal
 
 abbrev pub invariant-loop-place : goal.invariant-loop-place
-invariant-loop-place l = LaysOut (take l.place l.found.tokens.items) l.written.text.items
+invariant-loop-place l = LaysOut (take l.place l.tokens) l.written.text.items

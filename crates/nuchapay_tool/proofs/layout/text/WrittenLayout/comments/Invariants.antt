@@ -1,7 +1,10 @@
-use Rattle.std.proofs.Common.{List}
+use Rattle.std.proofs.Common.{List, length}
 use Rattle.script_tokens.specs.declared.token.Token.{Token}
 use Rattle.nuchapay_tool.specs.LayoutsInside.{LaysOut}
 use Rattle.nuchapay_tool.proofs.layout.text.WrittenLayout.comments.Given as goal
 
-abbrev pub invariant-loop-comments : goal.invariant-loop-comments
-invariant-loop-comments l = (ts : List Token) → LaysOut ts l.initial.self.text.items → LaysOut ts l.self.text.items
+abbrev pub decreases-comments : goal.decreases-comments
+decreases-comments l = length l.rest
+
+abbrev pub invariant-comments : goal.invariant-comments
+invariant-comments l = (ts : List Token) → LaysOut ts l.initial.self.text.items → LaysOut ts l.self.text.items
