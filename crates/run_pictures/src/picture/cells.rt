@@ -1,7 +1,7 @@
 //! The cells of a picture: one for each turn, and one for turns in a row that only give way.
 
-ghost use Rattle.std.specs.Prelude.{◌≡◌, ◌+◌, ◌++◌, All, length, IfOk, OnOk};
-ghost use Rattle.run_pictures.specs.Cells.{AreOf, IsQuiet, cells_of, run_cells, single_cells};
+ghost use Rattle.std.specs.Prelude.{◌≡◌, ◌+◌, ◌-◌, ◌<◌, ◌≤◌, ◌^◌, ◌∷◌, ◌++◌, All, Bool, List, length, IfOk, OnOk};
+ghost use Rattle.run_pictures.specs.Cells.{AreOf, IsQuiet, cells_from, cells_of, run_cells, single_cells};
 
 use std::alloc::{AllocError, Global};
 
@@ -54,6 +54,30 @@ fn add_run(cells: &mut Vec<Cell>, first: usize, turns: usize) -> Result<(), Allo
     Ok(())
 }
 
+// Adds the cells that end with the turn of a column, before which so many in a row only give way: none where it does too. How many in a
+// row do then.
+fn add_turn(
+    cells: &mut Vec<Cell>,
+    column: usize,
+    is_quiet: bool,
+    run: usize,
+) -> Result<usize, AllocError>
+    requires within { run ≤ column }
+    requires limit { column < 2 ^ 63 }
+    ensures within { IfOk result (λ next. next ≤ column + 1) }
+    ensures cells { IfOk result (λ next. (rest : List Bool) → cells.new.items ++ cells_from (column + 1 - next) next rest ≡ cells.old.items ++ cells_from (column - run) run (is_quiet ∷ rest)) }
+{
+    if is_quiet {
+        return Ok(run + 1);
+    }
+    add_run(cells, column - run, run)?;
+    cells.push(Cell {
+        first: column,
+        turns: 1,
+    })?;
+    Ok(0)
+}
+
 /// The cells of turns, in the order in which these began; `quiet` says of each whether it only gives way. Of four and more in a row that
 /// do, all but the first have one cell. In time and memory linear in the turns. An `Err` says that a growth was refused.
 pub fn cells_of(alloc: Global, quiet: &[bool]) -> Result<Vec<Cell>, AllocError>
@@ -63,17 +87,8 @@ pub fn cells_of(alloc: Global, quiet: &[bool]) -> Result<Vec<Cell>, AllocError>
 {
     let mut cells = Vec::with_capacity(alloc, quiet.len())?;
     let mut run = 0;
-    for (column, is_quiet) in quiet.iter().enumerate() {
-        if *is_quiet {
-            run += 1;
-        } else {
-            add_run(&mut cells, column - run, run)?;
-            cells.push(Cell {
-                first: column,
-                turns: 1,
-            })?;
-            run = 0;
-        }
+    for column in 0..quiet.len() {
+        run = add_turn(&mut cells, column, quiet[column], run)?;
     }
     add_run(&mut cells, quiet.len() - run, run)?;
     Ok(cells)
