@@ -1,4 +1,5 @@
 pub mod Answered
+mod Celled
 pub mod Keeping
 mod More
 pub mod Past
