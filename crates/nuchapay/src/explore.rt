@@ -122,7 +122,14 @@ fn said_of(
     let text = match format {
         SearchFormat::Text => answer_text(alloc, script, asked, found)?,
         SearchFormat::Json => answer_json(alloc, heading.text, script, asked, found)?,
-        SearchFormat::Html => page_text(alloc, heading, SearchedFile::Script, script, asked, found)?,
+        SearchFormat::Html => page_text(
+            alloc,
+            heading,
+            SearchedFile::Script,
+            script,
+            asked,
+            found,
+        )?,
     };
     Ok(text)
 }
