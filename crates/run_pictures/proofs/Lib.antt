@@ -1,4 +1,6 @@
 pub mod Answered
+mod Blocks
+mod Breaks
 mod Celled
 pub mod Keeping
 mod More

@@ -2,7 +2,7 @@ use Rattle.std.proofs.Common.{◌≡◌, ℕ, ◌-◌, ◌≤◌, ◌++◌, Bool
 use Rattle.std.specs.Prelude.{All}
 use Rattle.std.proofs.lemmas.List.{at_drop_all}
 use Rattle.run_pictures.specs.declared.picture.cells.Cell.{Cell}
-use Rattle.run_pictures.specs.Cells.{AreOf, IsQuiet, cells_from, cells_of, run_cells}
+use Rattle.run_pictures.specs.Cells.{AreOf, IsQuiet, cells_from, run_cells}
 use Rattle.run_pictures.proofs.Celled.{all_are, all_quiet}
 use Rattle.run_pictures.proofs.picture.cells.cells_of.Goals as goal
 
