@@ -77,7 +77,7 @@ function columns() {
         ...tasks.map((name) => columnOf("How tasks end", name, (outcome) => outcome.endings.get(name) || "\u2014")),
         ...fields.map((name) => columnOf("Fields at the end", name, (outcome) => outcome.fields.get(name) || "\u2014")),
     ];
-    const shown = all.filter((one) => one.values.size > 1 || roots.includes(one.name) || all.length <= 8);
+    const shown = all.filter((one) => one.values.size > 1 || roots.includes(one.name) || all.length <= 6);
     return { shown, constant: all.filter((one) => !shown.includes(one)) };
 }
 
