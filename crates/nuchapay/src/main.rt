@@ -29,8 +29,6 @@ mod show;
 mod told;
 // What is said of a turn.
 mod turn_answers;
-// Whether the last turn of a schedule is undone.
-mod undone;
 // Runs whose turns are explained.
 mod values;
 
