@@ -1,4 +1,4 @@
-use Rattle.std.proofs.Common.{rules}
+use Rattle.std.proofs.Common.{map, rules}
 use Rattle.std.proofs.lemmas.List.{length-map}
 use Rattle.script_code.specs.Seen.{rows_of}
 use Rattle.swift_certificate.specs.Reports.{report_view}
@@ -13,9 +13,10 @@ loop-place-preserved c =
     let journal = at_place r.journals.items k c.index.result.now (search rules) c.index.ensures in
     let checkpoint = seen_at (λ x. x.view) r.checkpoints.items k c.index-in-loop-place.result.now (search rules) c.index-in-loop-place.ensures in
     let fields = seen_at (λ x. rows_of x.items) r.fields.items k c.index-in-loop-place-2.result.now (search rules) c.index-in-loop-place-2.ensures in
-    ended_next c.args.script.now c.args.rows.now (report_view r) k c.index-rows-place.result c.index.result.now c.index-in-loop-place.result.now.view (rows_of c.index-in-loop-place-2.result.now.items) c.loop-place.invariant at journal checkpoint fields (search rules)
+    let own = seen_at (λ x. rows_of x.items) c.args.own.now k c.index-own-place.result (search rules) c.index-own-place.is in
+    ended_next c.args.script.now c.args.rows.now (map (λ x. rows_of x.items) c.args.own.now) (report_view r) k c.index-rows-place.result (rows_of c.index-own-place.result.items) c.index.result.now c.index-in-loop-place.result.now.view (rows_of c.index-in-loop-place-2.result.now.items) c.loop-place.invariant at own journal checkpoint fields (search rules)
 
 pub returns : goal.returns
 returns c = λ yes.
     (let r = c.args.report.now in
-    all_ended c.args.script.now c.args.rows.now (report_view r) c.loop-place.place (search rules) c.loop-place.invariant (search rules) (search rules) (search (rules, length-map)) (search (rules, length-map)))
+    all_ended c.args.script.now c.args.rows.now (map (λ x. rows_of x.items) c.args.own.now) (report_view r) c.loop-place.place (search rules) c.loop-place.invariant (search rules) (search (rules, length-map)) (search rules) (search (rules, length-map)) (search (rules, length-map)))

@@ -18,6 +18,6 @@ returns-then-branch c =
     let end = c.go_to_the_end.new.history in
     let done = c.in_ok-go_to_the_end.ensures in
     let more = done.after c.if-branch.true in
-    whole_of (arc_value c.args.history.now.script) c.args.schedule.now path more.0 end
+    whole_of (arc_value c.args.history.now.steps.script) c.args.schedule.now path more.0 end
     (more.1 ∙ ap (λ (ms : List Move). ms ++ more.0) c.in_ok-path.ensures.items)
     (subst (λ (s : ScriptView). IsPath s path end) (ap arc_value c.follow_or_stop.ensures.script) (done.path c.if-branch.true))

@@ -10,7 +10,7 @@ use Rattle.swift_certificate.proofs.replay.Replay.agrees.Goals as goal
 pub returns : goal.returns
 returns c =
     let x = c.args.self.now in
-    let roots : x.roots ≡ root_count (arc_value x.script) = search rules in
+    let roots : x.history.roots ≡ root_count (arc_value x.history.script) = search rules in
     let script = c.deref-2.ensures in
     let many : length (report_view c.args.report.now).endings ≡ c.len.result = search rules in
-    map_ok c.are_ended.result _ _ (λ yes ended is. legal_is (arc_value x.script) (report_view c.args.report.now) x c.requires (search rules) roots (search rules) (search rules) (λ t g lt below. c.if-not-have_closed.ensures refl t g (subst (λ (n : ℕ). t < n) many lt) below) (subst (λ p. AreEndedAt p x.rows.items (report_view c.args.report.now)) script (subst (λ rows. AreEndedAt c.deref-2.result.now rows (report_view c.args.report.now)) c.deref-3.ensures.value (ended is)))) c.are_ended.ensures
+    map_ok c.are_ended.result _ _ (λ yes ended is. legal_is (report_view c.args.report.now) x c.requires (search rules) roots (search rules) (search rules) (λ t g lt below. c.if-not-have_closed.ensures refl t g (subst (λ (n : ℕ). t < n) many lt) below) (ended is)) c.are_ended.ensures
