@@ -9,7 +9,7 @@ use Rattle.swift_explorer.proofs.completion.complete.Goals as goal
 pub go_to_the_end-requires : goal.go_to_the_end-requires
 go_to_the_end-requires c =
     let x = c.follow_or_stop.new.history in
-    subst (λ (ms : List Move). IsPath (arc_value x.script) ms x) (sym c.in_ok-path.ensures.items)
+    subst (λ (ms : List Move). IsPath (arc_value x.steps.script) ms x) (sym c.in_ok-path.ensures.items)
     (subst (λ (s : ScriptView). IsPath s c.args.schedule.now x) (sym (ap arc_value c.follow_or_stop.ensures.script)) (search rules))
 
 pub returns-then-branch : goal.returns-then-branch
