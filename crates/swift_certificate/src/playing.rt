@@ -17,6 +17,7 @@ use swift_turn::Body;
 use swift_types::TaskId;
 
 /// How far an executor was followed: how many of its checkpoint's turns and of its journal's there were.
+#[derive(Drop)]
 pub struct ExecutorProgress {
     pub folded: usize,
     pub played: usize,

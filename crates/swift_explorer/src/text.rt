@@ -12,6 +12,7 @@ use std::alloc::{AllocError, Global};
 use swift_log::EventLog;
 use swift_report::{Report, report_text};
 use swift_script::Script;
+use swift_steps::copy_all_fields;
 use swift_types::TaskId;
 
 fn put_number(out: &mut Vec<u8>, number: usize) -> Result<(), AllocError>
