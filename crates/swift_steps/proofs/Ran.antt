@@ -210,5 +210,5 @@ module _ (x m y : OpenHistory) (turn : PlayedTurn) (worker : ℕ) (pl : Plays x 
 
 -- what holds where a step may follow
 pub if_yes : (r : Result Bool AllocError) (P Q : Type 0) → (P → Q) → IfOk r (λ yes. IsTrue yes → P) → IfOk r (λ yes. IsTrue yes → Q)
-if_yes (Ok b) P Q leads was = λ is. leads (was is)
-if_yes (Err e) P Q leads was = tt
+if_yes (Ok b) P Q f was = λ is. f (was is)
+if_yes (Err e) P Q f was = tt

@@ -10,7 +10,7 @@ use Rattle.swift_history.specs.Jobs.{job_facts}
 use Rattle.swift_tasks.specs.Refusals.{refusal_of_apply}
 use Rattle.swift_steps.proofs.history.OpenHistory.apply.Goals as goal
 
-pub returns-in_ok-put_all-in-Ok-clause-applies : goal.returns-in-Ok-clause-applies
+pub returns-in_ok-put_all-in-Ok-clause-applies : goal.returns-in_ok-put_all-in-Ok-clause-applies
 returns-in_ok-put_all-in-Ok-clause-applies c = λ _.
     (let book = c.args.self.now.book in
     let after = c.apply_known.new.self in
