@@ -18,10 +18,9 @@ use Rattle.swift_events.specs.Room.{IsEnv}
 use Rattle.swift_journal.specs.Checkpoints.{CheckpointView}
 use Rattle.swift_journal.specs.Records.{RecordView}
 use Rattle.swift_journal.specs.Replay.{fields_after, replay}
-use Rattle.swift_job.specs.Job.{JobView}
 use Rattle.swift_turn.specs.Body.{BodyView, advanced}
 use Rattle.swift_history.specs.Checks.{counters, fits_turn, is_current}
-use Rattle.swift_history.specs.Histories.{Block, added, begun, ran, Standing, Stands, TurnStands, after_block, at_first, begun_priority, checkpoint_at, fields_of, frames_applied, job_applied, left_as, record_in, records_of, root_in, taken, turn_applied, with_jobs}
+use Rattle.swift_history.specs.Histories.{Block, added, begun, ran, Standing, Stands, TurnStands, after_block, at_first, begun_priority, fields_of, frames_applied, job_applied, left_as, record_in, records_of, root_in, taken, turn_applied, with_jobs}
 use Rattle.swift_history.specs.TurnEnds.{WaitingTaskView, JobFacts, TurnEnd, root_events, root_job, turn_end}
 use Rattle.swift_tasks.specs.declared.fault.BookFault.{BookFault}
 use Rattle.swift_tasks.specs.Books.{BookView, IsEndOf, end_of_turn}

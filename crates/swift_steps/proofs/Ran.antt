@@ -5,7 +5,6 @@ use Rattle.std.specs.declared.alloc.AllocError.{AllocError}
 use Rattle.std.specs.Arc.{arc_value}
 use Rattle.swift_types.specs.declared.env.Env.{Env}
 use Rattle.swift_types.specs.declared.id.TaskId.{TaskId}
-use Rattle.swift_types.specs.declared.outcome.Resume.{Resume}
 use Rattle.swift_script.specs.Scripts.{ScriptView, actor_executor, method_actor}
 use Rattle.swift_interpreter.specs.Frames.{FrameView, effect_views}
 use Rattle.swift_interpreter.specs.Turn.{EffectView, ExitView, Played, TurnStateView, calling, waiting, asking_next, closing, yielding, returning, failing}
@@ -27,7 +26,7 @@ use Rattle.swift_course.proofs.Frames.{frames_go_on}
 use Rattle.swift_steps.specs.declared.next_turn.NextTurn.{NextTurn}
 use Rattle.swift_steps.specs.declared.history.OpenHistory.{OpenHistory}
 use Rattle.swift_steps.specs.declared.played.PlayedTurn.{PlayedTurn}
-use Rattle.swift_steps.specs.NextTurns.{given_at, given_view, job_of}
+use Rattle.swift_steps.specs.NextTurns.{given_view, job_of}
 use Rattle.swift_steps.specs.OpenHistories.{Applies, Follows, GoesOn, IsAtRest, IsFollowed, Plays, RunsAt, Takes, kept_first, record_of, rows_at}
 use Rattle.swift_steps.proofs.Led.{Turned, fields_go_on, led_turn, turn_stands}
 use Rattle.swift_steps.proofs.Steps.{followed_is, own_led, rest_after, same_many, same_rows}

@@ -9,14 +9,14 @@ use Rattle.swift_script.specs.Scripts.{ScriptView, actor_executor, method_actor}
 use Rattle.swift_interpreter.specs.Frames.{FrameView, effect_views}
 use Rattle.swift_interpreter.specs.Turn.{EffectView, ExitView}
 use Rattle.swift_interpreter.specs.TurnStates.{exit_view}
-use Rattle.swift_turn.specs.Body.{BodyView, HasFrames, IfRunning, IsTurnOf, left}
+use Rattle.swift_turn.specs.Body.{HasFrames, IfRunning, IsTurnOf, left}
 use Rattle.swift_events.specs.declared.event.Event.{Event}
 use Rattle.swift_events.specs.declared.event.Event.TheVariants.{Begin}
 use Rattle.swift_events.specs.declared.life.JobStage.TheVariants.{Begun}
 use Rattle.swift_events.specs.Lives.{life_of}
 use Rattle.swift_journal.specs.Checkpoints.{CheckpointView}
 use Rattle.swift_journal.specs.Records.{RecordView}
-use Rattle.swift_history.specs.Histories.{AllStand, Block, added, begun, checkpoint_at, fields_of, ran, roots_of, with_jobs}
+use Rattle.swift_history.specs.Histories.{AllStand, Block, added, begun, checkpoint_at, fields_of, roots_of, with_jobs}
 use Rattle.swift_history.specs.TurnEnds.{WaitingTaskView, JobFacts}
 use Rattle.swift_course.specs.Course.{standing}
 use Rattle.swift_course.specs.Frames.{kept_frame}

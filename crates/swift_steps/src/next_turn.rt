@@ -78,7 +78,10 @@ fn again(ready: &Option<NextTurn>) -> Result<Option<NextTurn>, AllocError>
 }
 
 /// What the next turn of each task begins with again.
-pub fn copy_all(alloc: Global, tasks: &[Option<NextTurn>]) -> Result<Vec<Option<NextTurn>>, AllocError>
+pub fn copy_all(
+    alloc: Global,
+    tasks: &[Option<NextTurn>],
+) -> Result<Vec<Option<NextTurn>>, AllocError>
     ensures { IfOk result (λ copy. AllZip IsSameIf tasks.now copy.items) }
 {
     let mut copy = Vec::with_capacity(alloc, tasks.len())?;
@@ -102,7 +105,11 @@ pub fn take(tasks: &mut Vec<Option<NextTurn>>, task: TaskId) -> Option<NextTurn>
 
 /// Puts what a task's next turn begins with to the others. It takes memory where the task's number is past those that were
 /// there before; out of memory, what was there means nothing.
-pub fn put(tasks: &mut Vec<Option<NextTurn>>, task: TaskId, ready: NextTurn) -> Result<(), AllocError>
+pub fn put(
+    tasks: &mut Vec<Option<NextTurn>>,
+    task: TaskId,
+    ready: NextTurn,
+) -> Result<(), AllocError>
     ensures { OnOk result ((u : ℕ) → given_at tasks.new.items u ≡ with_given task.0 (Some ready) (given_at tasks.old.items) u) }
 {
     let place = task.0 as usize;
@@ -114,7 +121,10 @@ pub fn put(tasks: &mut Vec<Option<NextTurn>>, task: TaskId, ready: NextTurn) -> 
 }
 
 /// Puts these jobs to the others, in order. Out of memory, some of them are left.
-pub fn put_all(tasks: &mut Vec<Option<NextTurn>>, jobs: &mut Vec<Job<Body>>) -> Result<(), AllocError>
+pub fn put_all(
+    tasks: &mut Vec<Option<NextTurn>>,
+    jobs: &mut Vec<Job<Body>>,
+) -> Result<(), AllocError>
     ensures scripts { OnOk result ((script : ScriptView) → AllByRecursion (IsJobOf script) jobs.old.items → AreOf script tasks.old.items → AreOf script tasks.new.items) }
     ensures given { OnOk result ((seen : ℕ → Option JobFacts) → AreGiven seen tasks.old.items → AreGiven (with_jobs (map job_facts jobs.old.items) seen) tasks.new.items) }
     ensures none { OnOk result (jobs.new.items ≡ []) }

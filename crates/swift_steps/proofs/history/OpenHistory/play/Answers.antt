@@ -5,7 +5,6 @@ use Rattle.script_code.specs.Seen.{rows_of}
 use Rattle.std.proofs.lemmas.List.{get_or_read_under, length-set}
 use Rattle.std.proofs.lemmas.Option.{slice_get-get_or}
 use Rattle.swift_turn.specs.Body.{BodyView, PhaseView, idle}
-use Rattle.swift_steps.specs.declared.next_turn.NextTurn.{NextTurn}
 use Rattle.swift_steps.proofs.Ran.{plays}
 use Rattle.swift_steps.proofs.Rows.{rows_here, rows_set}
 use Rattle.swift_steps.proofs.history.OpenHistory.play.Goals as goal
