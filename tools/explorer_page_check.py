@@ -25,8 +25,12 @@ from run_page_check import BROWSERS, line_of, plain, said_by
 from run_page import sum_of
 
 EXAMPLES = os.path.join(explorer_page.TOP, "examples")
-NAMES = ("account.actors", "fifo.actors", "priorities.actors", "nuchapay/explore_expect.actors", "races/twice_made.actors", "swift/account.swift")
+NAMES = ("account.actors", "fifo.actors", "priorities.actors", "nuchapay/explore_expect.actors", "races/twice_made.actors", "swift/account.swift",
+         "nuchapay/explore_swift_spin.swift", "nuchapay/explore_swift_expect_trap.swift")
 SIZES = ("1280,1100", "700,900")
+# What the table says of an outcome in Swift, and what stands above it of those that are none.
+IN_SWIFT = {"outcome": "", "ends": "ends the process", "spins": "may spin"}
+SAID = {"ends": "The process ends before", "spins": "A task may spin in"}
 # Of how many outcomes the turns are compared with `run`.
 COMPARED = 5
 SHOWN = 100
@@ -103,6 +107,8 @@ def table_faults(found, seen):
         yield f"its table has {len(cells)} outcomes, and not {len(found['outcomes'])}"
         return
     asked = [each["text"] for each in found["expectations"]]
+    meanings = found.get("swift", ["outcome"] * len(cells))
+    first = 2 if "swift" in found else 1
     for place, (outcome, row) in enumerate(zip(found["outcomes"], cells)):
         wanted = {"Outcome": f"outcome {outcome['outcome']}", "Turns": str(sum(1 for step in outcome["schedule"] if step["is"] == "run"))}
         wanted |= {f"{actor}.{field}": str(value) for actor, row_ in outcome["end"]["fields"].items() for field, value in row_.items()}
@@ -111,10 +117,12 @@ def table_faults(found, seen):
         for name, value in wanted.items():
             if name in shown and shown[name] != value or name not in shown and f"{name} {value}" not in seen["constant"]:
                 yield f"of outcome {place + 1} it says {name} {shown.get(name)}, and not {value}"
+        if shown.get("In Swift", "") != IN_SWIFT[meanings[place]]:
+            yield f"of outcome {place + 1} in Swift it says {shown.get('In Swift')}"
         for at_, text in enumerate(asked):
-            verdict = found["expectations"][at_]["verdicts"][place]
-            if not row[1 + at_].endswith("\u2713" if verdict == "holds" else verdict):
-                yield f"of outcome {place + 1} it says {row[1 + at_]} of {text}"
+            verdict = found["expectations"][at_]["verdicts"][place] if meanings[place] == "outcome" else "\u2014"
+            if not row[first + at_].endswith("\u2713" if verdict == "holds" else verdict):
+                yield f"of outcome {place + 1} it says {row[first + at_]} of {text}"
 
 
 def page_faults(answer, more, seen):
@@ -127,8 +135,14 @@ def page_faults(answer, more, seen):
         yield f"it says {seen['summary']}"
     if seen["undone"] != list(turns(found["undone"] or [])):
         yield f"the order to a turn that is undone is {seen['undone']}"
+    meanings = found.get("swift", ["outcome"] * len(found["outcomes"]))
+    many = re.match(r"(\d+|No) outcome", seen["summary"])
+    if many is None or many[1].replace("No", "0") != str(meanings.count("outcome")):
+        yield f"it says {seen['summary']}"
+    if [word for word in ("ends", "spins") if word in meanings] != [word for word in ("ends", "spins") if f"{SAID[word]} outcome" in seen["swift"]]:
+        yield f"of Swift it says {seen['swift']}"
     for line, asked in zip(seen["asked"], found["expectations"], strict=True):
-        fails = any(verdict != "holds" for verdict in asked["verdicts"])
+        fails = any(verdict != "holds" for verdict, meaning in zip(asked["verdicts"], meanings) if meaning == "outcome")
         if asked["text"] not in line or ("fails" in line) != fails:
             yield f"it says {line}"
     if seen["themes"] not in (["light", "dark", "light"], ["dark", "light", "dark"]) or seen["keys"] != [True, False, True]:

@@ -11,6 +11,7 @@
     });
     const seen = {
         title: document.title, summary: at("summary").textContent, asked: texts("#asked li"), undone: texts("#undone .step"), first: null, walk: [],
+        swift: at("swift").textContent,
         heads: texts("#table thead tr:last-child th"), cells: [...document.querySelectorAll("#table tbody tr")].map((row) => texts("td", row)),
         lines: lines().map((line) => texts(".step", line)), constant: at("constant").textContent, source: at("source").textContent,
         scripts: document.scripts.length, hidden: ["outcomes", "orders", "compare"].map((id) => at(id).hidden),

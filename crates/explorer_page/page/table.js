@@ -23,28 +23,49 @@ const ENDS = {
 function showSummary() {
     const name = more.name.split("/").pop();
     document.title = at("title").textContent = `How ${name} can end`;
-    const many = outcomes.length === 0 ? "No outcome was found" : `${counted(outcomes.length, "outcome was", "outcomes were")} found`;
+    const many = askedOutcomes.length === 0 ? "No outcome was found" : `${counted(askedOutcomes.length, "outcome was", "outcomes were")} found`;
     const end = made("span", { class: answer.search === "complete" ? null : "bad" }, ENDS[answer.search]);
     at("summary").append(`${many}, in ${counted(answer.states, "state")}. `, end);
+    if (isSwift) showSwift();
+}
+
+// What an outcome is in Swift, where it is none, and what is said of those that are so.
+const IN_SWIFT = { outcome: "", ends: "ends the process", spins: "may spin" };
+const SAID = {
+    ends: ["The process ends before ", ": in Swift an invariant or precondition fails there, or a value is out of its range."],
+    spins: ["A task may spin in ", ": there the script met a limit that Swift does not have."],
+};
+
+// Which orders lead to something else than an outcome of Swift.
+function showSwift() {
+    for (const [word, [before, after]] of Object.entries(SAID)) {
+        const these = outcomes.filter(({ inSwift }) => inSwift === word);
+        if (these.length === 0) continue;
+        const shown = joined(these.slice(0, 12).map(linkTo), ", ");
+        at("swift").append(made("div", {}, made("b", { class: "bad" }, before), ...shown, these.length > 12 ? ` and ${these.length - 12} more` : "", after));
+    }
 }
 
 // What was asked, and where it fails.
 function showAsked() {
     at("asked").append(...answer.expectations.map(({ text, verdicts }) => {
-        const failing = outcomes.filter(({ place }) => verdicts[place] !== "holds");
+        const failing = askedOutcomes.filter(({ place }) => verdicts[place] !== "holds");
         const shown = failing.slice(0, 12).map(linkTo);
         const mark = made("b", { class: failing.length > 0 ? "bad" : "good" }, failing.length > 0 ? "\u2717 fails: " : "\u2713 holds in each outcome: ");
         const where = failing.length > 0 ? [" in ", ...joined(shown, ", "), failing.length > 12 ? ` and ${failing.length - 12} more` : ""] : [];
         return made("li", {}, mark, made("code", {}, text), ...where);
     }));
     if (undoneSteps === null) {
-        at("undone").textContent = `No turn ${answer.search === "complete" ? "is" : "was found that is"} undone by an invariant.`;
+        const none = `No turn ${answer.search === "complete" ? "is" : "was found that is"} undone by an invariant.`;
+        at("undone").textContent = isSwift ? "No turn was found in which an invariant or precondition fails." : none;
         return;
     }
     const with_ = outcomes.filter(({ undone }) => undone.length > 0);
-    at("undone").append(made("b", { class: "bad" }, "A turn is undone by an invariant "), "in this order: ");
+    const what = isSwift ? "An invariant or precondition fails, and the process ends, " : "A turn is undone by an invariant ";
+    at("undone").append(made("b", { class: "bad" }, what), "in this order: ");
     at("undone").append(...undoneSteps.map((step, place) => cell(step, place === undoneSteps.length - 1 ? "undone" : "")));
-    if (with_.length > 0) at("undone").append(" So it is in ", ...joined(with_.slice(0, 12).map(linkTo), ", "), with_.length > 12 ? " and more." : ".");
+    // Of a Swift file another line says so.
+    if (with_.length > 0 && !isSwift) at("undone").append(" So it is in ", ...joined(with_.slice(0, 12).map(linkTo), ", "), with_.length > 12 ? " and more." : ".");
 }
 
 // The columns of the table: how the roots end, and what of the rest is not the same in each outcome.
@@ -56,7 +77,7 @@ function columns() {
         ...tasks.map((name) => columnOf("How tasks end", name, (outcome) => outcome.endings.get(name) || "\u2014")),
         ...fields.map((name) => columnOf("Fields at the end", name, (outcome) => outcome.fields.get(name) || "\u2014")),
     ];
-    const shown = all.filter((one) => one.values.size > 1 || roots.includes(one.name) || all.length <= 8);
+    const shown = all.filter((one) => one.values.size > 1 || roots.includes(one.name) || all.length <= 6);
     return { shown, constant: all.filter((one) => !shown.includes(one)) };
 }
 
@@ -65,7 +86,11 @@ const anyUndone = outcomes.some(({ undone }) => undone.length > 0);
 // The cells of an outcome.
 function rowOf(outcome, shown) {
     const [row, seen] = [[made("td", {}, linkTo(outcome))], new Set()];
-    outcome.verdicts.forEach((verdict, place) => row.push(made("td", { class: `${verdict === "holds" ? "good" : "bad"}${place === 0 ? " part" : ""}` }, VERDICTS[verdict])));
+    if (isSwift) row.push(made("td", { class: "bad" }, IN_SWIFT[outcome.inSwift]));
+    outcome.verdicts.forEach((verdict, place) => {
+        const [mark, word] = outcome.inSwift === "outcome" ? [verdict === "holds" ? "good" : "bad", VERDICTS[verdict]] : ["faint", "\u2014"];
+        row.push(made("td", { class: `${mark}${place === 0 ? " part" : ""}` }, word));
+    });
     for (const column of shown) {
         const value = column.value(outcome);
         const first = !seen.has(column.part);
@@ -79,13 +104,13 @@ function rowOf(outcome, shown) {
 
 function showTable() {
     const { shown, constant } = columns();
-    const groups = [["", 1], ...(answer.expectations.length > 0 ? [["Expected", answer.expectations.length]] : [])];
+    const groups = [["", isSwift ? 2 : 1], ...(answer.expectations.length > 0 ? [["Expected", answer.expectations.length]] : [])];
     for (const { part } of shown) {
         if (groups[groups.length - 1][0] === part) groups[groups.length - 1][1] += 1;
         else groups.push([part, 1]);
     }
     groups.push(["", anyUndone ? 2 : 1]);
-    const heads = ["Outcome", ...answer.expectations.map(({ text }) => text), ...shown.map(({ name }) => name), ...(anyUndone ? ["Undone turns"] : []), "Turns"];
+    const heads = ["Outcome", ...(isSwift ? ["In Swift"] : []), ...answer.expectations.map(({ text }) => text), ...shown.map(({ name }) => name), ...(anyUndone ? [isSwift ? "Ends in turn" : "Undone turns"] : []), "Turns"];
     at("table").append(made("thead", {},
         made("tr", {}, ...groups.map(([part, span]) => made("th", { class: "group", colspan: span }, part))),
         made("tr", {}, ...heads.map((name) => made("th", { scope: "col" }, name)))));

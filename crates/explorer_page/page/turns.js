@@ -28,7 +28,7 @@ function told(outcome, step) {
     const cancelled = turn.cancelled ? ", cancelled" : "";
     parts.push(made("span", { class: "said" }, made("span", { class: "faint" }, `in ${turn.method}${cancelled}: `), `${resumeWords(turn.resume, step.name)}, ${exitWords(turn.exit)}`));
     parts.push(...turn.changes.map((change) => made("span", { class: "change" }, arrow(change))));
-    if (turn.losses.length > 0) parts.push(made("span", { class: "loss" }, "undone: ", turn.losses.map(arrow).join("; ")));
+    if (turn.losses.length > 0) parts.push(made("span", { class: "loss" }, isSwift ? "ends the process: " : "undone: ", turn.losses.map(arrow).join("; ")));
     return parts;
 }
 

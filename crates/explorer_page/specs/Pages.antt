@@ -7,10 +7,13 @@ use Rattle.swift_explorer.specs.declared.exploration.FoundOutcomes.{FoundOutcome
 use Rattle.expectations.specs.declared.expectation.Expectation.{Expectation}
 use Rattle.explorer_json.specs.AnswerJson.{answer_json}
 use Rattle.explorer_json.specs.Strings.{string_json}
+use Rattle.explorer_json.specs.SwiftJson.{swift_answer_json}
 use Rattle.nuchapay_runs.specs.Noted.{noted_text}
 use Rattle.run_page.specs.Escapes.{IsPlain, escaped}
 use Rattle.explorer_page.specs.Runs.{AreRuns}
 use Rattle.explorer_page.specs.declared.more.SearchHeading.{SearchHeading}
+use Rattle.explorer_page.specs.declared.more.SearchedFile.{SearchedFile}
+use Rattle.explorer_page.specs.declared.more.SearchedFile.TheVariants as file
 use Rattle.explorer_page.specs.declared.runs.TheConstants.{SHOWN}
 use Rattle.explorer_page.specs.declared.texts.found.TheConstants.{FOUND}
 use Rattle.explorer_page.specs.declared.texts.frame.TheConstants.{BELOW, BODY, END, HEAD, MIDDLE}
@@ -49,14 +52,20 @@ runs_json p place (r ∷ rs) = run_json p place r ++ runs_json p (place + 1) rs
 abbrev pub more_json : ScriptView → SearchHeading → List Report → List ℕ
 more_json p h runs = heading_json h ++ runs_json p 0 runs ++ codes "]}\n"
 
--- the bytes of a page: the front, the answer as JSON, what stands between, the other JSON of the search, and the end
-abbrev pub page_bytes : SearchHeading → ScriptView → List Expectation → FoundOutcomes → List Report → List ℕ
-page_bytes h p asked found runs = front_text ++ escaped (answer_json h.text.now p asked found) ++ MIDDLE.now ++ escaped (more_json p h runs) ++ back_text
+-- the answer, which says of a Swift file what each outcome is in Swift, too
+abbrev pub said_json : SearchedFile → List ℕ → ScriptView → List Expectation → FoundOutcomes → List ℕ
+said_json file.Script text p asked found = answer_json text p asked found
+said_json file.Swift text p asked found = swift_answer_json text p asked found
 
--- A text is the page of a search, with the runs of its first outcomes, where in what is of the search no byte can begin or end markup.
-pub record IsPage (h : SearchHeading) (p : ScriptView) (asked : List Expectation) (found : FoundOutcomes) (text : List ℕ) : Type 0 where
+-- the bytes of a page: the front, the answer as JSON, what stands between, the other JSON of the search, and the end
+abbrev pub page_bytes : SearchHeading → SearchedFile → ScriptView → List Expectation → FoundOutcomes → List Report → List ℕ
+page_bytes h of p asked found runs = front_text ++ escaped (said_json of h.text.now p asked found) ++ MIDDLE.now ++ escaped (more_json p h runs) ++ back_text
+
+-- A text is the page of a search of such a file, with the runs of its first outcomes, where in what is of the search no byte can begin or
+-- end markup.
+pub record IsPage (h : SearchHeading) (of : SearchedFile) (p : ScriptView) (asked : List Expectation) (found : FoundOutcomes) (text : List ℕ) : Type 0 where
   pub runs : List Report
   pub are : AreRuns p (take SHOWN found.outcomes.items) runs
-  pub is : text ≡ page_bytes h p asked found runs
-  pub plain_answer : IsPlain (escaped (answer_json h.text.now p asked found))
+  pub is : text ≡ page_bytes h of p asked found runs
+  pub plain_answer : IsPlain (escaped (said_json of h.text.now p asked found))
   pub plain_more : IsPlain (escaped (more_json p h runs))

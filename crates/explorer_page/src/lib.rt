@@ -15,6 +15,6 @@ mod runs;
 // The parts of a page that are the same for all searches.
 mod texts;
 
-pub use more::SearchHeading;
+pub use more::{SearchHeading, SearchedFile};
 pub use page::page_text;
 pub use runs::PageError;

@@ -19,6 +19,15 @@ pub struct SearchHeading<'a> {
     pub text: &'a [u8],
 }
 
+/// What was searched (our own).
+#[derive(Clone, Copy)]
+pub enum SearchedFile {
+    /// A script.
+    Script,
+    /// The script that a Swift file becomes.
+    Swift,
+}
+
 // What a page is headed with, up to where the runs begin.
 fn put_heading(out: &mut Vec<u8>, heading: SearchHeading<'_>) -> Result<(), AllocError>
     ensures { OnOk result (out.new.items ≡ out.old.items ++ heading_json heading.entry) }

@@ -1,5 +1,5 @@
 -- Runs by a schedule (our own).
-use Rattle.std.specs.Prelude.{◌≡◌, ◌⊎◌, ◌<◌, ℕ, ◌+◌, Bool, IsTrue, Some, List, length, slice_get, take}
+use Rattle.std.specs.Prelude.{◌≡◌, ◌⊎◌, ◌<◌, ℕ, ◌+◌, ◌-◌, Bool, IsTrue, true, Option, Some, None, List, length, option_and_then, slice_get, take}
 use Rattle.std.specs.Arc.{arc_value}
 use Rattle.swift_script.specs.Accepted.{IsAccepted}
 use Rattle.swift_script.specs.Scripts.{ScriptView}
@@ -8,17 +8,20 @@ use Rattle.swift_certificate.specs.Reports.{report_view}
 use Rattle.swift_report.specs.declared.report.Report.{Report}
 use Rattle.swift_explorer.specs.declared.exploration.FoundOutcomes.{FoundOutcomes}
 use Rattle.swift_explorer.specs.declared.moves.Move.{Move}
+use Rattle.swift_explorer.specs.declared.moves.Move.TheVariants as step
 use Rattle.swift_explorer.specs.declared.outcome.RunOutcome.{RunOutcome}
 use Rattle.swift_explorer.specs.Outcomes.{IsBrokenAfter, IsLogOf, NeverBreaks}
 use Rattle.nuchapay_tool.specs.declared.requests.ScheduleChoice.{ScheduleChoice}
 use Rattle.nuchapay_tool.specs.declared.requests.ScheduleChoice.TheVariants as choice
-use Rattle.swift_explorer.specs.FoundText.{schedule_text}
+use Rattle.swift_explorer.specs.FoundText.{schedule_text, turns_before}
+use Rattle.swift_types.specs.declared.id.TaskId.{TaskId}
+use Rattle.run_pictures.specs.Breaking.{breaks_at}
 use Rattle.nuchapay.specs.declared.scheduled.BrokenLine.{BrokenLine}
 use Rattle.nuchapay.specs.declared.scheduled.BrokenLine.TheVariants as line
 use Rattle.nuchapay.specs.declared.scheduled.ChosenRun.{ChosenRun}
 use Rattle.nuchapay.specs.declared.scheduled.ChosenRun.TheVariants as chosen
 use Rattle.nuchapay.specs.declared.scheduled.NoRun.{NoRun}
-use Rattle.nuchapay.specs.declared.scheduled.NoRun.TheVariants.{NoOutcome, NoneBroken, Word, OtherText, Step, Unfinished}
+use Rattle.nuchapay.specs.declared.scheduled.NoRun.TheVariants.{NoOutcome, NoneBroken, NotUndone, Word, OtherText, Step, Unfinished}
 use Rattle.nuchapay.specs.declared.scheduled.ScheduledRun.{ScheduledRun}
 use Rattle.nuchapay.specs.Schedules.{AreSpelled}
 use Rattle.explorer_answers.specs.Found.{IsFound}
@@ -26,6 +29,7 @@ use Rattle.std.specs.declared.vec.Vec.{Vec}
 use Rattle.std.specs.declared.alloc.Global.{Global}
 use Rattle.explorer_files.specs.Saved.{IsSavedAs}
 use Rattle.explorer_files.specs.declared.saved.SavedChoice.{SavedChoice}
+use Rattle.explorer_files.specs.declared.saved.SavedChoice.TheVariants as meant
 use Rattle.explorer_files.specs.declared.saved.SavedSchedule.TheVariants.{Steps}
 use Rattle.nuchapay.specs.declared.scheduled.SavedRun.{SavedRun}
 use Rattle.nuchapay.specs.declared.scheduled.SavedRun.TheVariants as kept
@@ -76,6 +80,7 @@ IsMissing script many (choice.Broken limit) = ⊥
 abbrev pub IsNoRun : ScriptView → NoRun → ScheduleChoice → Type 0
 IsNoRun script (NoOutcome many) choice = IsMissing script many choice
 IsNoRun script (NoneBroken all) choice = IsTrue all → NeverBreaks script
+IsNoRun script NotUndone choice = Unit {0}
 IsNoRun script (Word number fault) choice = Unit {0}
 IsNoRun script OtherText choice = Unit {0}
 IsNoRun script (Step number fault) choice = Unit {0}
@@ -122,11 +127,30 @@ abbrev pub IsBrokenLine : List ℕ → BrokenLine → Type 0
 IsBrokenLine bytes (line.Line text) = IsLineOfBroken bytes text.items
 IsBrokenLine bytes (line.None all) = NeverBreaksIf bytes all
 
--- What comes of the schedule that a file has: a run whose first steps are its steps, or why there is none.
+-- the task whose turn begins or runs in a step
+abbrev pub task_of_step : Move → Option TaskId
+task_of_step step.Add = None
+task_of_step (step.Begin t) = Some t
+task_of_step (step.Run t) = Some t
+
+-- The turn that the last of these steps begins or runs was undone by an invariant, in a report that they make.
+pub record IsUndoneLast (script : ScriptView) (steps : List Move) (report : Report) : Type 0 where
+  pub task : TaskId
+  pub last : option_and_then task_of_step (slice_get steps (length steps - 1)) ≡ Some task
+  pub breaks : breaks_at script task.0 (turns_before task.0 steps (length steps) - 1) report.checkpoints.items report.journals.items ≡ true
+
+-- of a run by a schedule that is to lead to a turn that an invariant undoes, its last turn is one
+abbrev pub IsAsMeant : SavedChoice → ScriptView → List Move → ChosenRun → Type 0
+IsAsMeant (meant.Outcome number) script steps found = Unit {0}
+IsAsMeant meant.Broken script steps (chosen.Run run) = IsUndoneLast script steps run.report
+IsAsMeant meant.Broken script steps (chosen.None why) = Unit {0}
+
+-- What comes of the schedule that a file has: a run whose first steps are its steps, and of the kind that is meant, or why there is none.
 pub record IsFollowed (bytes file : List ℕ) (choice : SavedChoice) (script : ScriptView) (found : ChosenRun) : Type 0 where
   pub steps : Vec Move Global
   pub saved : IsSavedAs file bytes choice (Steps steps)
   pub run : IsCompleted script steps.items found
+  pub meant : IsAsMeant choice script steps.items found
 
 -- what comes of the schedule that is meant, or what the file has in its place
 abbrev pub IsSavedOrNone : List ℕ → List ℕ → SavedChoice → ScriptView → SavedRun → Type 0

@@ -9,17 +9,18 @@ use Rattle.explorer_answers.specs.SwiftText.{swift_answer_text}
 use Rattle.explorer_json.specs.SwiftJson.{swift_answer_json}
 use Rattle.explorer_page.specs.Pages.{IsPage}
 use Rattle.explorer_page.specs.declared.more.SearchHeading.{SearchHeading}
+use Rattle.explorer_page.specs.declared.more.SearchedFile.TheVariants as file
 use Rattle.nuchapay_tool.specs.declared.requests.SearchFormat.{SearchFormat}
 use Rattle.nuchapay_tool.specs.declared.requests.SearchFormat.TheVariants.{Text, Json, Html}
 use Rattle.nuchapay.specs.Searches.{IsKept}
 use Rattle.swift_script.specs.Scripts.{ScriptView}
 use Rattle.swift_explorer.specs.declared.exploration.FoundOutcomes.{FoundOutcomes}
 
--- what is printed of an answer to what is asked, and of all that was found: text, JSON, or the page of the script
+-- what is printed of an answer to what is asked, and of all that was found: text, JSON, or a page
 abbrev pub IsSwiftSaidOf : SearchFormat → SearchHeading → ScriptView → List Expectation → FoundOutcomes → List ℕ → Type 0
 IsSwiftSaidOf Text h script asked found text = text ≡ swift_answer_text script asked found
 IsSwiftSaidOf Json h script asked found text = text ≡ swift_answer_json h.text.now script asked found
-IsSwiftSaidOf Html h script asked found text = IsPage h script asked found text
+IsSwiftSaidOf Html h script asked found text = IsPage h file.Swift script asked found text
 
 -- What a search says of the script of a Swift file that the text of a heading spells, of whose histories at most `limit` are kept, to the
 -- expectations of these words and of its comments, and perhaps that no root ends with a fault: the answer, what is printed of it and of all

@@ -4,20 +4,17 @@ ghost use Rattle.std.specs.Prelude.{◌≡◌, ◌⊎◌, ◌<◌, ◌+◌, IfOk
 ghost use Rattle.std.specs.Arc.{arc_value};
 ghost use Rattle.explorer_answers.specs.Found.{IsFound};
 ghost use Rattle.explorer_json.specs.AnswerJson.{answer_json as json_of};
-ghost use Rattle.nuchapay.specs.Searches.{IsExplored, IsKept, IsRerun, IsSaidOf, IsScheduleText};
+ghost use Rattle.nuchapay.specs.Searches.{IsExplored, IsKept, IsSaidOf};
 
-use crate::scheduled::scheduled_report;
 use expectations::{Answer, Expectation, ExpectationError, Misread, ask};
 use explorer_answers::{answer_text, answered};
 use explorer_json::answer_json;
-use explorer_page::{PageError, SearchHeading, page_text};
+use explorer_page::{PageError, SearchHeading, SearchedFile, page_text};
 use nuchapay_tool::SearchFormat;
 use std::alloc::{AllocError, AllocFailed, Global};
 use std::sync::Arc;
-use swift_explorer::{Exploration, FoundOutcomes, Move};
-use swift_report::report_text;
+use swift_explorer::{Exploration, FoundOutcomes};
 use swift_script::{Script, ScriptFault, read};
-use swift_tool::ToolFault;
 use swift_workers::RunFault;
 
 // Each time that a search has gone on from this many histories more, it says how far it is: a small script takes a second for them.
@@ -125,7 +122,14 @@ fn said_of(
     let text = match format {
         SearchFormat::Text => answer_text(alloc, script, asked, found)?,
         SearchFormat::Json => answer_json(alloc, heading.text, script, asked, found)?,
-        SearchFormat::Html => page_text(alloc, heading, script, asked, found)?,
+        SearchFormat::Html => page_text(
+            alloc,
+            heading,
+            SearchedFile::Script,
+            script,
+            asked,
+            found,
+        )?,
     };
     Ok(text)
 }
@@ -176,24 +180,6 @@ pub fn explored(
     })
 }
 
-/// The run of an outcome's schedule.
-#[derive(Drop)]
-pub enum Rerun {
-    /// The text of its report.
-    Report(Vec<u8>),
-    /// There is no such outcome: this many were found.
-    Nowhere(usize),
-}
-
-// The report of a schedule, as a text. Only a legal report has one.
-fn legal_text(alloc: Global, script: &Arc<Script>, schedule: &[Move]) -> Result<Vec<u8>, ToolFault>
-    ensures { IfOk result (λ said. IsScheduleText (arc_value script.now) schedule.now said.items) }
-{
-    let report = scheduled_report(alloc, script, schedule)?;
-    let said = report_text(alloc, script, &report, false)?;
-    Ok(said)
-}
-
 // The place of the outcome with this number, from 1, where there are so many.
 pub(crate) fn place_of(many: usize, number: u32) -> Option<usize>
     ensures some { IfSome result (λ place. (place < many) × (place + 1 ≡ number)) }
@@ -203,24 +189,4 @@ pub(crate) fn place_of(many: usize, number: u32) -> Option<usize>
         return None;
     }
     Some(number as usize - 1)
-}
-
-/// Searches as `explored` does, and runs the schedule of one of the outcomes again, by its number from 1. Its report is followed by
-/// `legal` before it is printed.
-pub fn rerun_text(
-    rt: &HostRuntime,
-    text: &[u8],
-    limit: u32,
-    outcome: u32,
-) -> Result<Rerun, ToolFault>
-    ensures { IfOk result (IsRerun text.now limit outcome) }
-{
-    let alloc = rt.alloc();
-    let script = Arc::new(alloc, read(alloc, text)?)?;
-    let found = search_all(rt, &script, limit as usize)?;
-    let Some(place) = place_of(found.outcomes.len(), outcome) else {
-        return Ok(Rerun::Nowhere(found.outcomes.len()));
-    };
-    let said = legal_text(alloc, &script, &found.outcomes[place].schedule)?;
-    Ok(Rerun::Report(said))
 }

@@ -10,14 +10,14 @@ use crate::explore::{ExploreFault, SearchAnswer, search_all};
 use expectations::{Expectation, ask};
 use explorer_answers::{swift_answer_text, swift_answered};
 use explorer_json::swift_answer_json;
-use explorer_page::{SearchHeading, page_text};
+use explorer_page::{SearchHeading, SearchedFile, page_text};
 use nuchapay_tool::SearchFormat;
 use std::alloc::{AllocError, Global};
 use std::sync::Arc;
 use swift_explorer::FoundOutcomes;
 use swift_script::{Script, read};
 
-// What a search says that has found this, in a format. A page is that of the script.
+// What a search says that has found this, in a format.
 fn swift_said_of(
     alloc: Global,
     heading: SearchHeading<'_>,
@@ -31,7 +31,7 @@ fn swift_said_of(
     let text = match format {
         SearchFormat::Text => swift_answer_text(alloc, script, asked, found)?,
         SearchFormat::Json => swift_answer_json(alloc, heading.text, script, asked, found)?,
-        SearchFormat::Html => page_text(alloc, heading, script, asked, found)?,
+        SearchFormat::Html => page_text(alloc, heading, SearchedFile::Swift, script, asked, found)?,
     };
     Ok(text)
 }

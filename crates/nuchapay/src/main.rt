@@ -29,16 +29,18 @@ mod show;
 mod told;
 // What is said of a turn.
 mod turn_answers;
+// Whether the last turn of a schedule is undone.
+mod undone;
 // Runs whose turns are explained.
 mod values;
 
-use crate::explore::{explored, rerun_text};
+use crate::explore::explored;
 use crate::explore_swift::explored_swift;
 use crate::input::{is_swift, name_of, say_no_script, script};
 use crate::output::{tell, write_out, write_said};
 use crate::schedule_answers::{say_broken, say_saved, say_scheduled};
 use crate::scheduled::broken_line;
-use crate::search_answers::{say_explored, say_rerun};
+use crate::search_answers::say_explored;
 use crate::show::show_run;
 use crate::turn_answers::say_turn;
 use crate::values::{explained_turn, report_of};
@@ -160,9 +162,6 @@ where
             say_explored(host, save, found)
         }
         Question::ExploreBroken(limit) => say_broken(host, limit, broken_line(host, text, limit)),
-        Question::Rerun { limit, outcome } => {
-            say_rerun(host, outcome, rerun_text(host, text, limit, outcome))
-        }
     }
 }
 

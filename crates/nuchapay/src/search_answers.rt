@@ -1,7 +1,7 @@
 //! What is said of a search.
 
-use crate::explore::{ExploreFault, Rerun, SearchAnswer};
-use crate::output::{tell, write_out};
+use crate::explore::{ExploreFault, SearchAnswer};
+use crate::output::tell;
 use expectations::{Answer, Misread};
 use std::fs;
 use swift_report::write_all;
@@ -62,17 +62,5 @@ fn say_misread(rt: &HostRuntime, fault: Misread) -> u8 {
             "nuchapay: line {line}: expectation {number} at byte {byte} of its line: {kind}"
         );
         3
-    }
-}
-
-/// Writes the run of an outcome's schedule. The status to end with.
-pub fn say_rerun(rt: &HostRuntime, outcome: u32, found: Result<Rerun, ToolFault>) -> u8 {
-    match found {
-        Ok(Rerun::Report(said)) => tell(rt, write_out(rt, &said)),
-        Ok(Rerun::Nowhere(many)) => {
-            let _ = eprintln!(rt; "nuchapay: there is no outcome {outcome}: {many} were found");
-            2
-        }
-        Err(fault) => tell(rt, Err(fault)),
     }
 }

@@ -2,7 +2,7 @@
 use Rattle.std.proofs.Common.{◌≡◌, ◌<◌, ◌≤◌, ◌+◌, ℕ, List, [], ◌∷◌, ◌++◌, length, take, get_or, sym, subst, ◌∙◌, ap, append_assoc}
 use Rattle.std.proofs.lemmas.List.{take_more, take_all}
 use Rattle.script_tokens.specs.declared.token.Token.{Token}
-use Rattle.nuchapay_tool.specs.LayoutsInside.{LaysOut, token_text, space, line_feed, token}
+use Rattle.nuchapay_tool.specs.LayoutsInside.{HasNoFeed, LaysOut, comment_line, token_text, space, line_feed, comment, token}
 
 -- a space more
 pub lays_space : (ts : List Token) (old new : List ℕ) → new ≡ old ++ 32 ∷ [] → LaysOut ts old → LaysOut ts new
@@ -36,3 +36,7 @@ lays_next all place t text lt is laid =
 -- all tokens
 pub lays_all : (all : List Token) (place : ℕ) (text : List ℕ) → length all ≤ place → LaysOut (take place all) text → LaysOut all text
 lays_all all place text past laid = subst (λ (ts : List Token). LaysOut ts text) (take_all place all past) laid
+
+-- a comment more
+pub lays_comment : (ts : List Token) (old new c : List ℕ) → new ≡ old ++ comment_line c → HasNoFeed c → LaysOut ts old → LaysOut ts new
+lays_comment ts old new c is none laid = subst (λ (t : List ℕ). LaysOut ts t) (sym is) (comment c none laid)

@@ -1,3 +1,4 @@
+mod Feeds
 pub mod LaidOut
 pub mod Laying
 mod Shown

@@ -2,7 +2,6 @@
 use Rattle.std.specs.Prelude.{◌≡◌, ℕ, ◌==◌, Bool, Option, Some, None, IfSome, List, [], ◌∷◌, codes, decimal, if◌then◌else◌}
 use Rattle.std.specs.List.{concat}
 use Rattle.std.specs.String.{string_bytes}
-use Rattle.script_tokens.specs.declared.span.Span.{Span}
 use Rattle.nuchapay_tool.specs.Advised.{IsHelp, IsOnToken, help_text}
 use Rattle.swift_script.specs.Accepted.{IsAccepted}
 use Rattle.swift_script.specs.FaultPlaces.{IsAtItsPlace}

@@ -3,7 +3,7 @@
 ghost use Rattle.std.specs.Prelude.{IfOk};
 ghost use Rattle.nuchapay_tool.specs.Requests.{HasCrew, IsOnCrew};
 
-use crate::requests::{Question, Request, SearchFormat};
+use crate::requests::{Question, Request, RunForm, ScheduleChoice, SearchFormat};
 use crate::schedule_words::saved_by;
 use crate::words::{Refused, file, flag, from, limit, named, number, option, source, with_arg};
 use clap::error::ErrorKind;
@@ -136,7 +136,10 @@ fn schedule_question<'a>(
     ensures { IfOk result IsOnCrew }
 {
     match outcome {
-        Some(outcome) if !broken => Ok(Question::Rerun { limit, outcome }),
+        Some(outcome) if !broken => {
+            let choice = ScheduleChoice::Outcome { limit, outcome };
+            Ok(Question::Scheduled(choice, RunForm::Report(false)))
+        }
         None => Ok(Question::ExploreBroken(limit)),
         Some(_) => Err(conflict("--broken and --schedule each name a schedule: give one of them")),
     }

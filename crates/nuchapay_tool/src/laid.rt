@@ -13,10 +13,10 @@ use std::alloc::{AllocError, Global};
 use swift_script::{Script, ScriptFault, ScriptFaultKind, print_script, read};
 
 /// The script that a text spells, as a person would lay it out (our own): one statement on a line, blocks indented, and no parenthesis
-/// without which the same is read. Comments are left out, and declarations stand in the order of their kinds, as in the printed form.
+/// without which the same is read. Declarations and comments stand where they stood.
 ///
-/// What is laid out is read again, and is handed out only where it is the same script; else the printed form is. That happens where the
-/// text would be longer than 65,536 bytes, and in no other case that is known. Linear in these texts.
+/// What is laid out is read again, and is handed out only where it is the same script; else the printed form is, which has no comments.
+/// That happens where the text would be longer than 65,536 bytes, and in no other case that is known. Linear in these texts.
 ///
 /// # Errors
 ///
@@ -27,19 +27,19 @@ pub fn pretty(alloc: Global, text: &[u8]) -> Result<Vec<u8>, ScriptFault>
     ensures place { IfErr result (λ fault. IsAtItsPlace fault text.now) }
 {
     let script = read(alloc, text)?;
-    let printed = print_script(alloc, &script)?;
-    let laid = laid_out(alloc, printed.as_bytes())?;
+    let laid = laid_out(alloc, text)?;
     if is_read_as(alloc, &laid, &script)? {
         Ok(laid)
     } else {
+        let printed = print_script(alloc, &script)?;
         Ok(printed.into_bytes())
     }
 }
 
-// A printed form, laid out.
-fn laid_out(alloc: Global, printed: &[u8]) -> Result<Vec<u8>, AllocError> {
-    let found = tokens(alloc, printed)?;
-    layout(alloc, &found.tokens)
+// A script, laid out.
+fn laid_out(alloc: Global, text: &[u8]) -> Result<Vec<u8>, AllocError> {
+    let found = tokens(alloc, text)?;
+    layout(alloc, text, &found.tokens, &found.spans)
 }
 
 // Whether a text is accepted as this script.

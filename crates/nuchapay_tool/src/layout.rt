@@ -1,5 +1,7 @@
-//! A script as a person would lay it out: its tokens with line breaks, indentation and the spaces between them.
+//! A script as a person would lay it out: its tokens and comments with line breaks, indentation and the spaces between them.
 
+// Comments between tokens.
+mod comment;
 // What stands between two tokens.
 mod gap;
 // Parentheses that say nothing.

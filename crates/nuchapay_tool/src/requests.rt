@@ -125,9 +125,4 @@ pub enum Question<'a> {
     },
     /// The schedule to a turn that is undone by an invariant, by a search that keeps at most so many histories.
     ExploreBroken(u32),
-    /// The run of the schedule of one of the outcomes that such a search finds, by its number from 1.
-    Rerun {
-        limit: u32,
-        outcome: u32,
-    },
 }

@@ -1,4 +1,7 @@
 pub mod Answered
+mod Blocks
+mod Breaks
+mod Celled
 pub mod Keeping
 mod More
 pub mod Past

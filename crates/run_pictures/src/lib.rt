@@ -6,4 +6,6 @@ pub mod picture;
 // What turns did to the fields.
 mod values;
 
-pub use values::{Change, Outcome, Player, TurnValues, fields_before, last_turn, turn_values};
+pub use values::{
+    Change, Outcome, Player, TurnValues, breaks_invariant, fields_before, last_turn, turn_values,
+};

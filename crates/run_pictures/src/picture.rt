@@ -9,10 +9,14 @@ mod below;
 mod boxes;
 // The box of a turn, with what stands in it.
 mod card;
+// One cell for turns in a row that only give way.
+mod cells;
 // Why a picture was not written.
 mod fault;
 // What turns did to the fields.
 mod fields;
+// Turns that only give way, folded.
+mod folds;
 // What the log says of each turn.
 mod history;
 // When the turn of each box ran, and what made it.
@@ -37,6 +41,12 @@ mod lines;
 mod links;
 // What a turn did with groups, and whom it cancelled.
 mod marks;
+// An overview of several rows.
+mod overview;
+// Which turns only give way.
+mod quiet;
+// The rows of a picture.
+mod rows;
 // A picture as a trace.
 mod trace;
 // Turns in words.
@@ -46,7 +56,9 @@ use crate::picture::boxes::boxes_of;
 use crate::picture::history::history_of;
 use crate::picture::placed::{PlacedTurn, place_boxes};
 pub use boxes::{TurnBox, box_at};
+pub use cells::{Cell, cells_of};
 pub use fault::PictureFault;
+pub use quiet::gives_way;
 use std::alloc::{AllocError, Global};
 pub use svg::svg_text;
 use swift_journal::Checkpoint;

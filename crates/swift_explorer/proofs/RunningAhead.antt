@@ -8,7 +8,7 @@ use Rattle.swift_types.specs.declared.id.TaskId.{TaskId}
 use Rattle.swift_types.specs.declared.outcome.Resume.{Resume}
 use Rattle.swift_script.specs.Scripts.{ScriptView, actor_executor, executor_invariants, method_actor}
 use Rattle.swift_interpreter.specs.Frames.{FrameView}
-use Rattle.swift_interpreter.specs.Turn.{ExitView, Played, all_hold, calling, waiting, asking_next, closing, yielding, returning, failing}
+use Rattle.swift_interpreter.specs.Turn.{Played, all_hold}
 use Rattle.swift_events.specs.declared.event.Event.TheVariants.{Begin}
 use Rattle.swift_events.specs.declared.life.JobStage.{JobStage}
 use Rattle.swift_events.specs.declared.life.JobStage.TheVariants.{Given, Begun, Applied, Waits, Asks, Closes}
@@ -28,7 +28,7 @@ use Rattle.swift_course.specs.Course.{standing, starts}
 use Rattle.swift_digest.proofs.SameStands.{fields_push}
 use Rattle.swift_reordering.specs.Away.{job_looks_away}
 use Rattle.swift_reordering.specs.RunAhead.{OneTurn, after_turn, after_turns}
-use Rattle.swift_reordering.specs.Silent.{frame_is_silent, goes_on_alone}
+use Rattle.swift_reordering.specs.Silent.{frame_is_silent}
 use Rattle.swift_reordering.proofs.Bringing.{number_one}
 use Rattle.swift_reordering.proofs.Holding.{hold_always}
 use Rattle.swift_reordering.proofs.RunAhead.{run_more, turns_more}
@@ -40,7 +40,7 @@ use Rattle.swift_explorer.specs.declared.moves.Move.TheVariants as step
 use Rattle.swift_steps.specs.declared.next_turn.NextTurn.{NextTurn}
 use Rattle.swift_explorer.specs.declared.history.SearchedHistory.{SearchedHistory}
 use Rattle.swift_explorer.specs.declared.history.Followed.{Followed}
-use Rattle.swift_explorer.specs.AheadInside.{AllWhole, AreTurns, GoesAlone, GoesOnAtOnce, IsAsBefore, IsNotLost, IsQuietAt, RanAhead, RanTurn, RunsAhead, RunsTurn, StartsHold, any_env}
+use Rattle.swift_explorer.specs.AheadInside.{AllWhole, AreTurns, GoesAlone, GoesOnAtOnce, IsAsBefore, IsNotLost, IsQuietAt, RanAhead, RanTurn, RunsAhead, RunsTurn, StartsHold, TurnGoesOn, any_env}
 use Rattle.swift_steps.specs.NextTurns.{given_at, given_view}
 use Rattle.swift_steps.specs.OpenHistories.{RunsAt}
 use Rattle.swift_explorer.specs.HistoryInside.{GoesOn, IsHistory, IsPath, IsSomeHistory}
@@ -51,24 +51,6 @@ use Rattle.swift_explorer.proofs.Paths.{roots_push, steps_push}
 use Rattle.swift_explorer.proofs.Trying.{allowed_last, parted}
 
 -- exits
-
-whole_exit : (x : ExitView) → GoesOnAtOnce x → BreaksInvariant x → ⊥
-whole_exit (calling c) goes breaks = breaks
-whole_exit yielding goes breaks = breaks
-whole_exit (waiting t) goes breaks = goes
-whole_exit (asking_next n) goes breaks = goes
-whole_exit (closing n f) goes breaks = goes
-whole_exit (returning v) goes breaks = goes
-whole_exit (failing f) goes breaks = goes
-
-alone_exit : (callers : List FrameView) (x : ExitView) → GoesOnAtOnce x → goes_on_alone callers x ≡ true
-alone_exit callers (calling c) goes = refl
-alone_exit callers yielding goes = refl
-alone_exit callers (waiting t) goes = absurd goes
-alone_exit callers (asking_next n) goes = absurd goes
-alone_exit callers (closing n f) goes = absurd goes
-alone_exit callers (returning v) goes = absurd goes
-alone_exit callers (failing f) goes = absurd goes
 
 given_stage : (o : Option JobStage) → is_under_way o ≡ true → is_begun o ≡ false → o ≡ Some Given
 given_stage (Some Given) under not = refl
@@ -168,8 +150,8 @@ module _ (blocks : List Block) (x w z : SearchedHistory) (t : TaskId) (place : �
       ∙ ap (λ (x : Resume). (kept_turn script r.frame one.0.body.task.outer rows x any_env).exit) resume
       ∙ ap (λ (sc : ScriptView). (kept_turn sc r.frame one.0.body.task.outer rows one.0.resume any_env).exit) (sym own)
 
-  goes : GoesOnAtOnce r.exit
-  goes = subst GoesOnAtOnce (sym exit_is) (if_first one.0.body.task.frames runs.stands.runs.0 r.frame (λ p. GoesOnAtOnce (kept_turn one.0.body.script p one.0.body.task.outer rows one.0.resume any_env).exit) frames (alone.2 one.0 one.1))
+  goes : GoesOnAtOnce runs.stands.runs.0 r.exit
+  goes = subst (GoesOnAtOnce runs.stands.runs.0) (sym exit_is) (subst (λ (fs : List FrameView). TurnGoesOn one.0.body.script fs one.0.body.task.outer rows one.0.resume) frames (alone.2 one.0 one.1))
 
   abbrev life : Life
   life = life_of t.0 s.log
@@ -197,14 +179,14 @@ module _ (blocks : List Block) (x w z : SearchedHistory) (t : TaskId) (place : �
         own = task_is;
         number = number_is;
         quiet = still;
-        alone = alone_exit runs.stands.runs.0 r.exit goes;
+        alone = goes.0;
       };
       away = ap (job_looks_away script) (h.followed.led.given t.0) ∙ quiet.away;
     };
     is = is;
     task_is = refl;
     own = task_is;
-    whole = whole_exit r.exit goes;
+    whole = goes.1;
     roots = same;
   }
 

@@ -5,20 +5,23 @@ use Rattle.std.specs.Option.{option_map}
 use Rattle.std.specs.declared.alloc.Global.{Global}
 use Rattle.std.proofs.lemmas.Bool.{cases_eq}
 use Rattle.swift_types.specs.declared.env.Env.{Env}
+use Rattle.swift_types.specs.declared.outcome.Fault.{Fault}
 use Rattle.swift_types.specs.declared.outcome.Resume.{Resume}
 use Rattle.swift_script.specs.Scripts.{ScriptView}
 use Rattle.swift_interpreter.specs.Frames.{FrameView}
-use Rattle.swift_interpreter.specs.Turn.{EffectView, ExitView, Played}
-use Rattle.swift_turn.specs.Body.{HasFrames, IfRunning, Polls, callers_of, entered, kept_turn, left}
+use Rattle.swift_interpreter.specs.Turn.{EffectView, ExitView, Played, failing, returning}
+use Rattle.swift_turn.specs.declared.step.Step.{Step}
+use Rattle.swift_turn.specs.Body.{Advanced, AdvancesTo, HasFrames, IfRunning, Polls, TaskView, callers_of, entered, left}
 use Rattle.swift_history.specs.TurnEnds.{JobFacts}
 use Rattle.swift_steps.specs.declared.next_turn.NextTurn.{NextTurn}
 use Rattle.swift_explorer.specs.declared.history.SearchedHistory.{SearchedHistory}
 use Rattle.std.specs.Arc.{arc_value}
 use Rattle.swift_explorer.specs.declared.moves.Move.{Move}
 use Rattle.swift_explorer.specs.declared.history.Followed.{Followed}
-use Rattle.swift_explorer.specs.AheadInside.{IsAsBefore}
+use Rattle.swift_explorer.specs.AheadInside.{GoesOnAtOnce, IsAsBefore, TurnGoesOn, any_env}
 use Rattle.swift_steps.specs.NextTurns.{AreGiven, IsReadyOf, given_at, given_view, with_given}
 use Rattle.swift_explorer.specs.HistoryInside.{GoesOn, IsHistory, IsSomeHistory}
+use Rattle.swift_explorer.specs.Steps.{BreaksInvariant}
 use Rattle.swift_steps.proofs.Given.{equal, of_put, of_taken, unequal}
 
 given_near : (seen : ℕ → Option JobFacts) (tasks between tasks' : List (Option NextTurn)) (t : ℕ) (g k : NextTurn) → given_at tasks t ≡ Some g → ((u : ℕ) → given_at between u ≡ with_given t None (given_at tasks) u)
@@ -73,11 +76,29 @@ frames_back script outer [] gs rows rows' resume env effects exit p has is polls
 frames_back script outer (q ∷ callers) [] rows rows' resume env effects exit p has is polls = absurd polls
 frames_back script outer (q ∷ callers) (k ∷ others) rows rows' resume env effects exit p has is polls = ap₂ (λ (x : FrameView) (xs : List FrameView). x ∷ xs) is (sym polls.0)
 
-pub exit_of : (script : ScriptView) (outer : List (ℕ × ℤ)) (fs gs : List FrameView) (rows rows' : List (List ℤ)) (resume : Resume) (env : Env) (effects : List EffectView) (exit : ExitView) (P : ExitView → Type 0)
-    → HasFrames fs → Polls script outer fs (entered rows resume env) gs (left rows' effects exit) → P exit → IfRunning fs (λ p. P (kept_turn script p outer rows resume env).exit)
-exit_of script outer [] gs rows rows' resume env effects exit P has polls holds = absurd has
-exit_of script outer (p ∷ callers) [] rows rows' resume env effects exit P has polls holds = absurd polls
-exit_of script outer (p ∷ callers) (q ∷ others) rows rows' resume env effects exit P has polls holds = subst P (ap (λ (k : Played). k.exit) polls.1.1) holds
+pub turn_goes_on : (script : ScriptView) (outer : List (ℕ × ℤ)) (fs gs : List FrameView) (rows rows' : List (List ℤ)) (resume : Resume) (effects : List EffectView) (exit : ExitView)
+    → Polls script outer fs (entered rows resume any_env) gs (left rows' effects exit) → GoesOnAtOnce (callers_of gs) exit → TurnGoesOn script fs outer rows resume
+turn_goes_on script outer [] gs rows rows' resume effects exit polls goes = tt
+turn_goes_on script outer (p ∷ callers) [] rows rows' resume effects exit polls goes = absurd polls
+turn_goes_on script outer (p ∷ callers) (q ∷ others) rows rows' resume effects exit polls goes =
+    subst (GoesOnAtOnce callers) (ap (λ (k : Played). k.exit) polls.1.1) (subst (λ (cs : List FrameView). GoesOnAtOnce cs exit) polls.0 goes)
+
+-- of the frame that runs
+
+-- once it is left, the task goes on only where it has a caller
+pub left_over : (script : ScriptView) (fs : List FrameView) (outer : List (ℕ × ℤ)) (task : TaskView) (step : Step) (v : ℤ) → HasFrames fs → AdvancesTo script fs outer (returning v) (record { task = task; step = step })
+    → HasFrames task.frames → HasFrames (callers_of fs)
+left_over script [] outer task step v has after runs = has
+left_over script (p ∷ []) outer task step v has after runs = subst (λ (a : Advanced). HasFrames a.task.frames) after runs
+left_over script (p ∷ q ∷ callers) outer task step v has after runs = tt
+
+pub returns_on : (callers : List FrameView) (v : ℤ) → HasFrames callers → GoesOnAtOnce callers (returning v)
+returns_on [] v has = absurd has
+returns_on (q ∷ callers) v has = (refl, λ breaks. breaks)
+
+pub fails_on : (callers : List FrameView) (f : Fault) → HasFrames callers → (BreaksInvariant (failing f) → ⊥) → GoesOnAtOnce callers (failing f)
+fails_on [] f has whole = absurd has
+fails_on (q ∷ callers) f has whole = (refl, whole)
 
 pub before_some : (x y : SearchedHistory) → IsAsBefore x y → IsSomeHistory x → IsSomeHistory y
 before_some x y before some = (some.0, subst (λ (s : ScriptView). IsHistory s some.0 y) (sym (ap arc_value before.script_is)) (before.is some.0 some.1))

@@ -3,14 +3,16 @@ use Rattle.std.specs.Prelude.{◌≡◌, ℕ, ℤ, true, false, Some, List, [], 
 use Rattle.std.specs.Arc.{arc_value}
 use Rattle.swift_types.specs.declared.env.Env.{Env}
 use Rattle.swift_types.specs.declared.id.TaskId.{TaskId}
+use Rattle.swift_types.specs.declared.outcome.Resume.{Resume}
 use Rattle.swift_types.specs.declared.priority.Priority.TheVariants.{Background}
 use Rattle.swift_script.specs.Scripts.{ScriptView, executor_invariants}
-use Rattle.swift_interpreter.specs.Turn.{ExitView, all_hold, calling, yielding}
+use Rattle.swift_interpreter.specs.Frames.{FrameView}
+use Rattle.swift_interpreter.specs.Turn.{ExitView, all_hold}
 use Rattle.swift_turn.specs.Body.{IfRunning, kept_turn}
 use Rattle.swift_history.specs.Histories.{Block, checkpoint_at}
 use Rattle.swift_course.specs.Course.{starts}
 use Rattle.swift_reordering.specs.RunAhead.{OneTurn, after_turn, after_turns, RunsSilently, AllRunSilently}
-use Rattle.swift_reordering.specs.Silent.{frame_is_silent}
+use Rattle.swift_reordering.specs.Silent.{frame_is_silent, goes_on_alone}
 use Rattle.swift_explorer.specs.declared.ahead.TurnAhead.{TurnAhead}
 use Rattle.swift_explorer.specs.declared.ahead.TurnAhead.TheVariants.{Lost}
 use Rattle.swift_explorer.specs.declared.moves.Move.{Move}
@@ -35,16 +37,19 @@ pub record IsQuietAt (x : SearchedHistory) (t : TaskId) : Type 0 where
 abbrev pub any_env : Env
 any_env = record { priority = Background; cancelled = false; room = 0 }
 
--- a turn ends so where it calls or gives way
-abbrev pub GoesOnAtOnce : ExitView → Type 0
-GoesOnAtOnce (calling c) = Unit {0}
-GoesOnAtOnce yielding = Unit {0}
-GoesOnAtOnce _ = ⊥
+-- a task whose frame has these callers goes on at once after a turn that ends so, and no invariant is broken by it
+abbrev pub GoesOnAtOnce : List FrameView → ExitView → Type 0
+GoesOnAtOnce callers exit = (goes_on_alone callers exit ≡ true) × (BreaksInvariant exit → ⊥)
+
+-- the next turn of a task with these frames ends so on these fields
+abbrev pub TurnGoesOn : ScriptView → List FrameView → List (ℕ × ℤ) → List (List ℤ) → Resume → Type 0
+TurnGoesOn script [] outer rows resume = Unit {0}
+TurnGoesOn script (p ∷ callers) outer rows resume = GoesOnAtOnce callers (kept_turn script p outer rows resume any_env).exit
 
 -- the next turn of a task ends so on the fields of executor `e`
 abbrev pub GoesAlone : SearchedHistory → TaskId → ℕ → Type 0
 GoesAlone x t e = (rows : List (List ℤ)) × (slice_get (rows_at x) e ≡ Some rows)
-    × ((g : NextTurn) → given_at x.steps.tasks.items t.0 ≡ Some g → IfRunning g.body.task.frames (λ p. GoesOnAtOnce (kept_turn g.body.script p g.body.task.outer rows g.resume any_env).exit))
+    × ((g : NextTurn) → given_at x.steps.tasks.items t.0 ≡ Some g → TurnGoesOn g.body.script g.body.task.frames g.body.task.outer rows g.resume)
 
 -- what was followed before was followed now
 pub record IsAsBefore (x y : SearchedHistory) : Type 0 where
@@ -52,7 +57,7 @@ pub record IsAsBefore (x y : SearchedHistory) : Type 0 where
   pub roots : y.steps.roots ≡ x.steps.roots
   pub is : (blocks : List Block) → IsHistory (arc_value x.steps.script) blocks x → IsHistory (arc_value x.steps.script) blocks y
 
--- a silent turn of a task was followed, which calls or gives way
+-- a silent turn of a task was followed, after which it goes on at once
 pub record RanTurn (script : ScriptView) (blocks : List Block) (x y : SearchedHistory) (t : TaskId) : Type 0 where
   pub turn : OneTurn
   pub runs : RunsSilently script (starts script) blocks turn

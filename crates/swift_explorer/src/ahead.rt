@@ -4,7 +4,7 @@ ghost use Rattle.std.specs.Prelude.{◌≡◌, IfOk, IsTrue, OnOk, Some, true};
 ghost use Rattle.std.specs.Arc.{arc_value};
 ghost use Rattle.swift_script.specs.Scripts.{ScriptView};
 ghost use Rattle.swift_interpreter.specs.TurnStates.{exit_view};
-ghost use Rattle.swift_turn.specs.Body.{IfRunning, IsRunning};
+ghost use Rattle.swift_turn.specs.Body.{HasFrames, IfRunning, IsRunning, callers_of};
 ghost use Rattle.swift_reordering.specs.Silent.{frame_is_silent};
 ghost use Rattle.swift_steps.specs.declared.next_turn.NextTurn.{NextTurn};
 ghost use Rattle.swift_explorer.specs.AheadInside.{GoesAlone, GoesOnAtOnce, IsAsBefore, IsNotLost, IsQuietAt, RunsAhead, RunsTurn, StartsHold};
@@ -20,7 +20,7 @@ use std::alloc::AllocError;
 use swift_interpreter::Exit;
 use swift_steps::{copy_fields, put, take};
 use swift_turn::{Body, TurnOutcome, replay_turn};
-use swift_types::{Env, Priority, TaskId};
+use swift_types::{Env, Fault, Priority, TaskId};
 
 // At most so many turns run at once.
 const AHEAD: usize = 100_000;
@@ -36,13 +36,26 @@ pub(crate) enum TurnAhead {
     Lost,
 }
 
-// Whether a turn that ends so calls or gives way.
-fn goes_on(exit: &Exit) -> bool
-    ensures { IsTrue result → GoesOnAtOnce (exit_view exit.now) }
+// Whether the frame that runs has a caller. It takes memory for a copy of the body.
+fn has_caller(body: &Body) -> Result<bool, AllocError>
+    requires { IsRunning body.now }
+    ensures { IfOk result (λ has. IsTrue has → HasFrames (callers_of body.now.task.frames)) }
+{
+    let mut left = body.copy()?;
+    let _step = left.advance_with(Exit::Return(0))?;
+    Ok(left.is_running())
+}
+
+// Whether a task goes on at once after a turn that ends so, and no invariant is broken by it.
+fn goes_on(body: &Body, exit: &Exit) -> Result<bool, AllocError>
+    requires { IsRunning body.now }
+    ensures { IfOk result (λ goes. IsTrue goes → GoesOnAtOnce (callers_of body.now.task.frames) (exit_view exit.now)) }
 {
     match exit {
-        Exit::Call(_) | Exit::Yield => true,
-        _ => false,
+        Exit::Call(_) | Exit::Yield => Ok(true),
+        Exit::Fault(Fault::Invariant) => Ok(false),
+        Exit::Return(_) | Exit::Fault(_) => has_caller(body),
+        Exit::Wait(_) | Exit::Next(_) | Exit::Close(_, _) => Ok(false),
     }
 }
 
@@ -83,7 +96,7 @@ impl SearchedHistory {
         self.is_silent(marks, task) && self.looks_away(away, task)
     }
 
-    // Whether the next turn of a task at an executor would call or give way, where it looks at nothing. The history is as before.
+    // Whether a task goes on at once after its next turn at an executor, where that looks at nothing. The history is as before.
     fn goes_alone(&mut self, task: TaskId, place: usize) -> Result<bool, AllocError>
         requires { IsSomeHistory self.old }
         ensures script { self.new.steps.script ≡ self.old.steps.script }
@@ -113,9 +126,10 @@ impl SearchedHistory {
         else {
             return Err(AllocError);
         };
+        let goes = goes_on(&ready.body, &exit)?;
         ready.body.put_back(frame);
         put(&mut self.steps.tasks, task, ready)?;
-        Ok(goes_on(&exit))
+        Ok(goes)
     }
 
     // The next turn of a task runs, where it is silent and goes on at once.

@@ -10,8 +10,8 @@ use crate::history::SearchedHistory;
 use std::alloc::AllocError;
 use std::collections::HashMap;
 
-// So many are kept. One takes some 60 kilobytes: a book has room for the numbers of 1,024 tasks.
-const HISTORIES: usize = 512;
+// So many are kept.
+const HISTORIES: usize = 2_048;
 
 /// A history that is given up when it is dropped.
 pub struct KeptHistory {

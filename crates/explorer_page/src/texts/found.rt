@@ -11,6 +11,8 @@ const WORD = /\"(?:[^\"\\\\]|\\\\.)*\"|-?\\d{16,}/g;
 const parsed = (id) => JSON.parse(at(id).textContent.replace(WORD, (word) => (word[0] === '\"' ? word : `\"${word}\"`)));
 const answer = parsed(\"answer\");
 const more = parsed(\"more\");
+// Of a Swift file the answer says what each outcome is in Swift: one, the end of the process before it, or a task that may spin.
+const isSwift = \"swift\" in answer;
 const counted = (many, one, others = one + \"s\") => `${many} ${many === 1 ? one : others}`;
 const ending = (of) => (of.is === \"value\" ? \"value \" + of.value : \"fault \" + of.fault + (\"value\" in of ? \" \" + of.value : \"\"));
 
@@ -69,9 +71,11 @@ const outcomes = answer.outcomes.map((one, place) => {
         place, number: one.outcome, steps: stepsOf(one.schedule), names, turns, fields: fieldsOf(one.end.fields),
         endings: new Map(one.end.tasks.map((task, number) => [names[number], ending(task.ending)])),
         undone: turns ? [...turns].filter(([, turn]) => turn.losses.length > 0).map(([name]) => name) : [],
-        verdicts: answer.expectations.map((asked) => asked.verdicts[place]),
+        verdicts: answer.expectations.map((asked) => asked.verdicts[place]), inSwift: isSwift ? answer.swift[place] : \"outcome\",
     };
 });
+// The outcomes that are asked for what is expected: of a Swift file not those that Swift does not have.
+const askedOutcomes = outcomes.filter(({ inSwift }) => inSwift === \"outcome\");
 const roots = outcomes.length > 0 ? answer.outcomes[0].end.tasks.filter((task) => task.from === \"root\").map((task) => task.root) : [];
 const undoneSteps = answer.undone === null ? null : stepsOf(answer.undone);
 

@@ -5,7 +5,7 @@ pub(crate) static HEAD: &str = "<!doctype html>
 <html lang=\"en\">
 <head>
 <meta charset=\"utf-8\">
-<meta http-equiv=\"Content-Security-Policy\" content=\"default-src 'none'; style-src 'sha256-tNtsAbIgZ/g99N4szxYKXFee7ckWG4SN5tjiU4RBT8A='; script-src 'sha256-Pf2bqCJ/JDevx2Ih7QphJ/SbOot9hXYT2k12Zx3P9+Y='\">
+<meta http-equiv=\"Content-Security-Policy\" content=\"default-src 'none'; style-src 'sha256-tNtsAbIgZ/g99N4szxYKXFee7ckWG4SN5tjiU4RBT8A='; script-src 'sha256-Rr2pluonrKRxZ/DYknH/SQOrMkJu3M/ifFUdKpMdu/c='\">
 <meta name=\"viewport\" content=\"width=device-width, initial-scale=1\">
 <title>Outcomes</title>
 <style>";
@@ -28,6 +28,7 @@ pub(crate) static BODY: &str = "</style>
 <p id=\"summary\"></p>
 <ul id=\"asked\"></ul>
 <p id=\"undone\"></p>
+<div id=\"swift\"></div>
 <section id=\"outcomes\">
 <h2>How it can end</h2>
 <p class=\"note\">Each line is an outcome: how each task ends, and what the fields hold then. Some order of turns leads to it. Choose one to see that order.</p>

@@ -74,7 +74,8 @@ if (outcomes.length === 0) {
 }
 else {
     // What fails, or is undone, is what one wants to see.
-    const failing = outcomes.find((one) => one.verdicts.some((verdict) => verdict !== \"holds\")) || outcomes.find((one) => one.undone.length > 0);
+    const failing = askedOutcomes.find((one) => one.verdicts.some((verdict) => verdict !== \"holds\"))
+        || outcomes.find((one) => one.undone.length > 0 || one.inSwift === \"ends\") || outcomes.find((one) => one.inSwift !== \"outcome\");
     choose((failing || outcomes[0]).place);
 }
 ";

@@ -34,30 +34,40 @@ struct Opened {
     place: usize,
     // Whether it is round an expression, and not that of arguments.
     is_round: bool,
-    // How tightly the operator within binds; 0 until it comes.
+    // How tightly the operator in it binds that binds least; 0 until one comes.
     binds: u32,
 }
 
-// Whether an expression needs its parenthesis: by how tightly its operator binds, what is round it, and how tightly an operator
-// behind it binds. Operators of one kind are read from the left, comparisons not at all.
-fn is_needed(inner: u32, around: Option<Opened>, behind: u32) -> bool {
-    match around {
-        Some(outer) if outer.is_round => {
-            if outer.binds > 0 {
-                inner <= outer.binds
-            } else {
-                inner < behind || (inner == COMPARISON && behind == COMPARISON)
-            }
-        }
-        _ => false,
+// The binding of two operators that binds less, where 0 is that of none.
+fn looser(binds: u32, other: u32) -> u32 {
+    if binds == 0 || (other > 0 && other < binds) {
+        other
+    } else {
+        binds
     }
 }
 
-// How tightly the operator at a place binds that stands between two operands; 0 where none is.
+// Whether an expression needs its parenthesis: by how tightly the operator within binds that binds least, and how tightly those do that
+// stand right before it and right behind it. Operators of one kind are read from the left, comparisons not at all.
+fn is_needed(inner: u32, before: u32, behind: u32) -> bool {
+    inner > 0
+        && (inner <= before || inner < behind || (inner == COMPARISON && behind == COMPARISON))
+}
+
+// How tightly the operator at a place binds; 0 where none is.
 fn binding_at(tokens: &[Token], place: usize) -> u32 {
     match tokens.get(place) {
-        Some(Token::Sign(mark)) => infix_binding(*mark),
+        Some(Token::Sign(Mark::At)) => 0,
+        Some(Token::Sign(mark)) => binding(part_at(tokens, place), *mark),
         _ => 0,
+    }
+}
+
+// How tightly the operator before a place binds; 0 where none is.
+fn binding_before(tokens: &[Token], place: usize) -> u32 {
+    match place.checked_sub(1) {
+        Some(before) => binding_at(tokens, before),
+        None => 0,
     }
 }
 
@@ -81,49 +91,42 @@ impl Parentheses {
                 })?;
                 Ok(())
             }
-            LayoutPart::Prefix | LayoutPart::Infix => self.pass_operator(tokens, place, part),
+            LayoutPart::Prefix | LayoutPart::Infix => self.hold(binding_at(tokens, place)),
             LayoutPart::Close => self.close(tokens, place),
             _ => Ok(()),
         }
     }
 
-    // Keeps how tightly an operator binds. Of a prefix in a parenthesis that has an operator nothing is kept: it stands alone.
-    fn pass_operator(
-        &mut self,
-        tokens: &[Token],
-        place: usize,
-        part: LayoutPart,
-    ) -> Result<(), AllocError> {
-        let Some(Token::Sign(mark)) = tokens.get(place) else {
+    // Keeps of the innermost parenthesis that an operator stands in it which binds so tightly.
+    fn hold(&mut self, binds: u32) -> Result<(), AllocError> {
+        let Some(last) = self.opened.pop() else {
             return Ok(());
         };
-        let Some(mut last) = self.opened.pop() else {
-            return Ok(());
-        };
-        if last.binds == 0 && !matches!(mark, Mark::At) {
-            last.binds = binding(part, *mark);
-        }
-        self.opened.push(last)?;
+        self.opened.push(Opened {
+            place: last.place,
+            is_round: last.is_round,
+            binds: looser(last.binds, binds),
+        })?;
         Ok(())
     }
 
-    // Closes the parenthesis that was opened last.
+    // Closes the parenthesis that was opened last. Without it, what is in it stands in the one around.
     fn close(&mut self, tokens: &[Token], place: usize) -> Result<(), AllocError> {
         let Some(last) = self.opened.pop() else {
             return Ok(());
         };
-        let around = self.opened.last().copied();
+        let before = binding_before(tokens, last.place);
         let behind = binding_at(tokens, place.saturating_add(1));
-        if last.is_round && !is_needed(last.binds, around, behind) {
-            self.needless.push(last.place)?;
-            self.needless.push(place)?;
+        if !last.is_round || is_needed(last.binds, before, behind) {
+            return Ok(());
         }
-        Ok(())
+        self.needless.push(last.place)?;
+        self.needless.push(place)?;
+        self.hold(last.binds)
     }
 }
 
-/// Of the tokens of a printed form, in which each use of an operator stands in a parenthesis: for each token whether it is one of a
-/// parenthesis without which the same is read. Linear in the tokens.
+/// For each token of a script whether it is one of a parenthesis without which the same is read. Linear in the tokens.
 pub(crate) fn needless(alloc: Global, tokens: &[Token]) -> Result<Vec<bool>, AllocError> {
     let mut found = Parentheses {
         opened: Vec::new(alloc),

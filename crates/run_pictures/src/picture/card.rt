@@ -1,8 +1,9 @@
 //! The box of a turn, with what stands in it and below it.
 
+use crate::TurnValues;
 use crate::picture::below::{write_below, write_beside};
 use crate::picture::boxes::TurnBox;
-use crate::picture::layout::{Layout, TALL, WIDE, colour};
+use crate::picture::layout::{LEFT, Layout, MARGIN, TALL, WIDE, colour};
 use crate::picture::picture_text::PictureText;
 use crate::picture::pieces::TextPiece;
 use crate::picture::placed::PlacedTurn;
@@ -202,6 +203,28 @@ pub(crate) struct View<'a> {
     pub log: &'a EventLog,
     pub picture: &'a Picture,
     pub layout: &'a Layout,
+    /// What the turns of each executor did to its fields.
+    pub values: &'a [Vec<TurnValues>],
+}
+
+// What of a box reaches into further rows: its outline, with the turn's name.
+fn write_rest(out: &mut PictureText, view: View<'_>, turn: &TurnBox, placed: &PlacedTurn) {
+    let layout = view.layout;
+    let last = layout.last_row(placed);
+    for row in layout.row(placed).saturating_add(1)..last.saturating_add(1) {
+        let left = LEFT - 8;
+        let right = if row == last {
+            layout.right(placed)
+        } else {
+            layout.width.saturating_sub(MARGIN)
+        };
+        let at = (left, layout.box_top(row, turn.executor));
+        write_outline(out, turn, placed.is_undone, at, right.saturating_sub(left));
+        begin_text(out, "g", LEFT, at.1.saturating_add(17));
+        out.turn(turn);
+        out.say(b" goes on");
+        end_text(out);
+    }
 }
 
 /// The box of a turn, with its title and these lines below it. `line` is written on.
@@ -214,8 +237,9 @@ pub(crate) fn write_card(
     line: &mut PictureText,
 ) {
     let left = view.layout.left(placed);
-    let at = (left, view.layout.box_top(turn.executor));
-    let width = view.layout.right(placed).saturating_sub(left);
+    let top = view.layout.box_top(view.layout.row(placed), turn.executor);
+    let at = (left, top);
+    let width = view.layout.first_right(placed).saturating_sub(left);
     let is_undone = placed.is_undone;
     out.say(b"<g>");
     write_title(out, view.script, turn, is_undone, lines);
@@ -223,6 +247,7 @@ pub(crate) fn write_card(
     let raised = was_raised(view.picture, turn, placed);
     write_first_line(out, turn, raised, is_undone, at);
     write_other_lines(out, view.script, turn, is_undone, at, line);
+    write_rest(out, view, turn, placed);
     out.say(b"</g>\n");
     let class = if is_undone { "u m" } else { "g m" };
     write_below(out, lines, class, left, at.1.saturating_add(TALL))

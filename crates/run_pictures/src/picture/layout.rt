@@ -1,18 +1,28 @@
 //! Where things stand in a picture. Lengths are in pixels, from the left and from the top.
 
+use crate::TurnValues;
 use crate::picture::Picture;
+use crate::picture::cells::{Cell, cells_of};
+use crate::picture::legend::legend_height;
+use crate::picture::overview::overview_height;
 use crate::picture::placed::PlacedTurn;
+use crate::picture::quiet::quiet_turns;
+use crate::picture::rows::{Row, lay_rows, used_lanes};
 use std::alloc::{AllocError, Global};
+use swift_log::EventLog;
 use swift_types::TaskId;
 
-/// How many turns are shown at most: the last ones that began.
+/// How many cells are shown at most: the last ones.
 pub(crate) const SHOWN: usize = 1_000;
+
+/// How many cells stand in a row at most. A row of so many is 1,984 pixels wide.
+pub(crate) const COLUMNS: usize = 12;
 
 /// Where the first column of boxes begins.
 pub(crate) const LEFT: usize = 168;
 
-// From one column to the next.
-const PITCH: usize = 150;
+/// From one column to the next.
+pub(crate) const PITCH: usize = 150;
 
 /// How wide the box of a turn is that no other turn overlaps.
 pub(crate) const WIDE: usize = 132;
@@ -20,19 +30,20 @@ pub(crate) const WIDE: usize = 132;
 /// How tall a box is.
 pub(crate) const TALL: usize = 70;
 
-// Where the first lane begins.
-const HEAD: usize = 70;
+/// Where the first lane begins, or the overview.
+pub(crate) const HEAD: usize = 70;
 
-// What a lane has over its boxes, for its name and lines, and under them, for three lines of text.
-const OVER: usize = 58;
+/// What a lane has over its boxes, for its name and lines.
+pub(crate) const OVER: usize = 58;
 
+// What it has under them, for three lines of text.
 const UNDER: usize = 54;
 
 // How tall a lane without boxes is.
 const EMPTY: usize = 80;
 
-// What is left on the right.
-const MARGIN: usize = 16;
+/// What is left on the right.
+pub(crate) const MARGIN: usize = 16;
 
 // The least width, in which the heading and the legend find room.
 const LEAST: usize = 940;
@@ -40,10 +51,6 @@ const LEAST: usize = 940;
 /// The lane of an executor.
 #[derive(Clone, Copy)]
 pub(crate) struct Lane {
-    /// Where it begins.
-    pub top: usize,
-    /// Where it ends.
-    pub bottom: usize,
     /// The place of its first box.
     pub first: usize,
     /// How many boxes it has, those that are not shown too.
@@ -54,20 +61,13 @@ pub(crate) struct Lane {
 
 impl Lane {
     const NONE: Lane = Lane {
-        top: 0,
-        bottom: 0,
         first: 0,
         boxes: 0,
         shown: 0,
     };
 
-    /// Where its boxes begin.
-    pub fn box_top(&self) -> usize {
-        self.top.saturating_add(OVER)
-    }
-
-    // How tall it is.
-    fn height(&self) -> usize {
+    /// How tall it is.
+    pub fn height(&self) -> usize {
         if self.shown == 0 {
             EMPTY
         } else {
@@ -79,19 +79,29 @@ impl Lane {
 /// Where the boxes and lanes of a picture stand.
 #[derive(Drop)]
 pub(crate) struct Layout {
-    /// The column of the first turn that is shown.
-    pub first_column: usize,
+    /// The cells that are shown, in order.
+    pub cells: Vec<Cell>,
+    /// The rows of cells, one below the other.
+    pub rows: Vec<Row>,
     /// The lanes, in the order of executors.
     pub lanes: Vec<Lane>,
     /// How wide the picture is.
     pub width: usize,
-    /// Where the last lane ends.
-    pub bottom: usize,
-    /// How many turns are not shown, those that were folded too.
+    /// How tall it is.
+    pub height: usize,
+    /// Where the legend begins: below the rows, or where there are several below the overview.
+    pub legend: usize,
+    /// How many turns are not shown, those that were folded into a checkpoint too.
     pub earlier: usize,
+    // The column of the first turn that is shown.
+    first_column: usize,
+    // The place of the cell of each column, from that one on.
+    slots: Vec<usize>,
+    // Where the lanes of each row begin; none where a row has not that lane.
+    tops: Vec<Option<usize>>,
 }
 
-// The lanes of a picture, without places.
+// The lanes of a picture, of which the turns from a column on are shown.
 fn counted_lanes(
     alloc: Global,
     picture: &Picture,
@@ -106,21 +116,12 @@ fn counted_lanes(
             }
         }
     }
-    Ok(lanes)
-}
-
-// Puts lanes one below the other. Where the last one ends.
-fn stack(lanes: &mut [Lane]) -> usize {
-    let mut top = HEAD;
     let mut first = 0_usize;
     for lane in lanes.iter_mut() {
         lane.first = first;
         first = first.saturating_add(lane.boxes);
-        lane.top = top;
-        lane.bottom = top.saturating_add(lane.height());
-        top = lane.bottom;
     }
-    top
+    Ok(lanes)
 }
 
 fn sum_of(counts: &[usize]) -> usize {
@@ -131,56 +132,192 @@ fn sum_of(counts: &[usize]) -> usize {
     sum
 }
 
+// The cells of a picture, the last ones of which are shown. Where all turns find room in a row, none is folded.
+fn shown_cells(
+    alloc: Global,
+    picture: &Picture,
+    values: &[Vec<TurnValues>],
+    log: &EventLog,
+) -> Result<Vec<Cell>, AllocError> {
+    let quiet = if picture.boxes.len() <= COLUMNS {
+        vec![in alloc; false; picture.boxes.len()]?
+    } else {
+        quiet_turns(alloc, picture, values, log)?
+    };
+    let all = cells_of(alloc, &quiet)?;
+    let (_, shown) = all.split_at(all.len().saturating_sub(SHOWN));
+    Vec::from_slice(alloc, shown)
+}
+
+// The place of the cell of each column, from the first that is shown on.
+fn slots_of(alloc: Global, cells: &[Cell]) -> Result<Vec<usize>, AllocError> {
+    let mut slots = Vec::new(alloc);
+    for (slot, cell) in cells.iter().enumerate() {
+        for _ in 0..cell.turns {
+            slots.push(slot)?;
+        }
+    }
+    Ok(slots)
+}
+
+// How wide a picture of so many cells is.
+fn width_of(cells: usize) -> usize {
+    LEFT.saturating_add(cells.min(COLUMNS).saturating_mul(PITCH))
+        .saturating_add(MARGIN)
+        .max(LEAST)
+}
+
 impl Layout {
-    /// Where the boxes and lanes of a picture stand, in time linear in the picture. An `Err` says that a growth was refused.
-    pub fn of(alloc: Global, picture: &Picture) -> Result<Layout, AllocError> {
-        let columns = picture.boxes.len().min(SHOWN);
-        let first_column = picture.boxes.len().saturating_sub(columns);
-        let mut lanes = counted_lanes(alloc, picture, first_column)?;
-        let bottom = stack(&mut lanes);
-        let width = LEFT
-            .saturating_add(columns.saturating_mul(PITCH))
-            .saturating_add(MARGIN);
-        Ok(Layout {
-            first_column,
-            lanes,
-            width: width.max(LEAST),
-            bottom,
+    /// Where the boxes and lanes of a picture of so many tasks stand, by what each turn did to the fields, in time linear in the picture and
+    /// the log. An `Err` says that a growth was refused.
+    pub fn of(
+        alloc: Global,
+        picture: &Picture,
+        values: &[Vec<TurnValues>],
+        log: &EventLog,
+        tasks: usize,
+    ) -> Result<Layout, AllocError> {
+        let cells = shown_cells(alloc, picture, values, log)?;
+        let first_column = match cells.first() {
+            Some(cell) => cell.first,
+            None => picture.boxes.len(),
+        };
+        let mut layout = Layout {
+            rows: Vec::new(alloc),
+            lanes: counted_lanes(alloc, picture, first_column)?,
+            width: width_of(cells.len()),
+            height: 0,
+            legend: 0,
             earlier: sum_of(&picture.folded).saturating_add(first_column),
-        })
+            first_column,
+            slots: slots_of(alloc, &cells)?,
+            tops: Vec::new(alloc),
+            cells,
+        };
+        layout.lay(alloc, picture, tasks)?;
+        Ok(layout)
     }
 
-    /// Whether the box of a turn is shown.
+    // Puts the lanes of each row one below the other.
+    fn lay(&mut self, alloc: Global, picture: &Picture, tasks: usize) -> Result<(), AllocError> {
+        let legend = legend_height(self, tasks);
+        let used = used_lanes(alloc, self, picture)?;
+        let over = if self.is_wrapped() {
+            overview_height(self.lanes.len()).saturating_add(HEAD)
+        } else {
+            HEAD
+        };
+        let top = if self.is_wrapped() {
+            over.saturating_add(legend)
+        } else {
+            over
+        };
+        let laid = lay_rows(alloc, &self.lanes, &used, self.cells.len(), top)?;
+        self.height = laid.bottom;
+        self.legend = over;
+        if !self.is_wrapped() {
+            self.height = laid.bottom.saturating_add(legend);
+            self.legend = laid.bottom;
+        }
+        self.rows = laid.rows;
+        self.tops = laid.tops;
+        Ok(())
+    }
+
+    /// Whether the turn of a box is shown, by itself or folded.
     pub fn shows(&self, placed: &PlacedTurn) -> bool {
         placed.moment.column >= self.first_column
     }
 
-    /// Where a column begins.
-    pub fn column_left(&self, column: usize) -> usize {
-        column
-            .saturating_sub(self.first_column)
-            .saturating_mul(PITCH)
-            .saturating_add(LEFT)
+    // The place of the cell of a column.
+    fn slot(&self, column: usize) -> usize {
+        match self.slots.get(column.saturating_sub(self.first_column)) {
+            Some(slot) => *slot,
+            None => 0,
+        }
     }
 
-    /// Where the box of a turn begins.
+    /// The place of the cell in which a turn is.
+    pub fn slot_of(&self, placed: &PlacedTurn) -> usize {
+        self.slot(placed.moment.column)
+    }
+
+    /// The place of the cell in which a turn ended: that of the last turn that began before its end.
+    pub fn last_slot(&self, placed: &PlacedTurn) -> usize {
+        if self.is_folded(placed) {
+            return self.slot_of(placed);
+        }
+        self.slot(placed.moment.last_column.max(placed.moment.column))
+    }
+
+    /// Whether a turn is folded with others.
+    pub fn is_folded(&self, placed: &PlacedTurn) -> bool {
+        match self.cells.get(self.slot_of(placed)) {
+            Some(cell) => cell.is_fold(),
+            None => false,
+        }
+    }
+
+    /// The row in which the box of a turn begins.
+    pub fn row(&self, placed: &PlacedTurn) -> usize {
+        self.slot_of(placed) / COLUMNS
+    }
+
+    /// The row in which it ends.
+    pub fn last_row(&self, placed: &PlacedTurn) -> usize {
+        self.last_slot(placed) / COLUMNS
+    }
+
+    /// Where the box of a turn begins, in its first row.
     pub fn left(&self, placed: &PlacedTurn) -> usize {
-        self.column_left(placed.moment.column)
+        left_of(self.slot_of(placed))
     }
 
-    /// Where it ends: in the column of the last turn that began before its own end.
+    /// Where it ends, in its last row.
     pub fn right(&self, placed: &PlacedTurn) -> usize {
-        self.column_left(placed.moment.last_column.max(placed.moment.column))
-            .saturating_add(WIDE)
+        left_of(self.last_slot(placed)).saturating_add(WIDE)
     }
 
-    /// Where the boxes of an executor begin.
-    pub fn box_top(&self, executor: usize) -> usize {
-        match self.lanes.get(executor) {
-            Some(lane) => lane.box_top(),
+    /// Where it ends in its first row: at the end of that row, if it goes on in the next.
+    pub fn first_right(&self, placed: &PlacedTurn) -> usize {
+        if self.row(placed) == self.last_row(placed) {
+            self.right(placed)
+        } else {
+            self.width.saturating_sub(MARGIN)
+        }
+    }
+
+    /// Where the lane of an executor begins in a row, if that row has it.
+    pub fn top(&self, row: usize, executor: usize) -> Option<usize> {
+        let first = row.saturating_mul(self.lanes.len());
+        match self.tops.get(first.saturating_add(executor)) {
+            Some(top) => *top,
+            None => None,
+        }
+    }
+
+    /// Where the boxes of an executor begin in a row.
+    pub fn box_top(&self, row: usize, executor: usize) -> usize {
+        match self.top(row, executor) {
+            Some(top) => top.saturating_add(OVER),
             None => HEAD,
         }
     }
+
+    /// Whether there are several rows.
+    pub fn is_wrapped(&self) -> bool {
+        self.cells.len() > COLUMNS
+    }
+
+    /// Whether some turns are folded with others.
+    pub fn has_folds(&self) -> bool {
+        self.cells.len() < self.slots.len()
+    }
+}
+
+/// Where a cell begins, by its place.
+pub(crate) fn left_of(slot: usize) -> usize {
+    (slot % COLUMNS).saturating_mul(PITCH).saturating_add(LEFT)
 }
 
 /// The colour of a task, by its number in the palette.

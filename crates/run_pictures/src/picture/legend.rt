@@ -42,9 +42,25 @@ fn tasks_height(layout: &Layout, tasks: usize) -> usize {
     told(tasks).div_ceil(entries(layout)).saturating_mul(ROW)
 }
 
+// How tall the line on rows is, where there are several.
+fn rows_height(layout: &Layout) -> usize {
+    if layout.is_wrapped() { ROW } else { 0 }
+}
+
 /// How tall the legend is.
 pub(crate) fn legend_height(layout: &Layout, tasks: usize) -> usize {
-    tasks_height(layout, tasks).saturating_add(ABOVE + BELOW)
+    tasks_height(layout, tasks)
+        .saturating_add(rows_height(layout))
+        .saturating_add(ABOVE + BELOW)
+}
+
+// What lines between rows look like.
+fn write_on_rows(out: &mut PictureText, y: usize) {
+    begin_text(out, "t g", 16, y);
+    out.say(
+        b"A line between two rows is cut: where it arrives stands the turn that it comes from.",
+    );
+    end_text(out)
 }
 
 // The task of a number: its colour, where it comes from, and how it ended.
@@ -121,7 +137,7 @@ pub(crate) fn write_legend(
     endings: &[(Origin, Ending)],
     line: &mut PictureText,
 ) {
-    let top = layout.bottom.saturating_add(ABOVE);
+    let top = layout.legend.saturating_add(ABOVE);
     write_tasks(out, script, layout, endings, top, line);
     let y = top
         .saturating_add(tasks_height(layout, endings.len()))
@@ -143,5 +159,8 @@ pub(crate) fn write_legend(
             TextPiece::Text(" tasks."),
         ]);
     }
-    end_text(out)
+    end_text(out);
+    if layout.is_wrapped() {
+        write_on_rows(out, y.saturating_add(26 + ROW))
+    }
 }

@@ -7,6 +7,8 @@ use crate::picture::links::Link;
 use crate::picture::picture_text::PictureText;
 use crate::picture::pieces::TextPiece;
 use crate::picture::placed::PlacedTurn;
+use crate::picture::text::{begin_text, end_text};
+use swift_types::TaskId;
 
 // How the lines of a link are drawn, by their classes.
 fn class_of(link: Link) -> &'static str {
@@ -19,7 +21,7 @@ fn class_of(link: Link) -> &'static str {
     }
 }
 
-// The beginning of a line: from the box of a turn up, to the height at which lines to this task run.
+// The beginning of a line: from the end of the box of a turn up, to the height at which lines to this task run.
 fn begin_line(
     out: &mut PictureText,
     layout: &Layout,
@@ -27,7 +29,7 @@ fn begin_line(
     from: (&TurnBox, &PlacedTurn),
     to: &TurnBox,
 ) {
-    let top = layout.box_top(from.0.executor);
+    let top = layout.box_top(layout.last_row(from.1), from.0.executor);
     out.put(&[
         TextPiece::Text("<path class=\""),
         TextPiece::Text(class),
@@ -42,17 +44,11 @@ fn begin_line(
     ])
 }
 
-// The end of a line into the top of a box of the same lane, so far from its left, with a head.
-fn end_above(out: &mut PictureText, layout: &Layout, to: (&TurnBox, &PlacedTurn), along: usize) {
-    let at = layout.left(to.1).saturating_add(along);
-    let top = layout.box_top(to.0.executor);
+// The head of a line into the top of a box.
+fn head_above(out: &mut PictureText, task: TaskId, at: usize, top: usize) {
     out.put(&[
-        TextPiece::Text("H"),
-        TextPiece::Number(at),
-        TextPiece::Text("V"),
-        TextPiece::Number(top),
         TextPiece::Text("\"/>\n<path class=\"f"),
-        TextPiece::Number(colour(to.0.task)),
+        TextPiece::Number(colour(task)),
         TextPiece::Text("\" d=\"M"),
         TextPiece::Number(at.saturating_sub(4)),
         TextPiece::Text(","),
@@ -61,10 +57,25 @@ fn end_above(out: &mut PictureText, layout: &Layout, to: (&TurnBox, &PlacedTurn)
     ])
 }
 
+// The end of a line into the top of a box of the same lane, so far from its left, with a head.
+fn end_above(out: &mut PictureText, layout: &Layout, to: (&TurnBox, &PlacedTurn), along: usize) {
+    let at = layout.left(to.1).saturating_add(along);
+    let top = layout.box_top(layout.row(to.1), to.0.executor);
+    out.put(&[
+        TextPiece::Text("H"),
+        TextPiece::Number(at),
+        TextPiece::Text("V"),
+        TextPiece::Number(top),
+    ]);
+    head_above(out, to.0.task, at, top)
+}
+
 // The end of a line into the left side of a box of another lane, with a head.
 fn end_beside(out: &mut PictureText, layout: &Layout, to: (&TurnBox, &PlacedTurn)) {
     let left = layout.left(to.1);
-    let at = layout.box_top(to.0.executor).saturating_add(12);
+    let at = layout
+        .box_top(layout.row(to.1), to.0.executor)
+        .saturating_add(12);
     out.put(&[
         TextPiece::Text("H"),
         TextPiece::Number(left.saturating_sub(10)),
@@ -82,6 +93,56 @@ fn end_beside(out: &mut PictureText, layout: &Layout, to: (&TurnBox, &PlacedTurn
     ])
 }
 
+// The end of a line from another row: the line that was begun ends beside its box, and another one, so far from the left of this box, comes
+// from above, beside the name of the turn that it comes from.
+fn end_far(
+    out: &mut PictureText,
+    layout: &Layout,
+    class: &str,
+    from: &TurnBox,
+    to: (&TurnBox, &PlacedTurn),
+    along: usize,
+) {
+    let at = layout.left(to.1).saturating_add(along);
+    let top = layout.box_top(layout.row(to.1), to.0.executor);
+    out.put(&[
+        TextPiece::Text("h14\"/>\n<path class=\""),
+        TextPiece::Text(class),
+        TextPiece::Text(" s"),
+        TextPiece::Number(colour(to.0.task)),
+        TextPiece::Text("\" d=\"M"),
+        TextPiece::Number(at),
+        TextPiece::Text(","),
+        TextPiece::Number(top.saturating_sub(36)),
+        TextPiece::Text("V"),
+        TextPiece::Number(top),
+    ]);
+    head_above(out, to.0.task, at, top);
+    begin_text(out, "g m", at.saturating_add(7), top.saturating_sub(28));
+    out.turn(from);
+    end_text(out)
+}
+
+// A line from the end of the box of a turn to that of another: one into its top arrives so far from its left, or so far where it comes from
+// another row.
+fn write_line(
+    out: &mut PictureText,
+    layout: &Layout,
+    class: &str,
+    from: (&TurnBox, &PlacedTurn),
+    to: (&TurnBox, &PlacedTurn),
+    along: (usize, usize),
+) {
+    begin_line(out, layout, class, from, to.0);
+    if layout.last_row(from.1) != layout.row(to.1) {
+        end_far(out, layout, class, from.0, to, along.1)
+    } else if from.0.executor == to.0.executor {
+        end_above(out, layout, to, along.0)
+    } else {
+        end_beside(out, layout, to)
+    }
+}
+
 // The line from the box of the turn that made a turn's job.
 fn write_link(
     out: &mut PictureText,
@@ -89,13 +150,8 @@ fn write_link(
     maker: (&TurnBox, &PlacedTurn),
     turn: (&TurnBox, &PlacedTurn),
 ) {
-    let link = Link::between(maker.0, turn.0);
-    begin_line(out, layout, class_of(link), maker, turn.0);
-    if maker.0.executor == turn.0.executor {
-        end_above(out, layout, turn, 16)
-    } else {
-        end_beside(out, layout, turn)
-    }
+    let class = class_of(Link::between(maker.0, turn.0));
+    write_line(out, layout, class, maker, turn, (16, 10))
 }
 
 // The line along which a task waited, from its turn before to a turn that another task has woken.
@@ -105,12 +161,7 @@ fn write_wait(
     before: (&TurnBox, &PlacedTurn),
     turn: (&TurnBox, &PlacedTurn),
 ) {
-    begin_line(out, layout, "lw", before, turn.0);
-    if before.0.executor == turn.0.executor {
-        end_above(out, layout, turn, 32)
-    } else {
-        end_beside(out, layout, turn)
-    }
+    write_line(out, layout, "lw", before, turn, (32, 72))
 }
 
 // The box at a place, where it is shown.
@@ -146,10 +197,10 @@ fn write_lines_to(
     write_link(out, layout, maker, (turn, placed))
 }
 
-/// The lines between the boxes that are shown.
+/// The lines to the boxes that are shown, from those that are and from folds.
 pub(crate) fn write_lines(out: &mut PictureText, layout: &Layout, picture: &Picture) {
     for (turn, placed) in picture.boxes.iter().zip(&picture.placed) {
-        if layout.shows(placed) {
+        if layout.shows(placed) && !layout.is_folded(placed) {
             write_lines_to(out, layout, picture, turn, placed);
         }
     }

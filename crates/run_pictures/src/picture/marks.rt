@@ -1,12 +1,17 @@
 //! What a turn did with groups, and whom it cancelled.
 
+ghost use Rattle.std.specs.Prelude.{◌≡◌};
+ghost use Rattle.run_pictures.specs.GivingWay.{begins_block};
+
 use crate::picture::picture_text::PictureText;
 use crate::picture::pieces::TextPiece;
 use swift_events::Event;
 use swift_log::EventLog;
 
-// Whether an event begins a block of the log.
-fn begins_block(event: &Event) -> bool {
+/// Whether an event begins a block of the log.
+pub(crate) fn begins_block(event: &Event) -> bool
+    ensures { result ≡ begins_block event.now }
+{
     matches!(
         event,
         Event::Root(_, _) | Event::Begin { .. } | Event::Apply(_, _)

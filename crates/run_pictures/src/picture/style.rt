@@ -36,3 +36,13 @@ rect{stroke-width:1.6}
 .c11{stroke:#a8870a;fill:#f4efdf}.s11{stroke:#a8870a}.f11{fill:#a8870a}
 </style>
 ";
+
+/// The classes of a picture of several rows, or with folded turns.
+pub(crate) static LONG_STYLE: &str = "<style>
+.k{stroke:#9a9a9a;fill:#f4f4f4;stroke-dasharray:4 3}
+.j{text-anchor:middle}
+.fk{fill:#c4c4c4}
+.fx{fill:#b3261e}
+a text{text-decoration:underline}
+</style>
+";

@@ -1,14 +1,19 @@
 //! A picture as SVG.
 
+use crate::picture::boxes::TurnBox;
 use crate::picture::card::{View, write_card};
 use crate::picture::fields::write_changes;
-use crate::picture::layout::{LEFT, Lane, Layout, TALL};
-use crate::picture::legend::{legend_height, write_legend};
+use crate::picture::folds::write_folds;
+use crate::picture::layout::{LEFT, Lane, Layout, OVER, TALL, left_of};
+use crate::picture::legend::write_legend;
 use crate::picture::lines::write_lines;
 use crate::picture::marks::write_marks;
+use crate::picture::overview::write_overview;
 use crate::picture::picture_text::PictureText;
 use crate::picture::pieces::TextPiece;
-use crate::picture::style::STYLE;
+use crate::picture::placed::PlacedTurn;
+use crate::picture::rows::Row;
+use crate::picture::style::{LONG_STYLE, STYLE};
 use crate::picture::text::{begin_text, end_text, write_text};
 use crate::picture::{Picture, word};
 use crate::{TurnValues, turn_values};
@@ -31,30 +36,41 @@ fn write_heading(out: &mut PictureText, name: &str, workers: u32) {
 }
 
 // What stands before the lanes.
-fn write_head(out: &mut PictureText, layout: &Layout, tasks: usize, name: &str, workers: u32) {
-    let height = layout.bottom.saturating_add(legend_height(layout, tasks));
+fn write_head(out: &mut PictureText, layout: &Layout, name: &str, workers: u32) {
     out.put(&[
         TextPiece::Text("<svg xmlns=\"http://www.w3.org/2000/svg\" width=\""),
         TextPiece::Number(layout.width),
         TextPiece::Text("\" height=\""),
-        TextPiece::Number(height),
+        TextPiece::Number(layout.height),
         TextPiece::Text("\" viewBox=\"0 0 "),
         TextPiece::Number(layout.width),
         TextPiece::Text(" "),
-        TextPiece::Number(height),
+        TextPiece::Number(layout.height),
         TextPiece::Text("\">\n<title>"),
     ]);
     write_heading(out, name, workers);
     out.say(b"</title>\n");
     out.say(STYLE.as_bytes());
+    if layout.is_wrapped() || layout.has_folds() {
+        out.say(LONG_STYLE.as_bytes());
+    }
     out.say(b"<rect width=\"100%\" height=\"100%\" fill=\"#ffffff\"/>\n");
     begin_text(out, "h", 16, 28);
     write_heading(out, name, workers);
     end_text(out);
     begin_text(out, "t g", 16, 50);
-    out.say(
-        b"From left to right: the order of the log. A box is a turn, in the colour of its task; a crossed one was undone.",
-    );
+    write_order(out, layout);
+    end_text(out)
+}
+
+// How a picture is read, and how many turns it does not show.
+fn write_order(out: &mut PictureText, layout: &Layout) {
+    out.say(if layout.is_wrapped() {
+        b"From left to right, and then the row below: the order of the log."
+    } else {
+        b"From left to right: the order of the log."
+    });
+    out.say(b" A box is a turn, in the colour of its task; a crossed one was undone.");
     if layout.earlier > 0 {
         out.put(&[
             TextPiece::Text(" Not shown: "),
@@ -62,7 +78,6 @@ fn write_head(out: &mut PictureText, layout: &Layout, tasks: usize, name: &str, 
             TextPiece::Text(" earlier turns."),
         ]);
     }
-    end_text(out)
 }
 
 // How an executor takes its jobs.
@@ -81,22 +96,25 @@ fn write_kind(out: &mut PictureText, script: &Script, executor: usize) {
     }
 }
 
-// What stands before a lane: its executor, how it takes its jobs, and how many turns it has run.
+// What stands before a lane: its executor, and how it takes its jobs. Where the first of the two stands.
 fn write_gutter(
     out: &mut PictureText,
     script: &Script,
     executor: usize,
     lane: &Lane,
-    folded: usize,
-) {
-    let top = lane
-        .top
-        .saturating_add(if lane.shown == 0 { 20 } else { 62 });
+    top: usize,
+) -> usize {
+    let at = top.saturating_add(if lane.shown == 0 { 20 } else { 62 });
     let name = word::executor_name(script, executor);
-    write_text(out, "n", (16, top), name, IN_GUTTER);
-    begin_text(out, "g", 16, top.saturating_add(16));
+    write_text(out, "n", (16, at), name, IN_GUTTER);
+    begin_text(out, "g", 16, at.saturating_add(16));
     write_kind(out, script, executor);
     end_text(out);
+    at
+}
+
+// Below what stands before a lane, how many turns its executor has run.
+fn write_turns(out: &mut PictureText, lane: &Lane, folded: usize, top: usize) {
     begin_text(out, "g", 16, top.saturating_add(32));
     let turns = lane.boxes.saturating_add(folded);
     let word = if turns == 1 { " turn" } else { " turns" };
@@ -112,9 +130,9 @@ fn write_gutter(
 }
 
 // The lines behind a lane: the one that its boxes stand on, and the one below it.
-fn write_rails(out: &mut PictureText, layout: &Layout, lane: &Lane) {
+fn write_rails(out: &mut PictureText, layout: &Layout, lane: &Lane, top: usize) {
     if lane.shown > 0 {
-        let middle = lane.box_top().saturating_add(TALL / 2);
+        let middle = top.saturating_add(OVER + TALL / 2);
         out.put(&[
             TextPiece::Text("<path class=\"o\" d=\"M"),
             TextPiece::Number(LEFT - 8),
@@ -127,7 +145,7 @@ fn write_rails(out: &mut PictureText, layout: &Layout, lane: &Lane) {
     }
     out.put(&[
         TextPiece::Text("<path class=\"o\" d=\"M0,"),
-        TextPiece::Number(lane.bottom),
+        TextPiece::Number(top.saturating_add(lane.height())),
         TextPiece::Text("H"),
         TextPiece::Number(layout.width),
         TextPiece::Text("\"/>\n"),
@@ -135,34 +153,62 @@ fn write_rails(out: &mut PictureText, layout: &Layout, lane: &Lane) {
 }
 
 // The name of an executor again, over each eighth column but the first, for those who scroll.
-fn write_names(
-    out: &mut PictureText,
-    script: &Script,
-    picture: &Picture,
-    layout: &Layout,
-    executor: usize,
-    lane: &Lane,
-) {
+fn write_names(out: &mut PictureText, script: &Script, executor: usize, row: &Row, top: usize) {
     let name = word::executor_name(script, executor);
-    for column in layout.first_column..picture.boxes.len() {
-        let shown = column.saturating_sub(layout.first_column);
-        if shown % 8 == 0 && shown > 0 {
-            let at = (layout.column_left(column), lane.top.saturating_add(15));
-            write_text(out, "g", at, name, IN_GUTTER);
+    for column in 1..row.cells {
+        if column % 8 == 0 {
+            let left = left_of(row.first.saturating_add(column));
+            write_text(out, "g", (left, top.saturating_add(15)), name, IN_GUTTER);
         }
     }
 }
 
-fn write_lanes(out: &mut PictureText, script: &Script, picture: &Picture, layout: &Layout) {
-    for (executor, lane) in layout.lanes.iter().enumerate() {
-        let folded = match picture.folded.get(executor) {
-            Some(count) => *count,
-            None => 0,
-        };
-        write_rails(out, layout, lane);
-        write_gutter(out, script, executor, lane, folded);
-        if lane.shown > 0 {
-            write_names(out, script, picture, layout, executor, lane);
+// What stands before and behind the boxes of a lane that begins here, in a row.
+fn write_lane(
+    out: &mut PictureText,
+    view: View<'_>,
+    executor: usize,
+    lane: &Lane,
+    row: &Row,
+    top: usize,
+) {
+    write_rails(out, view.layout, lane, top);
+    let at = write_gutter(out, view.script, executor, lane, top);
+    // Of several rows the overview says how many turns an executor has run.
+    if view.layout.is_wrapped() {
+        return;
+    }
+    let folded = view.picture.folded.get(executor).copied().unwrap_or(0);
+    write_turns(out, lane, folded, at);
+    if lane.shown > 0 {
+        write_names(out, view.script, executor, row, top);
+    }
+}
+
+// The number of a row.
+fn write_number(out: &mut PictureText, row: usize, top: usize) {
+    let number = row.saturating_add(1);
+    out.put(&[
+        TextPiece::Text("<text id=\"row"),
+        TextPiece::Number(number),
+        TextPiece::Text("\" class=\"h\" x=\"16\" y=\""),
+        TextPiece::Number(top.saturating_add(18)),
+        TextPiece::Text("\">row "),
+        TextPiece::Number(number),
+    ]);
+    end_text(out)
+}
+
+// The lanes of all rows.
+fn write_rows(out: &mut PictureText, view: View<'_>) {
+    for (place, row) in view.layout.rows.iter().enumerate() {
+        if view.layout.is_wrapped() {
+            write_number(out, place, row.top);
+        }
+        for (executor, lane) in view.layout.lanes.iter().enumerate() {
+            if let Some(top) = view.layout.top(place, executor) {
+                write_lane(out, view, executor, lane, row, top);
+            }
         }
     }
 }
@@ -174,40 +220,35 @@ struct Scratch {
     line: PictureText,
 }
 
-// The boxes of an executor that are shown.
-fn write_lane_boxes(
+// What stands below a box: what its turn did with groups, and to the fields.
+fn write_lines_below(
     out: &mut PictureText,
     view: View<'_>,
-    executor: usize,
-    lane: &Lane,
-    values: &[TurnValues],
-    scratch: &mut Scratch,
+    turn: &TurnBox,
+    placed: &PlacedTurn,
+    at: usize,
 ) {
+    out.clear();
+    write_marks(out, view.log, placed.moment.end);
+    let Some(values) = view.values.get(turn.executor) else {
+        return;
+    };
+    if let Some(done) = values.get(at) {
+        write_changes(out, view.script, turn.executor, done, placed.is_undone);
+    }
+}
+
+// The boxes of an executor that are shown, and not folded.
+fn write_lane_boxes(out: &mut PictureText, view: View<'_>, lane: &Lane, scratch: &mut Scratch) {
     for at in 0..lane.boxes {
         let place = lane.first.saturating_add(at);
         let Some((turn, placed)) = view.picture.at(place) else {
             continue;
         };
-        if view.layout.shows(placed) {
-            scratch.below.clear();
-            write_marks(&mut scratch.below, view.log, placed.moment.end);
-            if let Some(done) = values.get(at) {
-                write_changes(
-                    &mut scratch.below,
-                    view.script,
-                    executor,
-                    done,
-                    placed.is_undone,
-                );
-            }
-            write_card(
-                out,
-                view,
-                turn,
-                placed,
-                scratch.below.bytes(),
-                &mut scratch.line,
-            );
+        if view.layout.shows(placed) && !view.layout.is_folded(placed) {
+            write_lines_below(&mut scratch.below, view, turn, placed, at);
+            let lines = scratch.below.bytes();
+            write_card(out, view, turn, placed, lines, &mut scratch.line);
         }
     }
 }
@@ -228,20 +269,22 @@ fn values_at(
     turn_values(alloc, script, checkpoint.fields(), journal)
 }
 
-fn write_boxes(
+// What the turns of each executor did to its fields.
+fn all_values(
     alloc: Global,
-    out: &mut PictureText,
-    view: View<'_>,
+    script: &Script,
     report: &Report,
-    scratch: &mut Scratch,
-) {
-    for (executor, lane) in view.layout.lanes.iter().enumerate() {
-        if lane.shown > 0 {
-            match values_at(alloc, view.script, report, executor) {
-                Ok(values) => write_lane_boxes(out, view, executor, lane, &values, scratch),
-                Err(fault) => out.need(Err(fault)),
-            }
-        }
+) -> Result<Vec<Vec<TurnValues>>, AllocError> {
+    let mut all = Vec::with_capacity(alloc, report.journals.len())?;
+    for executor in 0..report.journals.len() {
+        all.push(values_at(alloc, script, report, executor)?)?;
+    }
+    Ok(all)
+}
+
+fn write_boxes(out: &mut PictureText, view: View<'_>, scratch: &mut Scratch) {
+    for lane in &view.layout.lanes {
+        write_lane_boxes(out, view, lane, scratch);
     }
 }
 
@@ -251,14 +294,18 @@ fn write_svg(
     out: &mut PictureText,
     view: View<'_>,
     report: &Report,
-    name: &str,
-    workers: u32,
+    heading: (&str, u32),
     scratch: &mut Scratch,
 ) {
-    write_head(out, view.layout, report.endings.len(), name, workers);
-    write_lanes(out, view.script, view.picture, view.layout);
+    write_head(out, view.layout, heading.0, heading.1);
+    if view.layout.is_wrapped() {
+        write_overview(out, view.script, view.picture, view.layout);
+    }
+    write_rows(out, view);
     write_lines(out, view.layout, view.picture);
-    write_boxes(alloc, out, view, report, scratch);
+    write_boxes(out, view, scratch);
+    let folds = write_folds(alloc, out, view.picture, view.layout);
+    out.need(folds);
     write_legend(
         out,
         view.script,
@@ -272,9 +319,11 @@ fn write_svg(
 }
 
 /// A picture of the run of a script as SVG (the form is our own): a lane for each executor, in it from left to right a box for each turn,
-/// and lines for what made what. `name` is the path of the script, of which the last part is shown. Only the last 1,000 turns that have a
-/// box are shown, and of the others the number. It stands alone: no script, and no font that has to be loaded. Each turn of a lane is
-/// played once more, for what it did to the fields; beside that it is linear in the picture and the log.
+/// and lines for what made what. `name` is the path of the script, of which the last part is shown. More than twelve turns stand in rows of
+/// twelve cells, below an overview, and four turns and more in a row that only give way are folded (`cells_of`, `gives_way`). Only the last
+/// 1,000 cells are shown, and of the turns before them the number. It stands alone: no script, and no font that has to be loaded. Each turn
+/// is played once more, for what it did to the fields; beside that it is linear in the picture and the log, and takes for each row the
+/// executors.
 ///
 /// # Errors
 ///
@@ -287,18 +336,20 @@ pub fn svg_text(
     name: &str,
     workers: u32,
 ) -> Result<Vec<u8>, AllocError> {
-    let layout = Layout::of(alloc, picture)?;
+    let values = all_values(alloc, script, report)?;
+    let layout = Layout::of(alloc, picture, &values, &report.log, report.endings.len())?;
     let view = View {
         script,
         log: &report.log,
         picture,
         layout: &layout,
+        values: &values,
     };
     let mut scratch = Scratch {
         below: PictureText::new(alloc),
         line: PictureText::new(alloc),
     };
     let mut out = PictureText::new(alloc);
-    write_svg(alloc, &mut out, view, report, name, workers, &mut scratch);
+    write_svg(alloc, &mut out, view, report, (name, workers), &mut scratch);
     out.into_bytes()
 }

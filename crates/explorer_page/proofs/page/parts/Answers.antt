@@ -1,7 +1,6 @@
 use Rattle.std.proofs.Common.{ℕ, List, ◌++◌}
-use Rattle.explorer_json.specs.AnswerJson.{answer_json}
 use Rattle.run_page.specs.Escapes.{escaped}
-use Rattle.explorer_page.specs.Pages.{back_text, front_text, more_json}
+use Rattle.explorer_page.specs.Pages.{back_text, front_text, more_json, said_json}
 use Rattle.explorer_page.specs.declared.texts.frame.TheConstants.{MIDDLE}
 use Rattle.explorer_page.proofs.Joined.{onto, onto_last}
 use Rattle.explorer_page.proofs.page.parts.Goals as goal
@@ -10,7 +9,7 @@ pub returns : goal.returns
 returns c =
     let h = c.args.heading in
     let p = c.args.script.now in
-    let json = escaped (answer_json h.text.now p c.args.asked.now c.args.found.now) in
+    let json = escaped (said_json c.args.of h.text.now p c.args.asked.now c.args.found.now) in
     let other = escaped (more_json p h c.args.runs.now) in
     let x0 = c.args.out.now.items in
     let x1 = c.front.new.out.items in

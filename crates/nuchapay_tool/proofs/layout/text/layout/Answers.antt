@@ -7,7 +7,7 @@ pub loop-place-init : goal.loop-place-init
 loop-place-init c = subst (λ (t : List ℕ). LaysOut [] t) (sym c.new.ensures.items) nothing
 
 pub loop-place-preserved : goal.loop-place-preserved
-loop-place-preserved c = lays_next c.args.tokens.now c.loop-place.place _ _ c.loop-place-test.true c.index-tokens-place.is (c.in_ok-token_unless.ensures _ c.loop-place.invariant)
+loop-place-preserved c = lays_next c.args.tokens.now c.loop-place.place _ _ c.loop-place-test.true c.index-tokens-place.is (c.in_ok-token_unless.ensures _ (c.in_ok-feeds.ensures _ c.loop-place.invariant))
 
 pub returns : goal.returns
-returns c = lays_all c.args.tokens.now c.loop-place.place _ c.loop-place-test.false (c.in_ok-end.ensures _ c.loop-place.invariant)
+returns c = c.in_ok-end.ensures _ (c.in_ok-comments.ensures _ (lays_all c.args.tokens.now c.loop-place.place _ c.loop-place-test.false c.loop-place.invariant))

@@ -5,13 +5,13 @@ use Rattle.std.proofs.lemmas.Option.{slice_get-get_or}
 use Rattle.script_code.specs.Seen.{rows_of}
 use Rattle.swift_interpreter.specs.Frames.{FrameView, effect_views, frame_view}
 use Rattle.swift_interpreter.specs.TurnStates.{exit_view}
-use Rattle.swift_turn.specs.Body.{BodyView, HasFrames, IfRunning, TaskView, callers_of, kept_turn}
+use Rattle.swift_turn.specs.Body.{BodyView, HasFrames, TaskView, callers_of}
 use Rattle.swift_steps.specs.declared.next_turn.NextTurn.{NextTurn}
-use Rattle.swift_explorer.specs.AheadInside.{GoesOnAtOnce, any_env}
+use Rattle.swift_explorer.specs.AheadInside.{TurnGoesOn, any_env}
 use Rattle.swift_steps.specs.NextTurns.{given_at}
 use Rattle.swift_explorer.specs.HistoryInside.{rows_at}
 use Rattle.swift_steps.proofs.Rows.{rows_here}
-use Rattle.swift_explorer.proofs.Trial.{as_before, exit_of, frames_back}
+use Rattle.swift_explorer.proofs.Trial.{as_before, frames_back, turn_goes_on}
 use Rattle.swift_explorer.proofs.history.SearchedHistory.goes_alone.Goals as goal
 
 pub returns-clause-same : goal.returns-clause-same
@@ -43,7 +43,6 @@ returns-clause-alone c = λ is.
     let outcome = c.in-Ok.field-0 in
     let seen = λ (rows : Vec (Vec ℤ Global) Global). rows_of rows.items in
     let copy = c.in_ok-fields.fields in
-    let runs = (c.requires.1.followed.scripts t.0 g was).runs in
     let v = c.index.result.now in
     let lt : c.args.place < length x.steps.fields.items = omega (arith, c.if-place-len.false, c.len.ensures) in
     let at : v ≡ get_or x.steps.fields.items c.args.place v = search rules in
@@ -54,7 +53,7 @@ returns-clause-alone c = λ is.
       there,
       λ k given.
           (let same : g ≡ k = ap (λ (o : Option NextTurn). unwrap_or o g) (sym was ∙ given) in
-          subst (λ (h : NextTurn). IfRunning h.body.task.frames (λ p. GoesOnAtOnce (kept_turn h.body.script p h.body.task.outer (rows_of copy.items) h.resume any_env).exit)) same
-          (exit_of g.body.script g.body.task.outer g.body.task.frames c.replay_turn.new.body.task.frames (rows_of copy.items) (rows_of outcome.fields.items) g.resume any_env (effect_views outcome.effects.items) (exit_view outcome.exit) GoesOnAtOnce runs c.in-Ok.ensures.turn
-          (c.goes_on.ensures is))),
+          subst (λ (h : NextTurn). TurnGoesOn h.body.script h.body.task.frames h.body.task.outer (rows_of copy.items) h.resume) same
+          (turn_goes_on g.body.script g.body.task.outer g.body.task.frames c.replay_turn.new.body.task.frames (rows_of copy.items) (rows_of outcome.fields.items) g.resume (effect_views outcome.effects.items) (exit_view outcome.exit) c.in-Ok.ensures.turn
+          (c.in_ok-goes.ensures is))),
     ))

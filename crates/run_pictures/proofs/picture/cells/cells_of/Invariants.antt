@@ -1,0 +1,10 @@
+use Rattle.std.proofs.Common.{◌≡◌, ◌-◌, ◌≤◌, ◌++◌, drop, length}
+use Rattle.run_pictures.specs.Cells.{cells_from, cells_of}
+use Rattle.run_pictures.proofs.picture.cells.cells_of.Given as goal
+
+abbrev pub invariant-loop-column : goal.invariant-loop-column
+invariant-loop-column l = record {
+  within : l.run ≤ l.column;
+  end : l.column-end ≡ length l.quiet;
+  cells : l.cells.items ++ cells_from (l.column - l.run) l.run (drop l.column l.quiet) ≡ cells_of l.quiet;
+}
