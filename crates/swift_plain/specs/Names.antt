@@ -1,0 +1,82 @@
+-- How names of a script are spelled in a plain Swift file. (Own.)
+use Rattle.std.specs.Prelude.{◌==◌, ◌&&◌, ◌||◌, ◌+◌, ℕ, Bool, true, false, not, List, [], ◌∷◌, ◌++◌, codes, nat_le, bytes_eq}
+use Rattle.std.specs.List.{list_any}
+use Rattle.script_grammar.specs.Tree.{DeclTree, Executes, Binds, Acts, Roots, FieldTree}
+use Rattle.swift_plain.specs.declared.names.TheConstants.{WORDS}
+
+-- whether a byte is a capital letter
+abbrev pub is_upper : ℕ → Bool
+is_upper b = nat_le 65 b && nat_le b 90
+
+-- whether a byte is a small letter
+abbrev pub is_lower : ℕ → Bool
+is_lower b = nat_le 97 b && nat_le b 122
+
+-- one of two numbers
+abbrev pub pick : Bool → ℕ → ℕ → ℕ
+pick true a b = a
+pick false a b = b
+
+-- a letter as a small one, and another byte as it is
+abbrev pub lower : ℕ → ℕ
+lower b = pick (is_upper b) (b + 32) b
+
+-- a name whose first letter is small
+abbrev pub small : List ℕ → List ℕ
+small [] = []
+small (b ∷ bs) = lower b ∷ bs
+
+-- whether a name begins with a capital letter
+abbrev pub begins_upper : List ℕ → Bool
+begins_upper [] = false
+begins_upper (b ∷ bs) = is_upper b
+
+-- whether a name begins as those that a file makes: with one of `g_`, `i_`, `m_` and `v_`
+abbrev pub is_made : List ℕ → Bool
+is_made [] = false
+is_made (a ∷ []) = false
+is_made (a ∷ b ∷ bs) = (b == 95) && ((a == 103) || ((a == 105) || ((a == 109) || (a == 118))))
+
+-- whether Swift, or the language of the subset, means something by a name
+abbrev pub is_word : List ℕ → Bool
+is_word w = list_any (λ x. bytes_eq x.now w) WORDS
+
+-- Whether a name can stand for a value: it begins with no capital letter, nor as a name that is made, and is no word.
+abbrev pub is_plain : List ℕ → Bool
+is_plain w = not (begins_upper w) && (not (is_made w) && not (is_word w))
+
+-- whether a name is that of the instance of a declared actor
+abbrev pub is_instance_of : List ℕ → DeclTree → Bool
+is_instance_of w (Executes x) = false
+is_instance_of w (Binds l) = false
+is_instance_of w (Acts a) = bytes_eq (small a.name) (small w)
+is_instance_of w (Roots r) = false
+
+-- whether a name is that of an instance
+abbrev pub is_instance : List DeclTree → List ℕ → Bool
+is_instance ds w = list_any (is_instance_of w) ds
+
+-- a name, or the same after a prefix
+abbrev pub spelled : Bool → List ℕ → List ℕ → List ℕ
+spelled true prefix w = w
+spelled false prefix w = prefix ++ w
+
+-- a field, a parameter, a variable, a task, a group or a root: its name, or the same after `v_` where it is not plain, or an instance's
+abbrev pub value_name : List DeclTree → List ℕ → List ℕ
+value_name ds w = spelled (is_plain w && not (is_instance ds w)) (codes "v_") w
+
+-- whether one of the fields has this name
+abbrev pub is_field : List FieldTree → List ℕ → Bool
+is_field fs w = list_any (λ f. bytes_eq f.name w) fs
+
+-- whether a name begins with `get_`, as the methods do by which a file that is read back gives its fields
+abbrev pub is_getter : List ℕ → Bool
+is_getter [] = false
+is_getter (a ∷ []) = false
+is_getter (a ∷ b ∷ []) = false
+is_getter (a ∷ b ∷ c ∷ []) = false
+is_getter (a ∷ b ∷ c ∷ d ∷ bs) = (a == 103) && ((b == 101) && ((c == 116) && (d == 95)))
+
+-- a method: its name, or the same after `m_` where it is not plain, or an instance's or a field's, or begins with `get_`
+abbrev pub method_name : List DeclTree → List FieldTree → List ℕ → List ℕ
+method_name ds fs w = spelled ((is_plain w && not (is_getter w)) && (not (is_instance ds w) && not (is_field fs w))) (codes "m_") w
