@@ -10,10 +10,10 @@ and N of its own, from --seed on (1), whose forms all have plain Swift.
 this relation, which docs/SWIFT_IN.md has in words:
 
 - names differ, but the same ones stand for the same: actors, fields and methods in order, variables where they are made;
-- the script that is read back has methods `get_x_`, an actor `Pool_` and one for `main` besides, whose method makes the roots in order, and
-  waits for each;
+- the script that is read back has a method for each field, of its name, and besides an actor `Task` and one for `main`, whose method makes the
+  roots in order, and waits for each;
 - a number as a test is compared with 0; `return 0` may stand behind a method that returned nothing at its end;
-- what is awaited may be put into a variable of its own first, and so may arguments; a child calls a method of `Pool_`, which makes the call;
+- what is awaited may be put into a variable of its own first, and so may arguments; a child calls a method of `Task`, which makes the call;
 - `await next g` stands below a test that a child is left.
 
 Where `explore` comes to its end within N states (2,000) on both sides, the values of the actors' fields at the end have to be the same: without
@@ -83,8 +83,8 @@ def call_in(call: Call, made: dict[str, Expr]) -> Call:
 
 
 def pool_call(script: Script, call: Call) -> Call:
-    """What a child's method of `Pool_` calls."""
-    if call.actor != "Pool_":
+    """What a child's method of `Task` calls."""
+    if call.actor != "Task":
         return call
     method = script.method(call.actor, call.method)
     want(len(method.block) in (1, 2) and method.block[0].way == "call", "a child that does more than a call")
@@ -189,7 +189,7 @@ class Comparison:
     def run(self) -> None:
         left, right = list(self.left.actors.values()), list(self.right.actors.values())
         want(not self.right.names and not self.right.locals, "executors or task locals")
-        want([actor.name for actor in right[len(left) :]] in (["Main"], ["Pool_", "Main"]), "other actors")
+        want([actor.name for actor in right[len(left) :]] in (["Main"], ["Task", "Main"]), "other actors")
         for one, other in zip(left, right):
             self.actors.add(one.name, other.name)
             self.heads(one, other)
@@ -203,7 +203,7 @@ class Comparison:
         for left, right in zip(one.places, other.places):
             fields.add(left, right)
         others = list(other.methods)[len(one.methods) :]
-        want(len(others) == len(fields.there) and all(re.fullmatch(r"get_\w+_", name) for name in others), f"methods of {one.name}")
+        want(others == list(other.places), f"methods of {one.name}")
         for left, right in zip(one.methods, other.methods):
             methods.add(left, right)
         self.fields[one.name], self.methods[one.name] = fields, methods
@@ -315,7 +315,7 @@ def compare_ends(program: str, left: str, right: str, found: Comparison, states:
     own = {(actor, field): f"{actor}.{field}" for actor, pairs in found.fields.items() for field in pairs.there}
     other = {(found.actors.there[actor], right): f"{actor}.{left}" for actor, pairs in found.fields.items() for left, right in pairs.there.items()}
     one, two = ends(ours, own), ends(theirs, other)
-    want(one <= two if "Pool_" in found.right.actors else one == two, f"{len(one - two)} outcomes lost, {len(two - one)} new")
+    want(one <= two if "Task" in found.right.actors else one == two, f"{len(one - two)} outcomes lost, {len(two - one)} new")
     return f"{len(one)} of {len(two)} outcomes"
 
 

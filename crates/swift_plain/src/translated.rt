@@ -9,7 +9,7 @@ use crate::search::{FoundForm, first_form};
 use crate::whole::plain_program;
 use script_grammar::Decl;
 use script_parser::parse;
-use script_tokens::{Keyword, Token, Tokens, tokens};
+use script_tokens::{Keyword, Token, Tokens, line_of, tokens};
 use std::alloc::{AllocError, Global};
 use swift_script::{ScriptFault, read};
 
@@ -45,18 +45,18 @@ fn is_atom(token: &Token) -> bool {
     }
 }
 
-// The line of the atom that has so many before it.
-fn line_of(found: &Tokens, before: usize) -> u32 {
+// The first byte of the atom that has so many before it; the end of the text, if there is none.
+fn atom_place(text: &[u8], found: &Tokens, before: usize) -> usize {
     let mut left = before;
-    for (place, token) in found.tokens.iter().enumerate() {
+    for (token, span) in found.tokens.iter().zip(found.spans.iter()) {
         if is_atom(token) {
             if left == 0 {
-                return found.lines.get(place).copied().unwrap_or(found.last_line);
+                return span.from;
             }
             left -= 1;
         }
     }
-    found.last_line
+    text.len()
 }
 
 fn declarations(alloc: Global, found: &Tokens) -> Result<Vec<Decl>, AllocError> {
@@ -71,7 +71,7 @@ fn plain_of(alloc: Global, text: &[u8]) -> Result<Vec<u8>, PlainError> {
     let found = tokens(alloc, text)?;
     let decls = declarations(alloc, &found)?;
     match first_form(alloc, &decls)? {
-        Some(FoundForm { form, before }) => Err(PlainError::Form(line_of(&found, before), form)),
+        Some(FoundForm { form, before }) => Err(PlainError::Form(line_of(text, atom_place(text, &found, before)), form)),
         None => {
             let program = plain_program(alloc, &decls)?;
             Ok(spell(alloc, &program)?)

@@ -12,7 +12,7 @@ returns-in-Err-clause-refused c = λ spelled.
 
 pub returns-in-Err-clause-place : goal.returns-in-Err-clause-place
 returns-in-Err-clause-place c = λ spelled. (
-    moved c.args.text.now _ (check_kind c.in-Err.error) _ (check_span c.args.text.now c.args.tokens.now c.in-Err.error) c.refusal.ensures.kind c.refusal.ensures.span
-    (check_blames c.args.text.now (map view_decl c.args.decls.now) c.args.tokens.now c.in-Err.error spelled c.in-Err.ensures.finds),
-    c.refusal.ensures.line
-    )
+  moved c.args.text.now _ (check_kind c.in-Err.error) _ (check_span c.args.text.now c.args.tokens.now c.in-Err.error) c.refusal.ensures.kind c.refusal.ensures.span
+      (check_blames c.args.text.now (map view_decl c.args.decls.now) c.args.tokens.now c.in-Err.error spelled c.in-Err.ensures.finds),
+  c.refusal.ensures.line,
+)

@@ -13,7 +13,7 @@ returns-in-Err-clause-refused c =
 
 pub returns-in-Err-clause-place : goal.returns-in-Err-clause-place
 returns-in-Err-clause-place c = (
-    moved c.args.text.now _ (read_kind c.in-Err.error) _ (read_span c.args.text.now c.args.tokens c.in-Err.error) c.refusal.ensures.kind c.refusal.ensures.span
-    (read_blames c.args.text.now (map piece c.deref.result.now) c.args.tokens c.in-Err.error c.requires.kept (ap (map piece) c.deref.ensures.value) c.in-Err.ensures.fault),
-    c.refusal.ensures.line
-    )
+  moved c.args.text.now _ (read_kind c.in-Err.error) _ (read_span c.args.text.now c.args.tokens c.in-Err.error) c.refusal.ensures.kind c.refusal.ensures.span
+      (read_blames c.args.text.now (map piece c.deref.result.now) c.args.tokens c.in-Err.error c.requires.kept (ap (map piece) c.deref.ensures.value) c.in-Err.ensures.fault),
+  c.refusal.ensures.line,
+)
