@@ -1,5 +1,5 @@
 -- Where tasks stand, by their numbers. No public clause names these.
-use Rattle.std.specs.Prelude.{ℕ, ◌≤◌, ◌<◌, Option, None, nat_lt, nat_eq, if◌then◌else◌, slice_index_or, vec_len}
+use Rattle.std.specs.Prelude.{ℕ, ◌≤◌, ◌<◌, Option, None, nat_lt, nat_eq, if◌then◌else◌, slice_index_or, vec_capacity}
 use Rattle.std.specs.HashMap.{get, spare}
 use Rattle.swift_types.specs.declared.limits.TheConstants.{TASKS}
 use Rattle.swift_escalation.specs.declared.places.TaskPlaces.{TaskPlaces}
@@ -10,4 +10,4 @@ place_in p n = if nat_lt n TASKS then slice_index_or p.listed.items n None else 
 
 -- there is memory for n more tasks
 abbrev pub HasRoom : TaskPlaces → ℕ → Type 0
-HasRoom p n = (n ≤ spare p.mapped) × (0 < n → TASKS ≤ vec_len p.listed)
+HasRoom p n = (n ≤ spare p.mapped) × (0 < n → TASKS ≤ vec_capacity p.listed)

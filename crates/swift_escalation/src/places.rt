@@ -1,6 +1,7 @@
 //! The places of tasks, by the tasks' numbers.
 
-ghost use Rattle.std.specs.Prelude.{◌≡◌, ℕ, ◌+◌, Some, IfOk, OnOk, nat_eq, if◌then◌else◌};
+ghost use Rattle.std.specs.Prelude.{◌≡◌, ◌<◌, ℕ, ◌+◌, Some, IfOk, OnOk, nat_eq, if◌then◌else◌, vec_len};
+ghost use Rattle.swift_types.specs.declared.limits.TheConstants.{TASKS};
 ghost use Rattle.swift_escalation.specs.PlacesInside.{place_in, HasRoom};
 
 use std::alloc::{AllocError, Global};
@@ -11,7 +12,7 @@ use swift_types::limits::TASKS;
 /// these have a list. Any other number is in a map.
 #[derive(Drop)]
 pub(crate) struct TaskPlaces {
-    // Empty until room is made for the first time, then so long that each of these numbers is in it.
+    // As long as the greatest of these numbers that is known wants. Once room is made it has room for each of them.
     listed: Vec<Option<usize>>,
     mapped: HashMap<u32, usize>,
 }
@@ -58,10 +59,24 @@ impl TaskPlaces {
         ensures ok { OnOk result (HasRoom self.new calls) }
     {
         self.mapped.reserve(calls)?;
-        if self.listed.len() < TASKS {
-            self.listed.resize(TASKS, None)?;
+        let places = self.listed.len();
+        if places < TASKS {
+            self.listed.reserve(TASKS - places)?;
         }
         Ok(())
+    }
+
+    // Makes the list so long that a place is in it.
+    fn fill(&mut self, place: usize)
+        requires room { HasRoom self.old 1 }
+        requires small { place < TASKS }
+        ensures same { (n : ℕ) → place_in self.new n ≡ place_in self.old n }
+        ensures room { (n : ℕ) → HasRoom self.old n → HasRoom self.new n }
+        ensures there { place < vec_len self.new.listed }
+    {
+        'fill: while self.listed.len() <= place {
+            self.listed.push_reserved(None);
+        }
     }
 
     /// The task with this number stands at a place from here on.
@@ -70,8 +85,10 @@ impl TaskPlaces {
         ensures updates { (n : ℕ) → place_in self.new n ≡ (if nat_eq number n then Some place else place_in self.old n) }
         ensures room { (n : ℕ) → HasRoom self.old (n + 1) → HasRoom self.new n }
     {
-        if (number as usize) < TASKS {
-            self.listed[number as usize] = Some(place);
+        let listed = number as usize;
+        if listed < TASKS {
+            self.fill(listed);
+            self.listed[listed] = Some(place);
             return;
         }
         let Ok(_) = self.mapped.insert(number, place) else {

@@ -1,6 +1,6 @@
 //! A count for each task, by the task's number.
 
-ghost use Rattle.std.specs.Prelude.{◌≡◌, ℕ, ◌<◌, ◌==◌, IfOk, OnOk, if◌then◌else◌};
+ghost use Rattle.std.specs.Prelude.{◌≡◌, ℕ, ◌<◌, ◌==◌, IfOk, OnOk, if◌then◌else◌, vec_len};
 ghost use Rattle.swift_types.specs.declared.limits.TheConstants.{TASKS};
 ghost use Rattle.swift_ledger.specs.CountsInside.{count_at, HasPlaces};
 
@@ -11,7 +11,7 @@ use swift_types::limits::TASKS;
 /// A count for each task that a run may have, 0 until it is set.
 #[derive(Drop)]
 pub(crate) struct TaskCounts {
-    // Empty until room is made for the first time, then so long that each number of a task is in it.
+    // As long as the greatest number of a task whose count was set wants. Once room is made it has room for each number of a task.
     counts: Vec<usize>,
 }
 
@@ -25,7 +25,7 @@ impl TaskCounts {
         }
     }
 
-    /// The same counts again.
+    /// The same counts again, with room for no other place.
     pub(crate) fn copy(&self, alloc: Global) -> Result<TaskCounts, AllocError>
         ensures { IfOk result (λ copy. (t : ℕ) → count_at copy t ≡ count_at self.now t) }
     {
@@ -44,16 +44,31 @@ impl TaskCounts {
         }
     }
 
-    /// Makes a place for each task. The counts stay as they are, also where there is no memory.
+    /// Makes room for a place for each task. The counts stay as they are, also where there is no memory.
     pub(crate) fn reserve(&mut self) -> Result<(), AllocError>
         ensures same { (t : ℕ) → count_at self.new t ≡ count_at self.old t }
         ensures places { HasPlaces self.old → HasPlaces self.new }
         ensures ok { OnOk result (HasPlaces self.new) }
     {
-        if self.counts.len() < TASKS {
-            self.counts.resize(TASKS, 0)?;
+        let places = self.counts.len();
+        if places < TASKS {
+            self.counts.reserve(TASKS - places)?;
         }
         Ok(())
+    }
+
+    // Makes places up to that of a task.
+    fn fill(&mut self, task: TaskId)
+        requires places { HasPlaces self.old }
+        requires known { task.0 < TASKS }
+        ensures same { (t : ℕ) → count_at self.new t ≡ count_at self.old t }
+        ensures places { HasPlaces self.new }
+        ensures there { task.0 < vec_len self.new.counts }
+    {
+        let place = task.0 as usize;
+        'fill: while self.counts.len() <= place {
+            self.counts.push_reserved(0);
+        }
     }
 
     /// Sets the count of a task.
@@ -63,6 +78,7 @@ impl TaskCounts {
         ensures updates { (t : ℕ) → count_at self.new t ≡ (if task.0 == t then count else count_at self.old t) }
         ensures places { HasPlaces self.new }
     {
+        self.fill(task);
         self.counts[task.0 as usize] = count;
     }
 }
