@@ -1,6 +1,6 @@
 -- A turn that has made nothing, and whose task goes on.
 use Rattle.std.proofs.Common.{◌≡◌, ℕ, ◌+◌, List, [], ◌∷◌, ◌++◌, refl, sym, ◌∙◌, ap, subst, Bool, true, false, ℤ}
-use Rattle.std.specs.Prelude.{Option, length, map, nat_lt, if◌then◌else◌}
+use Rattle.std.specs.Prelude.{Option, ◌==◌, length, map, nat_lt, if◌then◌else◌}
 use Rattle.std.proofs.lemmas.Bool.{false≢true}
 use Rattle.std.proofs.lemmas.List.{append-nil, map-append}
 use Rattle.swift_types.specs.declared.id.ActorId.{ActorId}
@@ -11,16 +11,17 @@ use Rattle.swift_types.specs.declared.outcome.Fault.TheVariants.{Depth}
 use Rattle.swift_types.specs.declared.limits.TheConstants.{FRAMES}
 use Rattle.swift_types.specs.declared.priority.Priority.{Priority}
 use Rattle.swift_script.specs.Scripts.{ScriptView, root_count, method_actor}
-use Rattle.swift_interpreter.specs.Frames.{FrameView}
-use Rattle.swift_interpreter.specs.Turn.{InvocationView, ExitView, calling, waiting, asking_next, closing, yielding, returning, failing}
+use Rattle.swift_interpreter.specs.declared.effect.Effect.{Effect}
+use Rattle.swift_interpreter.specs.Frames.{FrameView, effect_views}
+use Rattle.swift_interpreter.specs.Turn.{InvocationView, EffectView, ExitView, calling, waiting, asking_next, closing, yielding, returning, failing}
 use Rattle.swift_job.specs.Job.{JobView}
 use Rattle.swift_turn.specs.declared.step.Step.{Step}
 use Rattle.swift_turn.specs.declared.step.Step.TheVariants.{Run, Ended, Await}
-use Rattle.swift_turn.specs.Body.{BodyView, TaskView, Advanced, HasFrames, IsRunning, AdvancesTo, CanAdvance, advanced, runs, opening}
+use Rattle.swift_turn.specs.Body.{BodyView, TaskView, Advanced, HasFrames, IsRunning, GoesOn, AdvancesTo, CanAdvance, advanced, runs, opening}
 use Rattle.swift_events.specs.declared.event.Event.{Event}
 use Rattle.swift_events.specs.declared.event.Event.TheVariants.{Apply, Give}
 use Rattle.swift_events.specs.Lives.{life_of}
-use Rattle.swift_history.specs.Checks.{counters}
+use Rattle.swift_history.specs.Checks.{counters, fits_turn}
 use Rattle.swift_history.specs.Histories.{begun_priority}
 use Rattle.swift_history.specs.TurnEnds.{JobFacts, WaitingTaskView, TurnEnd, turn_end, resume_at, task}
 use Rattle.swift_tasks.specs.declared.held.WaitingTask.{WaitingTask}
@@ -156,3 +157,37 @@ pub can_follow : (b : BookView) (job : JobView BodyView) (exit : ExitView) → C
 can_follow b job exit can =
     let fits = taken_fits b.script b.log job [] exit can.fits in
     subst (λ (s : ScriptView). CanAdvance s exit) (sym can.same) (advances b.script job.task.0 b.log (counters job.task.0 b.log fits.env.room) [] exit fits.fits)
+
+-- what fits without effects needs no bodies
+plain_leaves : (script : ScriptView) (roots : ℕ) (log : List Event) (held : List (Option WaitingTaskView)) (t : ℕ) (es : List EffectView) (bodies : List (Option BodyView)) (exit : ExitView) (body : BodyView) (step : Step) (actor : ActorId) (next : Resume)
+    → es ≡ [] → step ≡ Run actor next → TurnLeaves script roots log held t es bodies exit body step → TurnLeaves script roots log held t [] [] exit body (Run actor next)
+plain_leaves script roots log held t es bodies exit body step actor next none is leaves = record {
+  turn = record {
+    env = leaves.turn.env;
+    begun = leaves.turn.begun;
+    alive = leaves.turn.alive;
+    fits = subst (λ (vs : List EffectView). fits_turn script t log (counters t log leaves.turn.env.room) vs exit ≡ true) none leaves.turn.fits;
+    started = tt;
+    roots_are = leaves.turn.roots_are;
+  };
+  known = leaves.known;
+  holds = leaves.holds;
+  closed = leaves.closed;
+  fitting = subst (StepFits exit) is leaves.fitting;
+  running = λ goes. leaves.running (subst GoesOn (sym is) goes);
+  same = leaves.same;
+}
+
+-- what holds after a turn that has made nothing, and whose task goes on
+pub goes_kept : (script : ScriptView) (roots : ℕ) (log log' : List Event) (held : List (Option WaitingTaskView)) (t n : ℕ) (es : List EffectView) (bodies : List (Option BodyView)) (exit : ExitView) (body : BodyView) (step : Step) (actor : ActorId) (next : Resume)
+    → es ≡ [] → step ≡ Run actor next → TurnLeaves script roots log held t es bodies exit body step → log' ≡ went_on log (task t) n next → HoldsWaiting roots log' held × UnopenedAreNotClosed log'
+goes_kept script roots log log' held t n es bodies exit body step actor next none is leaves ls =
+    let plain = plain_leaves script roots log held t es bodies exit body step actor next none is leaves in
+    let roots_are = leaves.turn.roots_are in
+    let kept = plain_kept script log held t n exit body actor next (subst (λ (r : ℕ). TurnLeaves script r log held t [] [] exit body (Run actor next)) roots_are plain) in
+    subst (λ (l : List Event). HoldsWaiting roots l held × UnopenedAreNotClosed l) (sym ls) (subst (λ (r : ℕ). HoldsWaiting r (went_on log (task t) n next) held) (sym roots_are) kept.0, kept.1)
+
+-- an empty list has no effects
+pub no_effects : (es : List Effect) (b : Bool) → b ≡ (length es == 0) → b ≡ true → effect_views es ≡ []
+no_effects [] b is yes = refl
+no_effects (e ∷ es) b is yes = absurd (false≢true (sym is ∙ yes))

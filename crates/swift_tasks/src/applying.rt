@@ -1,55 +1,27 @@
 //! What a turn did is taken.
 
-ghost use Rattle.std.specs.Prelude.{◌≡◌, ◌+◌, ◌<◌, ◌^◌, [], ◌∷◌, ◌++◌, None, Some, OnOk, OnErr, IfErr, IsErrAnd, IsOk, IsSome, IsSomeAnd, MatchResult, map, vec_len, vec_capacity};
+ghost use Rattle.std.specs.Prelude.{◌≡◌, [], None, Some, OnOk, OnErr, IfErr, IsErrAnd, IsOk, IsSome, IsSomeAnd, MatchResult, map};
 ghost use Rattle.std.specs.List.{AllByRecursion};
 ghost use Rattle.swift_interpreter.specs.Turn.{InvocationView, calling, yielding};
 ghost use Rattle.swift_interpreter.specs.Frames.{effect_views};
 ghost use Rattle.swift_interpreter.specs.TurnStates.{exit_view};
-ghost use Rattle.swift_turn.specs.Body.{IsRunning, at_rest};
-ghost use Rattle.swift_ledger.specs.Ledgers.{IsMade};
-ghost use Rattle.swift_tasks.specs.ApplyingInside.{CanApply, next_of, went_on};
+ghost use Rattle.swift_turn.specs.Body.{IsRunning};
+ghost use Rattle.swift_tasks.specs.ApplyingInside.{CanApply};
 ghost use Rattle.swift_tasks.specs.Books.{IsJobOf, IsEndOf};
 ghost use Rattle.swift_history.specs.Jobs.{job_facts};
 ghost use Rattle.swift_tasks.specs.Refusals.{IsRefusal, refusal_of_apply};
 
 use crate::bodies::bodies_of;
 use crate::book::Book;
-use crate::exits::resume_at;
 use crate::fault::BookFault;
 use crate::refusals::JobScript;
-use crate::turns::{make_room, take_turn};
+use crate::turns::{go_on, make_room, take_turn};
 use std::alloc::AllocError;
 use std::mem;
 use swift_interpreter::{Effect, Exit};
 use swift_job::Job;
-use swift_ledger::Ledger;
 use swift_turn::{Body, Step};
-use swift_types::{Resume, TaskId};
-
-// A turn without effects was applied, and its task goes on with this: both are written, and its next job is made.
-fn go_on(
-    ledger: &mut Ledger,
-    jobs: &mut Vec<Job<Body>>,
-    task: TaskId,
-    number: u32,
-    next: Resume,
-    mut body: Body,
-)
-    requires mine { IsMade ledger.old.log task }
-    requires small { number + 1 < 2 ^ 32 }
-    requires spare { 1 < ledger.old.spare }
-    requires room { vec_len jobs.old < vec_capacity jobs.old }
-    ensures roots { ledger.new.roots ≡ ledger.old.roots }
-    ensures log { ledger.new.log ≡ went_on ledger.old.log task number next }
-    ensures jobs { jobs.new.items ≡ jobs.old.items ++ next_of task number next (at_rest body) ∷ [] }
-{
-    let later = number + 1;
-    let resume = resume_at(later, next);
-    ledger.note_apply(task, number);
-    ledger.note_give(task, later, resume);
-    body.rest();
-    jobs.push_reserved(Job::new(task, later, resume, body));
-}
+use swift_types::Resume;
 
 // Puts a job back into its place.
 fn put_back(place: &mut Option<Job<Body>>, job: Job<Body>)

@@ -6,13 +6,13 @@ ghost use Rattle.swift_script.specs.Scripts.{ScriptView, root_count};
 ghost use Rattle.swift_interpreter.specs.Turn.{EffectView, ExitView};
 ghost use Rattle.swift_interpreter.specs.Frames.{effect_views};
 ghost use Rattle.swift_interpreter.specs.TurnStates.{exit_view};
-ghost use Rattle.swift_turn.specs.Body.{BodyView, IsRunning, GoesOn};
+ghost use Rattle.swift_turn.specs.Body.{BodyView, IsRunning, GoesOn, at_rest};
 ghost use Rattle.swift_ledger.specs.Ledgers.{IsMade};
 ghost use Rattle.swift_events.specs.Lives.{life_of};
 ghost use Rattle.swift_events.specs.Relations.{waiters_of};
 ghost use Rattle.swift_history.specs.Histories.{begun_priority};
 ghost use Rattle.swift_history.specs.TurnEnds.{log_after, jobs_made, exit_resume, followed, gives};
-ghost use Rattle.swift_tasks.specs.ApplyingInside.{CanTakeAll, CanLeave, AreMade, TurnFits, TurnLeaves, JobFits, BookEnds, done_log, written_log, follows_of, followed_from};
+ghost use Rattle.swift_tasks.specs.ApplyingInside.{CanTakeAll, CanLeave, AreMade, TurnFits, TurnLeaves, JobFits, BookEnds, done_log, written_log, follows_of, followed_from, next_of, went_on};
 ghost use Rattle.swift_tasks.specs.BodiesInside.{AreBodiesOf};
 ghost use Rattle.swift_tasks.specs.BookInvariant.{FitsScript, held_views};
 ghost use Rattle.swift_tasks.specs.Books.{IsJobOf, HoldsWaiting, IsEndOf};
@@ -20,7 +20,7 @@ ghost use Rattle.swift_history.specs.Jobs.{job_facts};
 ghost use Rattle.swift_tasks.specs.CountedInside.{UnopenedAreNotClosed};
 
 use crate::effects::note_effect;
-use crate::exits::note_exit;
+use crate::exits::{note_exit, resume_at};
 use crate::held::WaitingTask;
 use crate::waking::follow;
 use std::alloc::AllocError;
@@ -247,7 +247,32 @@ fn note_turn(
     note_exit(ledger, task, exit, step)
 }
 
-// What the end of a turn leaves, in memory that was made for it.
+// A turn without effects was applied, and its task goes on with this: both are written, and its next job is made.
+pub fn go_on(
+    ledger: &mut Ledger,
+    jobs: &mut Vec<Job<Body>>,
+    task: TaskId,
+    number: u32,
+    next: Resume,
+    mut body: Body,
+)
+    requires mine { IsMade ledger.old.log task }
+    requires small { number + 1 < 2 ^ 32 }
+    requires spare { 1 < ledger.old.spare }
+    requires room { vec_len jobs.old < vec_capacity jobs.old }
+    ensures roots { ledger.new.roots ≡ ledger.old.roots }
+    ensures log { ledger.new.log ≡ went_on ledger.old.log task number next }
+    ensures jobs { jobs.new.items ≡ jobs.old.items ++ next_of task number next (at_rest body) ∷ [] }
+{
+    let later = number + 1;
+    let resume = resume_at(later, next);
+    ledger.note_apply(task, number);
+    ledger.note_give(task, later, resume);
+    body.rest();
+    jobs.push_reserved(Job::new(task, later, resume, body));
+}
+
+// What the end of a turn leaves, in memory that was made for it. Where it had no effects and its task goes on, two events are all.
 fn end_turn(
     ledger: &mut Ledger,
     held: &mut Vec<Option<WaitingTask>>,
@@ -274,6 +299,12 @@ fn end_turn(
         → HoldsWaiting ledger.old.roots ledger.new.log (held_views held.new.items) × UnopenedAreNotClosed ledger.new.log }
     ensures few { vec_len held.new ≤ vec_len held.old + length effects.now }
 {
+    if effects.is_empty() {
+        if let Step::Run(_, next) = step {
+            go_on(ledger, jobs, task, number, next, body);
+            return;
+        }
+    }
     let first = jobs.len();
     let resume = note_turn(ledger, jobs, task, number, effects, bodies, exit, step);
     finish(

@@ -3,7 +3,7 @@ use Rattle.swift_events.specs.declared.event.Event.{Event}
 use Rattle.swift_events.specs.declared.event.Event.TheVariants.{Apply}
 use Rattle.swift_ledger.specs.Ledgers.{LedgerView, IsMade}
 use Rattle.swift_tasks.proofs.Grows.{made-push}
-use Rattle.swift_tasks.proofs.applying.go_on.Goals as goal
+use Rattle.swift_tasks.proofs.turns.go_on.Goals as goal
 
 pub note_give-requires-clause-fits : goal.note_give-requires-clause-fits
 note_give-requires-clause-fits c =

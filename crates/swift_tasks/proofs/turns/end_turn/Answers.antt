@@ -13,6 +13,7 @@ use Rattle.swift_tasks.specs.BookInvariant.{held_views}
 use Rattle.swift_tasks.specs.Books.{HoldsWaiting}
 use Rattle.swift_history.specs.Jobs.{job_facts}
 use Rattle.swift_tasks.specs.CountedInside.{UnopenedAreNotClosed}
+use Rattle.swift_tasks.proofs.GoesOn.{goes_kept, no_effects}
 use Rattle.swift_tasks.proofs.TurnIs.{made_by, follows_turn, few_since, stood_before, turn_is, written_waiters}
 use Rattle.swift_tasks.proofs.TurnEndKept.{end_kept}
 use Rattle.swift_tasks.proofs.turns.end_turn.Goals as goal
@@ -100,3 +101,8 @@ returns-clause-kept c = λ script turn.
           (subst (λ (g : List Event). HoldsWaiting (root_count script) g (held_views c.finish.new.held.items)) (sym ends.log_is) (subst (λ (hs : List (Option WaitingTaskView)). HoldsWaiting (root_count script) l hs) (sym ends.held_is) kept.holds)),
       subst UnopenedAreNotClosed (sym ends.log_is) kept.closed,
     )
+
+pub returns-in-Run-clause-kept : goal.returns-in-Run-clause-kept
+returns-in-Run-clause-kept c = λ script turn.
+    goes_kept script c.args.ledger.now.roots c.args.ledger.now.log c.go_on.new.ledger.log (held_views c.args.held.now.items) c.args.task.0 c.args.number (effect_views c.args.effects.now) c.args.bodies.items (exit_view c.args.exit.now) c.args.body c.args.step c.in-Run.field-0 c.in-Run.next
+    (no_effects c.args.effects.now c.is_empty.result c.is_empty.ensures c.if-is_empty.true) c.in-Run.is turn c.go_on.ensures.log
