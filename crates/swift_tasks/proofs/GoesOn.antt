@@ -189,5 +189,5 @@ goes_kept script roots log log' held t n es bodies exit body step actor next non
 
 -- an empty list has no effects
 pub no_effects : (es : List Effect) (b : Bool) → b ≡ (length es == 0) → b ≡ true → effect_views es ≡ []
-no_effects [] b is yes = refl
-no_effects (e ∷ es) b is yes = absurd (false≢true (sym is ∙ yes))
+no_effects [] b is truth = refl
+no_effects (e ∷ es) b is truth = absurd (false≢true (sym is ∙ truth))
