@@ -1,7 +1,7 @@
 -- A turn that has made nothing, and whose task goes on.
-use Rattle.std.proofs.Common.{◌≡◌, ℕ, ◌+◌, List, [], ◌∷◌, ◌++◌, refl, sym, ◌∙◌, ap, subst, Bool, true, false, ℤ}
+use Rattle.std.proofs.Common.{◌≡◌, ℕ, ◌+◌, List, [], ◌∷◌, ◌++◌, refl, sym, ◌∙◌, ap, subst, arith, Bool, true, false, ℤ}
 use Rattle.std.specs.Prelude.{Option, ◌==◌, length, map, nat_lt, if◌then◌else◌}
-use Rattle.std.proofs.lemmas.Bool.{false≢true}
+use Rattle.std.proofs.lemmas.Bool.{eqb-true, false≢true}
 use Rattle.std.proofs.lemmas.List.{append-nil, map-append}
 use Rattle.swift_types.specs.declared.id.ActorId.{ActorId}
 use Rattle.swift_types.specs.declared.id.TaskId.{TaskId}
@@ -190,4 +190,6 @@ goes_kept script roots log log' held t n es bodies exit body step actor next non
 -- an empty list has no effects
 pub no_effects : (es : List Effect) (b : Bool) → b ≡ (length es == 0) → b ≡ true → effect_views es ≡ []
 no_effects [] b is truth = refl
-no_effects (e ∷ es) b is truth = absurd (false≢true (sym is ∙ truth))
+no_effects (e ∷ es) b is truth =
+    let none = eqb-true (length (e ∷ es)) 0 (sym is ∙ truth) in
+    absurd (omega (arith, none))
