@@ -14,7 +14,8 @@ this relation, which docs/SWIFT_IN.md has in words:
   roots in order, and waits for each;
 - a number as a test is compared with 0; `return 0` may stand behind a method that returned nothing at its end;
 - what is awaited may be put into a variable of its own first, and so may arguments; a child calls a method of `Task`, which makes the call;
-- `await next g` stands below a test that a child is left.
+- `await next g` stands below a test that a child is left;
+- a call with `else` may be a task of its own.
 
 Where `explore` comes to its end within N states (2,000) on both sides, the values of the actors' fields at the end have to be the same: without
 groups all of them; with groups, each of the script's has to be among those that are read back, as a task ends after it has left its actor.
@@ -42,6 +43,8 @@ TOP = os.path.dirname(os.path.dirname(os.path.abspath(__file__)))
 TESTS = frozenset(["!", "&&", "||", "==", "!=", "<", "<=", ">", ">=", "cancelled"])
 # A variable that the reader of Swift, or the printer, made.
 MADE = re.compile(r"m\d+_|g_\d+")
+# The task of a call whose error is caught.
+CAUGHT = re.compile(r"caught\d+_")
 SECONDS = 120
 
 
@@ -118,6 +121,7 @@ class Cleaner:
         out: list[Statement] = []
         made = dict(made)
         counts: set[str] = set()
+        caught: dict[str, Optional[Call]] = {}
         for statement in block:
             found = counted_next(statement)
             if found:
@@ -126,6 +130,12 @@ class Cleaner:
                 out.pop()
                 out.append(replaced(found, new=True))
                 continue
+            if statement.kind == "make" and CAUGHT.fullmatch(statement.name):
+                want(statement.way == "spawn" and statement.rank is None, "another caught call")
+                caught[statement.name] = statement.call
+                continue
+            if statement.kind == "await" and statement.on in caught:
+                statement = replaced(statement, way="call", on="", call=caught.pop(statement.on))
             if statement.kind == "let" and MADE.fullmatch(statement.name):
                 if statement.value == ("number", 0):
                     counts.add(statement.name)

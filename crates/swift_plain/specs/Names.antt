@@ -1,8 +1,8 @@
 -- How names of a script are spelled in a plain Swift file. (Own.)
-use Rattle.std.specs.Prelude.{◌==◌, ◌&&◌, ◌||◌, ◌+◌, ℕ, Bool, true, false, not, List, [], ◌∷◌, ◌++◌, codes, nat_le, bytes_eq}
+use Rattle.std.specs.Prelude.{◌==◌, ◌&&◌, ◌||◌, ◌+◌, ◌-◌, ℕ, Bool, true, false, not, List, [], ◌∷◌, ◌++◌, codes, nat_le, bytes_eq}
 use Rattle.std.specs.List.{list_any}
 use Rattle.script_grammar.specs.Tree.{DeclTree, Executes, Binds, Acts, Roots, FieldTree}
-use Rattle.swift_plain.specs.declared.names.TheConstants.{WORDS}
+use Rattle.swift_plain.specs.declared.names.TheConstants.{TYPES, WORDS}
 
 -- whether a byte is a capital letter
 abbrev pub is_upper : ℕ → Bool
@@ -20,6 +20,10 @@ pick false a b = b
 -- a letter as a small one, and another byte as it is
 abbrev pub lower : ℕ → ℕ
 lower b = pick (is_upper b) (b + 32) b
+
+-- a letter as a capital one, and another byte as it is
+abbrev pub upper : ℕ → ℕ
+upper b = pick (is_lower b) (b - 32) b
 
 -- a name whose first letter is small
 abbrev pub small : List ℕ → List ℕ
@@ -61,6 +65,26 @@ abbrev pub spelled : Bool → List ℕ → List ℕ → List ℕ
 spelled true prefix w = w
 spelled false prefix w = prefix ++ w
 
+-- whether Swift, or the file, means a type by a name
+abbrev pub is_type_word : List ℕ → Bool
+is_type_word w = list_any (λ x. bytes_eq x.now w) TYPES
+
+-- whether a name begins with `T_`
+abbrev pub is_made_type : List ℕ → Bool
+is_made_type [] = false
+is_made_type (a ∷ []) = false
+is_made_type (a ∷ b ∷ bs) = (b == 95) && (a == 84)
+
+-- the type of an actor: its name with a capital first letter, or the same after `T_` where it has no such letter, or a type is meant by it
+abbrev pub type_name : List ℕ → List ℕ
+type_name [] = []
+type_name (b ∷ bs) = spelled (is_upper (upper b) && (not (is_made_type (upper b ∷ bs)) && not (is_type_word (upper b ∷ bs)))) (codes "T_") (upper b ∷ bs)
+
+-- the instance of an actor: its name with a small first letter, or the same after `i_` where it is made, or a word
+abbrev pub instance_name : List ℕ → List ℕ
+instance_name [] = []
+instance_name (b ∷ bs) = spelled (not (is_made (lower b ∷ bs)) && not (is_word (lower b ∷ bs))) (codes "i_") (lower b ∷ bs)
+
 -- a field, a parameter, a variable, a task, a group or a root: its name, or the same after `v_` where it is not plain, or an instance's
 abbrev pub value_name : List DeclTree → List ℕ → List ℕ
 value_name ds w = spelled (is_plain w && not (is_instance ds w)) (codes "v_") w
@@ -69,14 +93,6 @@ value_name ds w = spelled (is_plain w && not (is_instance ds w)) (codes "v_") w
 abbrev pub is_field : List FieldTree → List ℕ → Bool
 is_field fs w = list_any (λ f. bytes_eq f.name w) fs
 
--- whether a name begins with `get_`, as the methods do by which a file that is read back gives its fields
-abbrev pub is_getter : List ℕ → Bool
-is_getter [] = false
-is_getter (a ∷ []) = false
-is_getter (a ∷ b ∷ []) = false
-is_getter (a ∷ b ∷ c ∷ []) = false
-is_getter (a ∷ b ∷ c ∷ d ∷ bs) = (a == 103) && ((b == 101) && ((c == 116) && (d == 95)))
-
--- a method: its name, or the same after `m_` where it is not plain, or an instance's or a field's, or begins with `get_`
+-- a method: its name, or the same after `m_` where it is not plain, or an instance's or a field's
 abbrev pub method_name : List DeclTree → List FieldTree → List ℕ → List ℕ
-method_name ds fs w = spelled ((is_plain w && not (is_getter w)) && (not (is_instance ds w) && not (is_field fs w))) (codes "m_") w
+method_name ds fs w = spelled (is_plain w && (not (is_instance ds w) && not (is_field fs w))) (codes "m_") w

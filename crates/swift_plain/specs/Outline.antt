@@ -8,7 +8,7 @@ use Rattle.swift_plain.specs.declared.program.PlainMethod.{PlainMethod}
 use Rattle.swift_plain.specs.declared.program.PlainActor.{PlainActor}
 use Rattle.swift_plain.specs.declared.program.PlainProgram.{PlainProgram}
 use Rattle.swift_plain.specs.Expressions.{as_test, expr_bytes}
-use Rattle.swift_plain.specs.Names.{value_name, method_name}
+use Rattle.swift_plain.specs.Names.{instance_name, method_name, type_name, value_name}
 
 -- A field has a name, and the digits of its start value.
 pub record FieldOutline : Type 0 where
@@ -20,8 +20,10 @@ pub record MethodOutline : Type 0 where
   pub name : List ℕ
   pub params : List (List ℕ)
 
--- An actor has fields, perhaps an invariant, and methods.
+-- An actor has a type, an instance, fields, perhaps an invariant, and methods.
 pub record ActorOutline : Type 0 where
+  pub name : List ℕ
+  pub instance : List ℕ
   pub fields : List FieldOutline
   pub invariant : Option (List ℕ)
   pub methods : List MethodOutline
@@ -41,7 +43,7 @@ method_in m = record { name = m.name.items; params = map (λ p. p.items) m.param
 
 -- an actor of a file
 abbrev pub actor_in : PlainActor → ActorOutline
-actor_in a = record { fields = map field_in a.fields.items; invariant = mapped (λ t. t.items) a.invariant; methods = map method_in a.methods.items }
+actor_in a = record { name = a.name.items; instance = a.instance.items; fields = map field_in a.fields.items; invariant = mapped (λ t. t.items) a.invariant; methods = map method_in a.methods.items }
 
 -- the actors of a file
 abbrev pub outline : PlainProgram → List ActorOutline
@@ -61,7 +63,7 @@ test_for ds e = expr_bytes (value_name ds) (as_test e) 5
 
 -- the actor that there has to be for one of the script
 abbrev pub actor_for : List DeclTree → ActorTree → ActorOutline
-actor_for ds a = record { fields = map (field_for ds) a.fields; invariant = mapped (test_for ds) a.invariant; methods = map (method_for ds a) a.methods }
+actor_for ds a = record { name = type_name a.name; instance = instance_name a.name; fields = map (field_for ds) a.fields; invariant = mapped (test_for ds) a.invariant; methods = map (method_for ds a) a.methods }
 
 -- those that there have to be for a declaration
 abbrev pub actors_for : List DeclTree → DeclTree → List ActorOutline

@@ -25,13 +25,17 @@ fn value_name(alloc: Global, decls: &[Decl], name: &Name) -> Result<Vec<u8>, All
     page.into_text()
 }
 
-fn type_name(alloc: Global, name: &Name) -> Result<Vec<u8>, AllocError> {
+fn type_name(alloc: Global, name: &Name) -> Result<Vec<u8>, AllocError>
+    ensures { IfOk result (λ said. said.items ≡ names.type_name (text_of name.now)) }
+{
     let mut page = Page::new(alloc, 0);
     say_type(&mut page, name);
     page.into_text()
 }
 
-fn instance_name(alloc: Global, name: &Name) -> Result<Vec<u8>, AllocError> {
+fn instance_name(alloc: Global, name: &Name) -> Result<Vec<u8>, AllocError>
+    ensures { IfOk result (λ said. said.items ≡ names.instance_name (text_of name.now)) }
+{
     let mut page = Page::new(alloc, 0);
     say_instance(&mut page, name);
     page.into_text()
@@ -187,11 +191,7 @@ fn add_field(
     Ok(())
 }
 
-fn fields(
-    alloc: Global,
-    decls: &[Decl],
-    found: &[Field],
-) -> Result<Vec<PlainField>, AllocError>
+fn fields(alloc: Global, decls: &[Decl], found: &[Field]) -> Result<Vec<PlainField>, AllocError>
     ensures { IfOk result (λ said. map field_in said.items ≡ map (field_for (map view_decl decls.now)) (map view_field found.now)) }
 {
     let mut fields = Vec::new(alloc);

@@ -1,6 +1,6 @@
 //! How names of a script are spelled in a plain Swift file.
 
-ghost use Rattle.std.specs.Prelude.{◌≡◌, bytes_eq, map};
+ghost use Rattle.std.specs.Prelude.{◌≡◌, ◌∷◌, bytes_eq, map};
 ghost use Rattle.std.specs.List.{list_any};
 ghost use Rattle.script_grammar.specs.Tree.{text_of, view_decl, view_field};
 ghost use Rattle.swift_plain.specs.LinesInside.{GoesOn};
@@ -145,7 +145,9 @@ fn is_plain(name: &[u8]) -> bool
 }
 
 // A letter as a capital one.
-fn upper(letter: u8) -> u8 {
+fn upper(letter: u8) -> u8
+    ensures { result ≡ names.upper letter }
+{
     if is_lower(letter) {
         letter - 32
     } else {
@@ -214,54 +216,92 @@ fn any_instance(decls: &[Decl], name: &Name) -> bool
 }
 
 // Whether a name, with this first letter in place of its own, is one of these words.
-fn is_word_with(words: &[&[u8]], first: u8, rest: &[u8]) -> bool {
+fn is_word_with(words: &[&[u8]], first: u8, rest: &[u8]) -> bool
+    ensures { result ≡ list_any (λ word. bytes_eq word.now (first ∷ rest.now)) words.now }
+{
     words.iter().any(|word| is_text(first, rest, word))
 }
 
-fn is_text(first: u8, rest: &[u8], word: &[u8]) -> bool {
+fn is_text(first: u8, rest: &[u8], word: &[u8]) -> bool
+    ensures { result ≡ bytes_eq word.now (first ∷ rest.now) }
+{
     match word {
         [] => false,
         [letter, others @ ..] => *letter == first && others == rest,
     }
 }
 
-// Whether a name begins with this letter and an underscore.
-fn is_prefix(letter: u8, first: u8, rest: &[u8]) -> bool {
+fn is_type_word(first: u8, rest: &[u8]) -> bool
+    ensures { result ≡ names.is_type_word (first ∷ rest.now) }
+{
+    is_word_with(&TYPES, first, rest)
+}
+
+fn is_value_word(first: u8, rest: &[u8]) -> bool
+    ensures { result ≡ names.is_word (first ∷ rest.now) }
+{
+    is_word_with(&WORDS, first, rest)
+}
+
+// Whether a name begins with `T_`.
+fn is_made_type(first: u8, rest: &[u8]) -> bool
+    ensures { result ≡ names.is_made_type (first ∷ rest.now) }
+{
     match rest {
-        [b'_', ..] => first == letter,
-        _ => false,
+        [] => false,
+        [next, ..] => *next == 95 && first == 84,
     }
+}
+
+// Whether a name begins as those do that a file makes.
+fn is_made_with(first: u8, rest: &[u8]) -> bool
+    ensures { result ≡ names.is_made (first ∷ rest.now) }
+{
+    match rest {
+        [] => false,
+        [next, ..] => {
+            *next == 95 && (first == 103 || (first == 105 || (first == 109 || first == 118)))
+        }
+    }
+}
+
+// A name of this first letter and these others, or the same after a prefix.
+fn say_with(page: &mut Page, is_plain: bool, prefix: &[u8], first: u8, rest: &[u8])
+    ensures { GoesOn page.old page.new (names.spelled is_plain prefix.now (first ∷ rest.now)) }
+{
+    if !is_plain {
+        page.say_bytes(prefix);
+    }
+    page.say_bytes(&[first]);
+    page.say_bytes(rest)
 }
 
 /// An actor's type: its name with a capital first letter, after `T_` where Swift means something by that.
-pub(crate) fn say_type(page: &mut Page, name: &Name) {
-    if let [letter, rest @ ..] = name.text.as_slice() {
-        let first = upper(*letter);
-        if !is_upper(first) || (is_prefix(b'T', first, rest) || is_word_with(&TYPES, first, rest)) {
-            page.say("T_");
+pub(crate) fn say_type(page: &mut Page, name: &Name)
+    ensures { GoesOn page.old page.new (names.type_name (text_of name.now)) }
+{
+    match name.text.as_slice() {
+        [] => page.say(""),
+        [letter, rest @ ..] => {
+            let first = upper(*letter);
+            let is_kept = is_upper(first)
+                && (!is_made_type(first, rest) && !is_type_word(first, rest));
+            say_with(page, is_kept, b"T_", first, rest)
         }
-        page.say_bytes(&[first]);
-        page.say_bytes(rest)
     }
 }
 
-// Whether Swift means something by the name of an instance, or a file makes such names.
-fn is_taken(first: u8, rest: &[u8]) -> bool {
-    is_word_with(&WORDS, first, rest)
-        || (is_prefix(b'g', first, rest)
-            || (is_prefix(b'i', first, rest)
-                || (is_prefix(b'm', first, rest) || is_prefix(b'v', first, rest))))
-}
-
 /// An actor's instance: its name with a small first letter, after `i_` where Swift means something by that.
-pub(crate) fn say_instance(page: &mut Page, name: &Name) {
-    if let [letter, rest @ ..] = name.text.as_slice() {
-        let first = lower(*letter);
-        if is_taken(first, rest) {
-            page.say("i_");
+pub(crate) fn say_instance(page: &mut Page, name: &Name)
+    ensures { GoesOn page.old page.new (names.instance_name (text_of name.now)) }
+{
+    match name.text.as_slice() {
+        [] => page.say(""),
+        [letter, rest @ ..] => {
+            let first = lower(*letter);
+            let is_kept = !is_made_with(first, rest) && !is_value_word(first, rest);
+            say_with(page, is_kept, b"i_", first, rest)
         }
-        page.say_bytes(&[first]);
-        page.say_bytes(rest)
     }
 }
 
@@ -295,24 +335,11 @@ fn is_field(fields: &[Field], name: &Name) -> bool
     any_field(fields, name)
 }
 
-// Whether a name begins with `get_`.
-fn is_getter(name: &[u8]) -> bool
-    ensures { result ≡ names.is_getter name.now }
-{
-    match name {
-        [] | [_] | [_, _] | [_, _, _] => false,
-        [first, second, third, fourth, ..] => {
-            *first == 103 && (*second == 101 && (*third == 116 && *fourth == 95))
-        }
-    }
-}
-
-/// A method of an actor: its name, after `m_` where that is a field or an instance, begins with `get_`, or Swift means something by it.
+/// A method of an actor: its name, after `m_` where that is a field or an instance, or Swift means something by it.
 pub(crate) fn say_method(page: &mut Page, decls: &[Decl], fields: &[Field], name: &Name)
     ensures { GoesOn page.old page.new (names.method_name (map view_decl decls.now) (map view_field fields.now) (text_of name.now)) }
 {
-    let is_kept = (is_plain(&name.text) && !is_getter(&name.text))
-        && (!is_instance(decls, name) && !is_field(fields, name));
+    let is_kept = is_plain(&name.text) && (!is_instance(decls, name) && !is_field(fields, name));
     say_spelled(page, is_kept, b"m_", &name.text)
 }
 

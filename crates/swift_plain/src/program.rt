@@ -1,5 +1,12 @@
 //! Plain Swift files, as lists of actors, methods and tasks.
 
+ghost use Rattle.std.specs.Prelude.{◌≡◌, codes, map, IfOk};
+ghost use Rattle.std.specs.List.{flat_map};
+ghost use Rattle.swift_plain.specs.LinesInside.{GoesOn};
+ghost use Rattle.swift_plain.specs.Outline.{mapped};
+ghost use Rattle.swift_plain.specs.Programs.{actor_text, field_text, head_text, instance_text, invariant_text, members_text, method_text, param_text, params_text, program_text, three};
+
+use crate::page::Page;
 use std::alloc::{AllocError, Global};
 
 /// A method of an actor (our own).
@@ -99,101 +106,137 @@ impl Drop for PlainProgram {
     }
 }
 
-// Puts a text after what is written.
-fn add(out: &mut Vec<u8>, text: &[u8]) -> Result<(), AllocError> {
-    out.extend_from_slice(text)
+// Three texts.
+fn put(page: &mut Page, first: &str, second: &[u8], third: &str)
+    ensures { GoesOn page.old page.new (three first.now second.now third.now) }
+{
+    page.say(first);
+    page.say_bytes(second);
+    page.say(third)
 }
 
-// Puts three texts after what is written.
-fn put(out: &mut Vec<u8>, first: &[u8], second: &[u8], third: &[u8]) -> Result<(), AllocError> {
-    out.extend_from_slice(first)?;
-    out.extend_from_slice(second)?;
-    out.extend_from_slice(third)
+fn spell_param(page: &mut Page, between: &str, param: &Vec<u8>)
+    ensures { GoesOn page.old page.new (param_text between.now param.now.items) }
+{
+    page.say(between);
+    put(page, "_ ", param, ": Int")
 }
 
-fn spell_param(out: &mut Vec<u8>, param: &Vec<u8>) -> Result<(), AllocError> {
-    put(out, b"_ ", param, b": Int")
-}
-
-fn spell_next_param(out: &mut Vec<u8>, param: &Vec<u8>) -> Result<(), AllocError> {
-    put(out, b", _ ", param, b": Int")
-}
-
-fn spell_next_params(out: &mut Vec<u8>, params: &[Vec<u8>]) -> Result<(), AllocError> {
+fn spell_next_params(page: &mut Page, params: &[Vec<u8>])
+    ensures { GoesOn page.old page.new (flat_map (param_text (codes ", ")) (map (λ p. p.items) params.now)) }
+{
     for param in params {
-        spell_next_param(out, param)?;
+        spell_param(page, ", ", param);
     }
-    Ok(())
 }
 
-fn spell_params(out: &mut Vec<u8>, params: &[Vec<u8>]) -> Result<(), AllocError> {
+fn spell_params(page: &mut Page, params: &[Vec<u8>])
+    ensures { GoesOn page.old page.new (params_text (map (λ p. p.items) params.now)) }
+{
     match params {
-        [] => Ok(()),
+        [] => page.say(""),
         [first, rest @ ..] => {
-            spell_param(out, first)?;
-            spell_next_params(out, rest)
+            spell_param(page, "", first);
+            spell_next_params(page, rest)
         }
     }
 }
 
-fn spell_method(out: &mut Vec<u8>, method: &PlainMethod) -> Result<(), AllocError> {
-    put(out, b"\n    func ", &method.name, b"(")?;
-    spell_params(out, &method.params)?;
-    put(out, b")", &method.words, b" {\n")?;
-    put(out, b"", &method.body, b"    }\n")
+// What stands before the body of a method.
+fn spell_head(page: &mut Page, method: &PlainMethod)
+    ensures { GoesOn page.old page.new (head_text method.now) }
+{
+    put(page, "\n    func ", &method.name, "(");
+    spell_params(page, &method.params);
+    put(page, ")", &method.words, " {\n")
 }
 
-fn spell_methods(out: &mut Vec<u8>, methods: &[PlainMethod]) -> Result<(), AllocError> {
+fn spell_method(page: &mut Page, method: &PlainMethod)
+    ensures { GoesOn page.old page.new (method_text method.now) }
+{
+    spell_head(page, method);
+    put(page, "", &method.body, "    }\n")
+}
+
+fn spell_methods(page: &mut Page, methods: &[PlainMethod])
+    ensures { GoesOn page.old page.new (flat_map method_text methods.now) }
+{
     for method in methods {
-        spell_method(out, method)?;
+        spell_method(page, method);
     }
-    Ok(())
 }
 
-fn spell_field(out: &mut Vec<u8>, field: &PlainField) -> Result<(), AllocError> {
-    put(out, b"    private(set) var ", &field.name, b" = ")?;
-    put(out, b"", &field.start, b"\n")
+fn spell_field(page: &mut Page, field: &PlainField)
+    ensures { GoesOn page.old page.new (field_text field.now) }
+{
+    put(page, "    private(set) var ", &field.name, " = ");
+    put(page, "", &field.start, "\n")
 }
 
-fn spell_fields(out: &mut Vec<u8>, fields: &[PlainField]) -> Result<(), AllocError> {
+fn spell_fields(page: &mut Page, fields: &[PlainField])
+    ensures { GoesOn page.old page.new (flat_map field_text fields.now) }
+{
     for field in fields {
-        spell_field(out, field)?;
+        spell_field(page, field);
     }
-    Ok(())
 }
 
-fn spell_invariant(out: &mut Vec<u8>, invariant: &Option<Vec<u8>>) -> Result<(), AllocError> {
+fn spell_invariant(page: &mut Page, invariant: &Option<Vec<u8>>)
+    ensures { GoesOn page.old page.new (invariant_text (mapped (λ t. t.items) invariant.now)) }
+{
     match invariant {
-        Some(test) => put(out, b"    // invariant: ", test, b"\n"),
-        None => Ok(()),
+        Some(test) => put(page, "    // invariant: ", test, "\n"),
+        None => page.say(""),
     }
 }
 
-fn spell_actor(out: &mut Vec<u8>, actor: &PlainActor) -> Result<(), AllocError> {
-    put(out, b"actor ", &actor.name, b" {\n")?;
-    spell_fields(out, &actor.fields)?;
-    spell_invariant(out, &actor.invariant)?;
-    spell_methods(out, &actor.methods)?;
-    add(out, b"}\n\n")
+// What an actor has in its braces.
+fn spell_members(page: &mut Page, actor: &PlainActor)
+    ensures { GoesOn page.old page.new (members_text actor.now) }
+{
+    spell_fields(page, &actor.fields);
+    spell_invariant(page, &actor.invariant);
+    spell_methods(page, &actor.methods)
 }
 
-fn spell_actors(out: &mut Vec<u8>, actors: &[PlainActor]) -> Result<(), AllocError> {
+fn spell_actor(page: &mut Page, actor: &PlainActor)
+    ensures { GoesOn page.old page.new (actor_text actor.now) }
+{
+    put(page, "actor ", &actor.name, " {\n");
+    spell_members(page, actor);
+    page.say("}\n\n")
+}
+
+fn spell_actors(page: &mut Page, actors: &[PlainActor])
+    ensures { GoesOn page.old page.new (flat_map actor_text actors.now) }
+{
     for actor in actors {
-        spell_actor(out, actor)?;
+        spell_actor(page, actor);
     }
-    Ok(())
 }
 
-fn spell_instance(out: &mut Vec<u8>, actor: &PlainActor) -> Result<(), AllocError> {
-    put(out, b"let ", &actor.instance, b" = ")?;
-    put(out, b"", &actor.name, b"()\n")
+fn spell_instance(page: &mut Page, actor: &PlainActor)
+    ensures { GoesOn page.old page.new (instance_text actor.now) }
+{
+    put(page, "let ", &actor.instance, " = ");
+    put(page, "", &actor.name, "()\n")
 }
 
-fn spell_instances(out: &mut Vec<u8>, actors: &[PlainActor]) -> Result<(), AllocError> {
+fn spell_instances(page: &mut Page, actors: &[PlainActor])
+    ensures { GoesOn page.old page.new (flat_map instance_text actors.now) }
+{
     for actor in actors {
-        spell_instance(out, actor)?;
+        spell_instance(page, actor);
     }
-    Ok(())
+}
+
+fn spell_program(page: &mut Page, program: &PlainProgram)
+    ensures { GoesOn page.old page.new (program_text program.now) }
+{
+    spell_actors(page, &program.actors);
+    page.say_bytes(&program.failures);
+    spell_instances(page, &program.actors);
+    page.say_bytes(&program.main)
 }
 
 /// The text of a file, in time and memory linear in it (the form is our own).
@@ -201,11 +244,10 @@ fn spell_instances(out: &mut Vec<u8>, actors: &[PlainActor]) -> Result<(), Alloc
 /// # Errors
 ///
 /// `AllocError` where there is no memory for the text.
-pub fn spell(alloc: Global, program: &PlainProgram) -> Result<Vec<u8>, AllocError> {
-    let mut out = Vec::new(alloc);
-    spell_actors(&mut out, &program.actors)?;
-    add(&mut out, &program.failures)?;
-    spell_instances(&mut out, &program.actors)?;
-    add(&mut out, &program.main)?;
-    Ok(out)
+pub fn spell(alloc: Global, program: &PlainProgram) -> Result<Vec<u8>, AllocError>
+    ensures { IfOk result (λ text. text.items ≡ program_text program.now) }
+{
+    let mut page = Page::new(alloc, 0);
+    spell_program(&mut page, program);
+    page.into_text()
 }

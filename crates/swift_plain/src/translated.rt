@@ -1,14 +1,17 @@
 //! From the text of a script.
 
-ghost use Rattle.std.specs.Prelude.{IfOk};
-ghost use Rattle.swift_plain.specs.Accepted.{IsScriptText};
+ghost use Rattle.std.specs.Prelude.{IfOk, map};
+ghost use Rattle.script_grammar.specs.Tree.{view_decl};
+ghost use Rattle.script_parser.specs.declared.limits.TheConstants.{NESTING};
+ghost use Rattle.swift_script.specs.Accepted.{SpellsDecls};
+ghost use Rattle.swift_plain.specs.Translations.{IsPlainOf};
 
 use crate::form::Form;
 use crate::program::spell;
 use crate::search::{FoundForm, first_form};
 use crate::whole::plain_program;
 use script_grammar::Decl;
-use script_parser::parse;
+use script_parser::{ReadError, parse};
 use script_tokens::{Keyword, Token, Tokens, line_of, tokens};
 use std::alloc::{AllocError, Global};
 use swift_script::{ScriptFault, read};
@@ -59,23 +62,31 @@ fn atom_place(text: &[u8], found: &Tokens, before: usize) -> usize {
     text.len()
 }
 
-fn declarations(alloc: Global, found: &Tokens) -> Result<Vec<Decl>, AllocError> {
+// The declarations of a text that is a script.
+fn declarations(alloc: Global, text: &[u8]) -> Result<Vec<Decl>, AllocError>
+    ensures { IfOk result (λ decls. SpellsDecls NESTING text.now (map view_decl decls.items)) }
+{
+    let found = tokens(alloc, text)?;
     match parse(alloc, &found.tokens) {
         Ok(decls) => Ok(decls),
-        Err(_) => Err(AllocError),
+        Err(ReadError::Memory | ReadError::Fault(_)) => Err(AllocError),
     }
 }
 
-// The plain Swift of a text that is a script.
-fn plain_of(alloc: Global, text: &[u8]) -> Result<Vec<u8>, PlainError> {
+// The line of a form.
+fn line_of_form(alloc: Global, text: &[u8], before: usize) -> Result<u32, AllocError> {
     let found = tokens(alloc, text)?;
-    let decls = declarations(alloc, &found)?;
-    match first_form(alloc, &decls)? {
-        Some(FoundForm { form, before }) => Err(PlainError::Form(line_of(text, atom_place(text, &found, before)), form)),
-        None => {
-            let program = plain_program(alloc, &decls)?;
-            Ok(spell(alloc, &program)?)
+    Ok(line_of(text, atom_place(text, &found, before)))
+}
+
+// The form of a script that has no plain Swift, if there is one, as an error.
+fn want_plain(alloc: Global, text: &[u8], decls: &[Decl]) -> Result<(), PlainError> {
+    match first_form(alloc, decls)? {
+        Some(FoundForm { form, before }) => {
+            let line = line_of_form(alloc, text, before)?;
+            Err(PlainError::Form(line, form))
         }
+        None => Ok(()),
     }
 }
 
@@ -85,10 +96,14 @@ fn plain_of(alloc: Global, text: &[u8]) -> Result<Vec<u8>, PlainError> {
 ///
 /// Why there is none: the text is no script, a form has no plain Swift, or there is no memory.
 pub fn plain_swift(alloc: Global, text: &[u8]) -> Result<Vec<u8>, PlainError>
-    // Only a text that is a script has one.
-    ensures accepted { IfOk result (λ said. IsScriptText text.now) }
+    // It is the text of a file that has the actors of the script.
+    ensures translated { IfOk result (λ said. IsPlainOf text.now said.items) }
 {
     let script = read(alloc, text)?;
     drop(script);
-    plain_of(alloc, text)
+    let decls = declarations(alloc, text)?;
+    want_plain(alloc, text, &decls)?;
+    let program = plain_program(alloc, &decls)?;
+    let said = spell(alloc, &program)?;
+    Ok(said)
 }

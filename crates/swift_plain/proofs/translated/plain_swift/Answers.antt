@@ -1,6 +1,15 @@
-use Rattle.swift_plain.specs.Accepted.{IsScriptText}
-use Rattle.swift_plain.proofs.Lists.{whichever}
+use Rattle.std.proofs.Common.{map}
+use Rattle.script_grammar.specs.Tree.{view_decl}
+use Rattle.swift_plain.specs.Translations.{IsPlainOf}
 use Rattle.swift_plain.proofs.translated.plain_swift.Goals as goal
 
-pub returns-clause-accepted : goal.returns-clause-accepted
-returns-clause-accepted c = whichever c.plain_of.result (record { script = c.in_ok-script.script; accepted = c.in_ok-script.ensures.found })
+pub returns-clause-translated : goal.returns-clause-translated
+returns-clause-translated c = record {
+  script = c.in_ok-script.script;
+  accepted = c.in_ok-script.ensures.found;
+  decls = map view_decl c.in_ok-decls.decls.items;
+  spelled = c.in_ok-decls.ensures;
+  program = c.in_ok-program.program;
+  actors = rw c.deref-2.ensures.value at c.in_ok-program.ensures;
+  is = c.in_ok-said.ensures;
+}
