@@ -7,12 +7,18 @@ mod actor;
 mod file;
 // Methods that are put in where they are called.
 mod frame;
+// What holds of the definitions.
+mod laws;
 // The line of a text on which a place lies.
 mod line;
 // The names of a script.
 mod naming;
+// From which lines of a file the methods of its script are.
+mod places;
 // The text of a refusal.
 mod refused;
+// How names of a script are spelled.
+mod spelling;
 // Instructions as statements.
 mod step;
 // Values as expressions.
@@ -25,4 +31,6 @@ mod writer;
 mod writing;
 
 pub use file::{Translation, translate};
+pub use laws::names_are_told_apart;
+pub use places::method_places;
 pub use refused::refusal_text;

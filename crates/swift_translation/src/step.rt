@@ -2,7 +2,8 @@
 
 use crate::frame::{Frame, ResultPlace, put_in, skip_to};
 use crate::naming::{
-    PRECONDITION, write_instance, write_made, write_name, write_printed, write_unit, write_variable,
+    PRECONDITION, write_caught, write_field_name, write_instance, write_made, write_name,
+    write_printed, write_unit, write_variable,
 };
 use crate::value::{write_operands, write_value};
 use crate::writing::Writing;
@@ -51,7 +52,7 @@ fn write_set(writing: &mut Writing<'_>, word: &str, variable: usize, value: usiz
 fn write_field_set(writing: &mut Writing<'_>, field: usize, value: usize, serial: usize) {
     writing.line();
     if let Some(declared) = writing.tree.fields.get(field).copied() {
-        write_name(writing, declared.name);
+        write_field_name(writing, declared.name);
     }
     writing.say(" = ");
     write_value(writing, value, serial);
@@ -156,17 +157,44 @@ fn write_arguments(writing: &mut Writing<'_>, first: usize, serial: usize) {
     writing.say(")");
 }
 
-fn wait(writing: &mut Writing<'_>, target: Target, what: Wait, otherwise: usize, serial: usize) {
+// Whether what is waited for is a call, which the waiting task does itself.
+fn is_call(what: Wait) -> bool {
+    match what {
+        Wait::Method(..) | Wait::Getter(..) | Wait::Own(..) | Wait::Unit(..) => true,
+        Wait::Task(_) | Wait::Next(_) => false,
+    }
+}
+
+fn wait(writing: &mut Writing<'_>, frame: Frame, target: Target, what: Wait, otherwise: usize) {
+    let is_apart = otherwise != NONE && (is_call(what) && !writing.may_ask_cancelled);
+    if is_apart {
+        make_caught(writing, frame, what);
+    }
     match target {
         Target::Nothing => writing.line(),
-        Target::Declare(variable) => begin_set(writing, "let ", variable, serial),
+        Target::Declare(variable) => begin_set(writing, "let ", variable, frame.serial),
     }
-    writing.say("await ");
-    write_wait(writing, what, serial);
+    if is_apart {
+        writing.say("await task ");
+        write_caught(writing, frame.at, frame.serial);
+    } else {
+        writing.say("await ");
+        write_wait(writing, what, frame.serial);
+    }
     if otherwise != NONE {
         writing.say(" else ");
-        write_value(writing, otherwise, serial);
+        write_value(writing, otherwise, frame.serial);
     }
+    writing.say(";");
+}
+
+// A call whose error is caught as a task: nothing in Swift catches what ends the process, and that a task was ended by it is seen.
+fn make_caught(writing: &mut Writing<'_>, frame: Frame, what: Wait) {
+    writing.line();
+    writing.say("let ");
+    write_caught(writing, frame.at, frame.serial);
+    writing.say(" = spawn ");
+    write_wait(writing, what, frame.serial);
     writing.say(";");
 }
 
@@ -379,7 +407,7 @@ pub(crate) fn step(writing: &mut Writing<'_>, frame: Frame, instruction: Instruc
         | Instruction::Print(..)
         | Instruction::Require(..) => step_set(writing, serial, instruction),
         Instruction::Wait(target, what, otherwise) => {
-            wait(writing, target, what, otherwise, serial);
+            wait(writing, frame, target, what, otherwise);
         }
         Instruction::Inline(target, method, first, token) => {
             put_in(writing, frame, target, method, first, token);
