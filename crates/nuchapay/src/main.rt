@@ -15,6 +15,8 @@ mod explore_swift;
 mod input;
 // What the program writes, and how it ends.
 mod output;
+// From which lines of a Swift file turns are.
+mod places;
 // What is said of runs by a schedule.
 mod schedule_answers;
 // Runs by a schedule.
@@ -36,6 +38,7 @@ use crate::explore::{explored, rerun_text};
 use crate::explore_swift::explored_swift;
 use crate::input::{is_swift, name_of, say_no_script, script};
 use crate::output::{tell, write_out, write_said};
+use crate::places::ScriptFile;
 use crate::schedule_answers::{say_broken, say_saved, say_scheduled};
 use crate::scheduled::broken_line;
 use crate::search_answers::{say_explored, say_rerun};
@@ -44,7 +47,8 @@ use crate::turn_answers::say_turn;
 use crate::values::{explained_turn, report_of};
 use explorer_page::SearchHeading;
 use nuchapay_tool::{
-    Checked, Question, Request, Topic, check, check_json, explain, page_of, pretty, print, request,
+    Checked, Question, Request, SearchFormat, Topic, check, check_json, explain, page_of, pretty,
+    print, request,
 };
 use std::alloc::{AllocError, AllocGlobal};
 use std::env;
@@ -115,7 +119,8 @@ where
         }
         Question::Values(workers) => tell(host, write_said(host, report_of(rt, text, workers))),
         Question::Why(word, workers) => {
-            say_turn(host, word, explained_turn(rt, text, word, workers))
+            let file = ScriptFile { name, text };
+            say_turn(host, file, word, explained_turn(rt, text, word, workers))
         }
         Question::Check(colour) => say_check(host, name, text, colour),
         Question::CheckJson => say_checked(host, check_json(host.alloc(), name, text)),
@@ -159,7 +164,9 @@ where
                     keeps,
                 )
             };
-            say_explored(host, save, found)
+            let file = ScriptFile { name, text };
+            let is_text = matches!(format, SearchFormat::Text);
+            say_explored(host, save, found, is_text.then_some(file))
         }
         Question::ExploreBroken(limit) => say_broken(host, limit, broken_line(host, text, limit)),
         Question::Rerun { limit, outcome } => {

@@ -1,6 +1,7 @@
 //! What is said of runs by a schedule.
 
 use crate::output::{tell, write_out};
+use crate::places::{ScriptFile, method_in, say_places};
 use crate::scheduled::{
     BrokenLine, ChosenRun, NoRun, SavedRun, ScheduledRun, chosen_run, saved_run,
 };
@@ -131,7 +132,13 @@ fn say_form(rt: &HostRuntime, heading: Heading<'_>, run: &ScheduledRun, form: Ru
         RunForm::Report(quiet) => tell(rt, write_run(rt, run, run.text(alloc, quiet))),
         RunForm::Json(quiet) => tell(rt, write_run(rt, run, run.json(alloc, quiet))),
         RunForm::Values => tell(rt, write_run(rt, run, run.values(alloc))),
-        RunForm::Why(word) => say_why(rt, run, word),
+        RunForm::Why(word) => {
+            let file = ScriptFile {
+                name: heading.name,
+                text: heading.source,
+            };
+            say_why(rt, file, run, word)
+        }
         RunForm::Line => tell(rt, write_line(rt, run)),
         RunForm::Picture(format) => {
             let shown = show_report(
@@ -148,10 +155,20 @@ fn say_form(rt: &HostRuntime, heading: Heading<'_>, run: &ScheduledRun, form: Ru
 }
 
 // Says what is known of a turn of a run, after the line of its schedule. The status to end with.
-fn say_why(rt: &HostRuntime, run: &ScheduledRun, word: Option<TurnWord<'_>>) -> u8 {
+fn say_why(
+    rt: &HostRuntime,
+    file: ScriptFile<'_>,
+    run: &ScheduledRun,
+    word: Option<TurnWord<'_>>,
+) -> u8 {
     match run.why(rt.alloc(), word) {
-        Ok(AskedTurn::Turn(_name, Explained::Found(said))) => tell(rt, write_after(rt, run, &said)),
-        Ok(AskedTurn::Turn(name, found)) => say_explained(rt, name, found),
+        Ok(AskedTurn::Turn(_name, Explained::Found(said))) => {
+            match tell(rt, write_after(rt, run, &said)) {
+                0 => say_places(rt, file, "file", method_in(&said)),
+                status => status,
+            }
+        }
+        Ok(AskedTurn::Turn(name, found)) => say_explained(rt, file, name, found),
         Ok(AskedTurn::NoTask) => say_no_task(rt, word),
         Err(fault) => tell(rt, Err(ToolFault::from(fault))),
     }
