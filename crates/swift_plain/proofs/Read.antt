@@ -17,7 +17,9 @@ at_level zero d = d
 at_level (suc k) d = alone (at_level k d)
 
 lift : {o j : ℕ} {ts : List TokenView} {t : ExprTree} (n : ℕ) → SpellsExpr Every o j ts t → SpellsExpr Every o (n + j) ts t
-lift zero d = d
+lift {o} {j} {ts} {t} zero d =
+    let e : j ≡ zero + j = omega arith in
+    subst (λ m. SpellsExpr Every o m ts t) e d
 lift {o} {j} {ts} {t} (suc n) d =
     let e : suc (n + j) ≡ suc n + j = omega arith in
     subst (λ m. SpellsExpr Every o m ts t) e (alone (lift n d))

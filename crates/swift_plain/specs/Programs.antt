@@ -30,12 +30,12 @@ method_text m = head_text m ++ (m.body.items ++ codes "    }\n")
 
 -- a field, which other actors read and do not set
 abbrev pub field_text : PlainField → List ℕ
-field_text f = three (codes "    private(set) var ") f.name.items (codes " = ") ++ (f.start.items ++ codes "\n")
+field_text f = codes "    private" ++ (three (codes "(set) var ") f.name.items (codes " = ") ++ (f.start.items ++ codes "\n"))
 
 -- what has to hold of an actor, if there is something
 abbrev pub invariant_text : Option (List ℕ) → List ℕ
 invariant_text None = []
-invariant_text (Some t) = three (codes "    // invariant: ") t (codes "\n")
+invariant_text (Some t) = codes "    // " ++ three (codes "invariant: ") t (codes "\n")
 
 -- what stands in the braces of an actor
 abbrev pub members_text : PlainActor → List ℕ

@@ -145,7 +145,8 @@ fn nonzero_at(page: &mut Page, decls: &[Decl], expr: &Expr, most: u8)
     let is_inner = most < 3;
     open(page, is_inner);
     number_at(page, decls, expr, 2);
-    page.say(" != 0");
+    page.say(sign(Operator::Unequal));
+    page.say_number(0);
     close(page, is_inner)
 }
 

@@ -169,7 +169,8 @@ fn spell_methods(page: &mut Page, methods: &[PlainMethod])
 fn spell_field(page: &mut Page, field: &PlainField)
     ensures { GoesOn page.old page.new (field_text field.now) }
 {
-    put(page, "    private(set) var ", &field.name, " = ");
+    page.say("    private");
+    put(page, "(set) var ", &field.name, " = ");
     put(page, "", &field.start, "\n")
 }
 
@@ -185,7 +186,10 @@ fn spell_invariant(page: &mut Page, invariant: &Option<Vec<u8>>)
     ensures { GoesOn page.old page.new (invariant_text (mapped (λ t. t.items) invariant.now)) }
 {
     match invariant {
-        Some(test) => put(page, "    // invariant: ", test, "\n"),
+        Some(test) => {
+            page.say("    // ");
+            put(page, "invariant: ", test, "\n")
+        }
         None => page.say(""),
     }
 }

@@ -1,7 +1,7 @@
 //! The tasks and groups that have names at a place.
 
 use crate::names::is_same;
-use script_grammar::Name;
+use script_grammar::{Name, Stmt};
 use std::alloc::{AllocError, Global};
 
 #[derive(Clone, Copy)]
@@ -12,12 +12,14 @@ struct NameInScope<'a> {
 
 /// The names of the tasks and groups that stand at a place.
 pub(crate) struct NamesInScope<'a> {
+    /// The statement that is looked at, and those after it in its block.
+    pub rest: &'a [Stmt],
     names: Vec<NameInScope<'a>>,
 }
 
 impl Drop for NamesInScope<'_> {
     fn drop(self) {
-        let NamesInScope { names } = self;
+        let NamesInScope { rest: _, names } = self;
         drop(names);
     }
 }
@@ -26,6 +28,7 @@ impl<'a> NamesInScope<'a> {
     /// None.
     pub(crate) fn new(alloc: Global) -> NamesInScope<'a> {
         NamesInScope {
+            rest: &[],
             names: Vec::new(alloc),
         }
     }

@@ -174,12 +174,11 @@ impl Search {
         self.pass()
     }
 
-    // A statement without a block, and those from it on in its block.
+    // A statement without a block.
     fn action<'a>(
         &mut self,
         place: Place<'a>,
         names: &mut NamesInScope<'a>,
-        rest: &[Stmt],
         action: &'a Action,
     ) -> Result<(), AllocError> {
         match action {
@@ -193,7 +192,7 @@ impl Search {
                 self.value(place, names, value)
             }
             Action::LetTask(name, make) => {
-                self.want(has(rest, Sought::Wait(name)), Form::NotAwaited);
+                self.want(has(names.rest, Sought::Wait(name)), Form::NotAwaited);
                 self.pass();
                 self.make(make);
                 names.add_task(name)?
@@ -238,11 +237,10 @@ impl Search {
         &mut self,
         place: Place<'a>,
         names: &mut NamesInScope<'a>,
-        rest: &'a [Stmt],
         stmt: &'a Stmt,
     ) -> Result<(), AllocError> {
         match stmt {
-            Stmt::Do(action) => self.action(place, names, rest, action),
+            Stmt::Do(action) => self.action(place, names, action),
             Stmt::Block(head, block) => {
                 let count = names.count();
                 self.head(names, head, block)?;
@@ -270,7 +268,8 @@ impl Search {
         stmts: &'a [Stmt],
     ) -> Result<(), AllocError> {
         for (index, stmt) in stmts.iter().enumerate() {
-            self.stmt(place, names, &stmts[index..], stmt)?
+            names.rest = &stmts[index..];
+            self.stmt(place, names, stmt)?
         }
         Ok(())
     }

@@ -177,31 +177,43 @@ fn say_stmt<'a>(page: &mut Page, scope: &mut Scope<'a>, stmt: &'a Stmt) {
         }
         Stmt::IfElse(test, held, failed) => {
             page.begin();
-            say_choice(page, scope, test, held, failed)
+            say_test_behind(page, scope, "if ", test);
+            say_inner(page, scope, held);
+            say_else(page, scope, failed)
         }
     }
 }
 
+// Whether a statement is a choice.
+fn is_choice(stmt: &Stmt) -> bool {
+    matches!(stmt, Stmt::IfElse(..) | Stmt::Block(Head::If(_), _))
+}
+
 // A choice, whose line has begun.
 #[cycle(statement)]
-fn say_choice<'a>(
-    page: &mut Page,
-    scope: &mut Scope<'a>,
-    test: &'a Expr,
-    held: &'a [Stmt],
-    failed: &'a [Stmt],
-) {
-    say_test_behind(page, scope, "if ", test);
-    say_inner(page, scope, held);
-    page.leave();
-    page.say(" else ");
-    match failed {
-        [Stmt::IfElse(test, held, failed)] => say_choice(page, scope, test, held, failed),
-        [Stmt::Block(Head::If(test), block)] => {
+fn say_choice<'a>(page: &mut Page, scope: &mut Scope<'a>, stmt: &'a Stmt) {
+    match stmt {
+        Stmt::Block(Head::If(test), block) => {
             say_test_behind(page, scope, "if ", test);
             say_inner(page, scope, block);
             page.close()
         }
+        Stmt::IfElse(test, held, failed) => {
+            say_test_behind(page, scope, "if ", test);
+            say_inner(page, scope, held);
+            say_else(page, scope, failed)
+        }
+        _ => {}
+    }
+}
+
+// What is done where a test fails: a choice alone goes on on its line.
+#[cycle(statement)]
+fn say_else<'a>(page: &mut Page, scope: &mut Scope<'a>, failed: &'a [Stmt]) {
+    page.leave();
+    page.say(" else ");
+    match failed {
+        [stmt] if is_choice(stmt) => say_choice(page, scope, stmt),
         _ => {
             page.open("{");
             say_inner(page, scope, failed);

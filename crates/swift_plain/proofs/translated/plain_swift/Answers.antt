@@ -3,8 +3,8 @@ use Rattle.script_grammar.specs.Tree.{view_decl}
 use Rattle.swift_plain.specs.Translations.{IsPlainOf}
 use Rattle.swift_plain.proofs.translated.plain_swift.Goals as goal
 
-pub returns-clause-translated : goal.returns-clause-translated
-returns-clause-translated c = record {
+pub returns : goal.returns
+returns c = record {
   script = c.in_ok-script.script;
   accepted = c.in_ok-script.ensures.found;
   decls = map view_decl c.in_ok-decls.decls.items;
