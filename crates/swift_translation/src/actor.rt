@@ -231,7 +231,7 @@ fn write_invariants(writing: &mut Writing<'_>, actor: usize, has_precondition: b
 // The method that reads a field.
 fn write_read(writing: &mut Writing<'_>, field: FieldDecl) {
     writing.say("\n    func ");
-    write_name(writing, field.name);
+    write_field_name(writing, field.name);
     writing.say("() { return ");
     write_field_name(writing, field.name);
     writing.say("; }");

@@ -122,7 +122,7 @@ fn write_wait(writing: &mut Writing<'_>, what: Wait, serial: usize) {
                 if instance == writing.instance && !is_closure(writing) {
                     writing.refuse(Rule::NotYet, declared.name);
                 }
-                write_name(writing, declared.name);
+                write_field_name(writing, declared.name);
             }
             writing.say("()");
         }
