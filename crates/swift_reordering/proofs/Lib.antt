@@ -28,3 +28,4 @@ pub mod SilentWalk
 pub mod SilentEnds
 pub mod RunAhead
 pub mod AheadWalk
+pub mod Naming

@@ -6,6 +6,7 @@ ghost use Rattle.swift_reordering.specs.FusedSteps.{ClosedHasEachExit, ClosedHas
 ghost use Rattle.swift_reordering.specs.RunAhead.{ClosedAheadHasEachExit, ClosedAheadHasEachOutcome};
 ghost use Rattle.swift_reordering.specs.SilentSearch.{ClosedSilentlyHasEachExit, ClosedSilentlyHasEachOutcome};
 ghost use Rattle.swift_reordering.specs.SilentTurns.{SilentTurnsCommute, SilentTurnsMayGoFirst};
+ghost use Rattle.swift_reordering.specs.Unnamed.{TurnsNameNone};
 ghost use Rattle.swift_reordering.specs.Waiting.{BeginsMayWait};
 
 /// A report in order has another with the same endings, fields and turns, in which each turn that looks away begins right before it runs,
@@ -65,4 +66,10 @@ pub fn histories_closed_ahead_have_each_outcome()
 /// Each turn of such a report ends as a turn does that was tried (our own).
 pub fn histories_closed_ahead_have_each_exit()
     ensures { ClosedAheadHasEachExit }
+{}
+
+/// A turn of a method that waits for no task, cancels none and adds none to a group has no such effect, and does not end by such a wait
+/// (our own).
+pub fn turns_name_none()
+    ensures { TurnsNameNone }
 {}
