@@ -174,7 +174,7 @@ class Completions(unittest.TestCase):
             for command in (program.itself, *program.commands):
                 line = program.name + (f" {command.name}" if command in program.commands else "")
                 self.assertEqual(sorted(complete(f"{line} --")), sorted("--" + option.name for option in options_of(command)), line)
-        self.assertEqual(complete("nuchapay show --format "), ["svg", "trace"])
+        self.assertEqual(complete("nuchapay show --format "), ["html", "svg", "trace"])
         self.assertEqual(complete("nuchapay explain over"), ["overflow"])
         self.assertIn("account.actors", complete("nuchapay run acc"))
 

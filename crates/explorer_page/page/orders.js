@@ -5,6 +5,8 @@ const [LINES, FRONT] = [300, 6];
 
 const cell = (step, more = "") => made("span", { class: `step c${step.task % 12} ${more}` }, step.word);
 const isUndone = (outcome, step) => step.ends && outcome.undone.includes(step.name);
+// Whether an outcome is not as it should be.
+const isBad = (one) => one.undone.length > 0 || one.inSwift !== "outcome" || one.verdicts.some((verdict) => verdict !== "holds");
 
 // The front that the schedules of all outcomes have in common.
 const front = outcomes.reduce((least, { steps }) => Math.min(least, common(outcomes[0].steps, steps)), outcomes.length > 0 ? outcomes[0].steps.length : 0);
@@ -30,7 +32,7 @@ function cellsOf(outcome, chosen) {
 
 function showLines(chosen) {
     const lines = outcomes.slice(0, LINES).map((outcome) => made("div", { class: `line${outcome === chosen ? " chosen" : ""}`, press: () => choose(outcome.place) },
-        made("span", { class: "name" }, `outcome ${outcome.number}`), made("span", {}, ...cellsOf(outcome, chosen))));
+        made("span", { class: `name${isBad(outcome) ? " bad" : ""}` }, `outcome ${outcome.number}`), made("span", {}, ...cellsOf(outcome, chosen))));
     if (outcomes.length > LINES) lines.push(made("div", { class: "line" }, `and ${outcomes.length - LINES} more`));
     at("lines").replaceChildren(...lines);
 }

@@ -16,7 +16,7 @@ function show() {
     at("commands").textContent = words.join("\n");
 }
 
-// Chooses an outcome. It is compared with the one that was compared before, or else with the one whose order is the same for longest.
+// Chooses an outcome. It is compared with the one that was compared before, or else with the nearest.
 function choose(number) {
     if (!outcomes[number]) return;
     chosen = outcomes[number];
@@ -25,8 +25,12 @@ function choose(number) {
     if (at("table").tBodies[0].rows[number].scrollIntoView) at("table").tBodies[0].rows[number].scrollIntoView({ block: "nearest" });
 }
 
+// The outcome that parts last from this one; beside one that is bad, of those that are good, and beside a good one of the bad ones, if there are any.
 function nearest(to) {
-    return outcomes.filter((one) => one !== to).reduce((best, one) => (best && common(best.steps, to.steps) >= common(one.steps, to.steps) ? best : one), null);
+    const others = outcomes.filter((one) => one !== to);
+    const unlike = others.filter((one) => isBad(one) !== isBad(to));
+    const nearer = (best, one) => (best && common(best.steps, to.steps) >= common(one.steps, to.steps) ? best : one);
+    return (unlike.length > 0 ? unlike : others).reduce(nearer, null);
 }
 
 function compare(step) {

@@ -2,7 +2,7 @@
 
 // How a turn began and ended, in words.
 function resumeWords(resume, turn) {
-    if (resume === "start") return turn.endsWith(".0") ? "begins" : "begins its next method";
+    if (resume === "start") return turn.endsWith(".0") ? "begins" : "begins this method";
     return resume === "go" ? "goes on" : `goes on with ${resume}`;
 }
 
@@ -16,7 +16,14 @@ function exitWords(exit) {
     return EXITS[word] + (exit === word ? "" : `, with ${exit.slice(word.length + 1)}`);
 }
 
-const arrow = (text) => text.replace(/ -> /, " \u2192 ").replace(/\( /g, "(").replace(/ \)/g, ")");
+const LEFT = "would have left ";
+const arrow = (text) => text.replace(/ -> /g, " \u2192 ").replace(/\( /g, "(").replace(/ \)/g, ")");
+
+// What a turn that was undone would have left, and why it was.
+function lossText(losses) {
+    const left = losses.filter((loss) => loss.startsWith(LEFT)).map((loss) => loss.slice(LEFT.length)).join(", ");
+    return [...(left ? [LEFT + left] : []), ...losses.filter((loss) => !loss.startsWith(LEFT))].map(arrow).join("; ");
+}
 
 // What a step of a schedule did.
 function told(outcome, step) {
@@ -28,7 +35,7 @@ function told(outcome, step) {
     const cancelled = turn.cancelled ? ", cancelled" : "";
     parts.push(made("span", { class: "said" }, made("span", { class: "faint" }, `in ${turn.method}${cancelled}: `), `${resumeWords(turn.resume, step.name)}, ${exitWords(turn.exit)}`));
     parts.push(...turn.changes.map((change) => made("span", { class: "change" }, arrow(change))));
-    if (turn.losses.length > 0) parts.push(made("span", { class: "loss" }, isSwift ? "ends the process: " : "undone: ", turn.losses.map(arrow).join("; ")));
+    if (turn.losses.length > 0) parts.push(made("span", { class: "loss" }, isSwift ? "ends the process: " : "undone: ", lossText(turn.losses)));
     return parts;
 }
 

@@ -18,14 +18,16 @@ use Rattle.nuchapay.specs.declared.scheduled.BrokenLine.TheVariants as line
 use Rattle.nuchapay.specs.declared.scheduled.ChosenRun.{ChosenRun}
 use Rattle.nuchapay.specs.declared.scheduled.ChosenRun.TheVariants as chosen
 use Rattle.nuchapay.specs.declared.scheduled.NoRun.{NoRun}
-use Rattle.nuchapay.specs.declared.scheduled.NoRun.TheVariants.{NoOutcome, NoneBroken, Word, OtherText, Step, Unfinished}
+use Rattle.nuchapay.specs.declared.scheduled.NoRun.TheVariants.{NoOutcome, NoneBroken, NotUndone, Word, OtherText, Step, Unfinished}
 use Rattle.nuchapay.specs.declared.scheduled.ScheduledRun.{ScheduledRun}
 use Rattle.nuchapay.specs.Schedules.{AreSpelled}
+use Rattle.nuchapay.specs.LastTurns.{IsUndoneLast}
 use Rattle.explorer_answers.specs.Found.{IsFound}
 use Rattle.std.specs.declared.vec.Vec.{Vec}
 use Rattle.std.specs.declared.alloc.Global.{Global}
 use Rattle.explorer_files.specs.Saved.{IsSavedAs}
 use Rattle.explorer_files.specs.declared.saved.SavedChoice.{SavedChoice}
+use Rattle.explorer_files.specs.declared.saved.SavedChoice.TheVariants as meant
 use Rattle.explorer_files.specs.declared.saved.SavedSchedule.TheVariants.{Steps}
 use Rattle.nuchapay.specs.declared.scheduled.SavedRun.{SavedRun}
 use Rattle.nuchapay.specs.declared.scheduled.SavedRun.TheVariants as kept
@@ -76,6 +78,7 @@ IsMissing script many (choice.Broken limit) = ⊥
 abbrev pub IsNoRun : ScriptView → NoRun → ScheduleChoice → Type 0
 IsNoRun script (NoOutcome many) choice = IsMissing script many choice
 IsNoRun script (NoneBroken all) choice = IsTrue all → NeverBreaks script
+IsNoRun script NotUndone choice = Unit {0}
 IsNoRun script (Word number fault) choice = Unit {0}
 IsNoRun script OtherText choice = Unit {0}
 IsNoRun script (Step number fault) choice = Unit {0}
@@ -122,11 +125,18 @@ abbrev pub IsBrokenLine : List ℕ → BrokenLine → Type 0
 IsBrokenLine bytes (line.Line text) = IsLineOfBroken bytes text.items
 IsBrokenLine bytes (line.None all) = NeverBreaksIf bytes all
 
--- What comes of the schedule that a file has: a run whose first steps are its steps, or why there is none.
+-- of a run by a schedule that is to lead to a turn that an invariant undoes, its last turn is one
+abbrev pub IsAsMeant : SavedChoice → ScriptView → List Move → ChosenRun → Type 0
+IsAsMeant (meant.Outcome number) script steps found = Unit {0}
+IsAsMeant meant.Broken script steps (chosen.Run run) = IsUndoneLast script steps run.report
+IsAsMeant meant.Broken script steps (chosen.None why) = Unit {0}
+
+-- What comes of the schedule that a file has: a run whose first steps are its steps, and of the kind that is meant, or why there is none.
 pub record IsFollowed (bytes file : List ℕ) (choice : SavedChoice) (script : ScriptView) (found : ChosenRun) : Type 0 where
   pub steps : Vec Move Global
   pub saved : IsSavedAs file bytes choice (Steps steps)
   pub run : IsCompleted script steps.items found
+  pub meant : IsAsMeant choice script steps.items found
 
 -- what comes of the schedule that is meant, or what the file has in its place
 abbrev pub IsSavedOrNone : List ℕ → List ℕ → SavedChoice → ScriptView → SavedRun → Type 0

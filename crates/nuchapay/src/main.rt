@@ -29,6 +29,8 @@ mod show;
 mod told;
 // What is said of a turn.
 mod turn_answers;
+// The turn that a schedule ends with.
+mod undone;
 // Runs whose turns are explained.
 mod values;
 

@@ -10,14 +10,16 @@ ghost use Rattle.nuchapay_runs.specs.Noted.{noted_text};
 ghost use Rattle.nuchapay_runs.specs.Notes.{IsAnnotated};
 ghost use Rattle.nuchapay_tool.specs.declared.turn_names.TurnWord.{TurnWord};
 ghost use Rattle.nuchapay.specs.Runs.{IsAsked};
-ghost use Rattle.nuchapay.specs.Scheduled.{IsBrokenLine, IsChosen, IsCompleted, IsRunOrNone, IsSavedRun, IsScheduledReport};
+ghost use Rattle.swift_script.specs.Scripts.{ScriptView};
+ghost use Rattle.nuchapay.specs.Scheduled.{IsAsMeant, IsBrokenLine, IsChosen, IsCompleted, IsRunOrNone, IsSavedRun, IsScheduledReport};
 
 use crate::explore::{place_of, search_all};
-use crate::schedules::{ReadSchedule, WordFault, begun, read_schedule};
+use crate::schedules::{ReadSchedule, WordFault, read_schedule};
+use crate::undone::{is_undone_last, last_turn};
 use crate::values::{AskedTurn, all_ended_well, asked_turn};
 use explorer_files::{SavedChoice, SavedSchedule, saved_schedule};
 use nuchapay_runs::report_with_values;
-use nuchapay_tool::{ScheduleChoice, TurnName, TurnWord};
+use nuchapay_tool::{ScheduleChoice, TurnWord};
 use std::alloc::{AllocError, Global};
 use std::sync::Arc;
 use swift_certificate::legal;
@@ -48,6 +50,8 @@ pub enum NoRun {
     NoOutcome(usize),
     /// No turn was found that is undone by an invariant; and whether the search came to its end, so that there is none.
     NoneBroken(bool),
+    /// The last turn of a schedule of a file is not undone by an invariant.
+    NotUndone,
     /// The word with this number, from 1, can't stand in a schedule where it stands.
     Word(usize, WordFault),
     /// It is not written as a schedule is printed.
@@ -228,8 +232,32 @@ pub fn chosen_run(
     }
 }
 
+// The run by a schedule of a file, where it is what is meant: of one to a turn that is undone, its last turn is asked again.
+fn as_meant(
+    alloc: Global,
+    choice: SavedChoice,
+    steps: &[Move],
+    found: ChosenRun,
+) -> Result<ChosenRun, AllocError>
+    ensures { (script : ScriptView) → IsCompleted script steps.now found → IfOk result (λ run. IsCompleted script steps.now run × IsAsMeant choice script steps.now run) }
+{
+    match choice {
+        SavedChoice::Outcome(_) => Ok(found),
+        SavedChoice::Broken => match found {
+            ChosenRun::Run(run) => {
+                if is_undone_last(alloc, &run.script, steps, &run.report)? {
+                    return Ok(ChosenRun::Run(run));
+                }
+                Ok(ChosenRun::None(NoRun::NotUndone))
+            }
+            ChosenRun::None(why) => Ok(ChosenRun::None(why)),
+        },
+    }
+}
+
 /// The run of a script by the schedule that is meant of a file, which a search was kept in. The file's steps are followed as those of a
-/// schedule that was given, and the report is followed by `legal`: of the file nothing else is believed.
+/// schedule that was given, the report is followed by `legal`, and the last turn of one to a turn that is undone is asked again: of the file
+/// nothing else is believed.
 pub fn saved_run(
     alloc: Global,
     text: &[u8],
@@ -242,23 +270,11 @@ pub fn saved_run(
     match saved_schedule(alloc, file, text, choice)? {
         SavedSchedule::Steps(schedule) => {
             let run = completed_run(alloc, script, &schedule)?;
-            Ok(SavedRun::Followed(run))
+            let meant = as_meant(alloc, choice, &schedule, run)?;
+            Ok(SavedRun::Followed(meant))
         }
         found => Ok(SavedRun::NotThere(found)),
     }
-}
-
-// The turn that the last of these steps begins or ends.
-fn last_turn(steps: &[Move]) -> Option<TurnName> {
-    let task = match steps.last()? {
-        Move::Begin(task) | Move::Run(task) => *task,
-        Move::Add => return None,
-    };
-    let turns = begun(steps, task);
-    Some(TurnName {
-        task: task.0,
-        number: turns.saturating_sub(1),
-    })
 }
 
 impl ScheduledRun {

@@ -3,6 +3,7 @@
 ghost use Rattle.std.specs.Prelude.{◌≡◌, IfOk};
 ghost use Rattle.nuchapay.specs.Schedules.{IsReadAs, line_of};
 
+use crate::undone::begun;
 use nuchapay_tool::{TurnName, turn_name};
 use std::alloc::{AllocError, Global};
 use swift_explorer::{Move, schedule_text};
@@ -14,7 +15,7 @@ pub enum WordFault {
     /// It names no turn.
     NoTurn,
     /// The next turn of its task has another number: this one.
-    OtherNumber(TurnName, u32),
+    OtherNumber(TurnName, usize),
     /// It ends a turn, and none of its task has begun.
     NotBegun(TurnName),
 }
@@ -55,19 +56,6 @@ fn step_word(word: &str) -> Option<StepWord> {
     })
 }
 
-/// How many turns of a task these steps begin.
-pub fn begun(path: &[Move], task: TaskId) -> u32 {
-    let mut turns: u32 = 0;
-    for step in path {
-        if let Move::Begin(begun) = step {
-            if begun.0 == task.0 {
-                turns = turns.saturating_add(1);
-            }
-        }
-    }
-    turns
-}
-
 /// Whether some turn of these does not end right after it begins.
 pub fn has_parted_turn(path: &[Move]) -> bool {
     let mut begun: Option<TaskId> = None;
@@ -86,7 +74,7 @@ pub fn has_parted_turn(path: &[Move]) -> bool {
 fn number_fault(path: &[Move], word: StepWord) -> Option<WordFault> {
     let turns = begun(path, TaskId(word.turn.task));
     if word.begins {
-        return if turns == word.turn.number {
+        return if turns == word.turn.number as usize {
             None
         } else {
             Some(WordFault::OtherNumber(word.turn, turns))
@@ -94,7 +82,7 @@ fn number_fault(path: &[Move], word: StepWord) -> Option<WordFault> {
     }
     match turns.checked_sub(1) {
         None => Some(WordFault::NotBegun(word.turn)),
-        Some(last) if last == word.turn.number => None,
+        Some(last) if last == word.turn.number as usize => None,
         Some(last) => Some(WordFault::OtherNumber(word.turn, last)),
     }
 }

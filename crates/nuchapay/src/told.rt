@@ -71,6 +71,10 @@ pub fn no_run_text(
             alloc,
             "no turn was found that is undone by an invariant, and the search did not come to its end: --limit N keeps more states",
         ),
+        NoRun::NotUndone => String::from_str(
+            alloc,
+            "the last turn of the file's schedule is not undone by an invariant",
+        ),
         NoRun::Word(number, fault) => {
             let cause = word_cause(alloc, fault)?;
             let word = word_at(words, number);

@@ -170,9 +170,13 @@ own_place ns = place_among (executor_actors ns.script ns.executor) ns.actor
 abbrev pub legend_text : List ℕ
 legend_text = codes "    place, task.turn, worker, method, priority, cancelled, what it began with -> how it ended\n"
 
--- the line of the report, what stands in it, the method, and where in it the turn began
+-- whose turn it is: the task's number and its name
+abbrev pub task_text : ScriptView → List (Origin × Ending) → ℕ → List ℕ
+task_text p es t = codes "task\n    t" ++ decimal t ++ name_note p es t ++ codes "\n"
+
+-- the line of the report, what stands in it, the task, the method, and where in it the turn began
 abbrev pub head_text : KnownTurn → List ℕ
-head_text k = turn_text k.names.script k.position (line_of k.turn) ++ legend_text ++ codes "method\n    " ++ k.method ++ ends_text k.names k.instructions k.turn
+head_text k = turn_text k.names.script k.position (line_of k.turn) ++ legend_text ++ task_text k.names.script k.endings k.turn.task ++ codes "method\n    " ++ k.method ++ ends_text k.names k.instructions k.turn
 
 -- who changed fields of its actor since the last turn of its task
 abbrev pub meantime_text : KnownTurn → List ℕ

@@ -15,14 +15,14 @@ ghost use Rattle.nuchapay_runs.specs.KnownInside.{TellsAt, known_of};
 ghost use Rattle.nuchapay_runs.specs.LinesInside.{line_in};
 ghost use Rattle.nuchapay_runs.specs.SaysInside.{Says};
 ghost use Rattle.nuchapay_runs.specs.NamedInside.{names_view};
-ghost use Rattle.nuchapay_runs.specs.Why.{head_text, meantime_text, own_place, place_among, why_text};
+ghost use Rattle.nuchapay_runs.specs.Why.{head_text, meantime_text, own_place, place_among, task_text, why_text};
 
 use crate::formula::NamesAt;
 use crate::line::write_turn;
 use crate::names::{Found, find_turn};
 use crate::printed::{method_text, method_word, variables_of};
 use crate::text::Text;
-use crate::why::{write_ends, write_fields, write_found, write_meanwhile};
+use crate::why::{write_ends, write_fields, write_found, write_meanwhile, write_name_note};
 use crate::words::Words;
 use run_pictures::picture::{TurnBox, box_at};
 use run_pictures::{TurnValues, fields_before, last_turn, turn_values};
@@ -46,10 +46,10 @@ pub enum Explained {
 }
 
 /// Explains a turn of a report on a script, by its task and its number there (the format is our own): the line of the report for it; its
-/// method, and at which statement it began and its frame goes on; what it began with, its
-/// variables and the bindings that stood; the fields of its actor, and others that it changed; of a turn that was undone, what it would
-/// have left and which invariant is false there; and for each field of its actor that turns of other tasks changed since its task's last
-/// turn on that executor, a line for each of these turns.
+/// task by its name; its method, and at which statement it began and its frame goes on; what it began with, its variables and the bindings
+/// that stood; the fields of its actor, and others that it changed; of a turn that was undone, what it would have left and which invariant
+/// is false there; and for each field of its actor that turns of other tasks changed since its task's last turn on that executor, a line
+/// for each of these turns.
 ///
 /// It costs a look over the script's text, and playing the turns of the executor's journal at most twice.
 ///
@@ -246,7 +246,17 @@ fn why_text(
     out.into_bytes()
 }
 
-// The line of the report, the method, and where in it the turn began and its frame goes on.
+// Whose turn it is.
+fn write_task(out: &mut Text, script: &Script, endings: &[(Origin, Ending)], task: TaskId)
+    ensures { Says out.old out.new (task_text script.now endings.now task.0) }
+{
+    out.say(b"task\n    t");
+    out.number(task.0);
+    write_name_note(out, script, endings, task);
+    out.say(b"\n")
+}
+
+// The line of the report, the task, the method, and where in it the turn began and its frame goes on.
 fn write_head(out: &mut Text, turn: &ExplainedTurn<'_>)
     requires line { line_in turn.now.line ≡ line_of (owned_view turn.now.found.now) }
     ensures { Says out.old out.new (head_text (known_of turn.now)) }
@@ -255,6 +265,7 @@ fn write_head(out: &mut Text, turn: &ExplainedTurn<'_>)
     out.say(
         b"    place, task.turn, worker, method, priority, cancelled, what it began with -> how it ended\n",
     );
+    write_task(out, turn.names.script, turn.endings, turn.found.task);
     out.say(b"method\n    ");
     out.say(turn.method);
     write_ends(out, &turn.names, turn.instructions, turn.found)

@@ -302,8 +302,13 @@ struct TurnBetween<'a> {
     number: u32,
 }
 
-// The name of a task, after its number.
-fn write_name_note(out: &mut Text, script: &Script, endings: &[(Origin, Ending)], task: TaskId)
+/// Goes on with the name of a task, after its number.
+pub(crate) fn write_name_note(
+    out: &mut Text,
+    script: &Script,
+    endings: &[(Origin, Ending)],
+    task: TaskId,
+)
     ensures { Says out.old out.new (name_note script.now endings.now task.0) }
 {
     out.say(b" (");

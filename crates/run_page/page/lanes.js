@@ -83,15 +83,18 @@ function below(turn) {
     return lines.length <= 3 ? lines : [lines[0], lines[1], `and ${lines.length - 2} more`];
 }
 
-// What stands in a box: lines of texts, with their classes.
+// What stands in a box: texts, each with its place from the left, its line, and its classes.
 function inBox(turn, wide) {
     const room = Math.floor((wide - 14) / 6.63);
     const short = turn.exit.is === "call" ? "call " + turn.exit.method.split(".")[1] : exitText(turn.exit);
     const at = `${turn.raised ? "\u25b2" : ""}p${turn.priority}${turn.cancelled ? " c1" : ""}`;
+    const left = room - turn.name.length - at.length - 2;
     return [
-        [turn.name, turn.undone ? "bold bad" : "bold", at, turn.raised ? "bold end" : "faint end"],
-        [fitting(shortMethod(turn), room), ""],
-        [fitting(`${resumeText(turn.resume)} \u2192 ${short}`, room), turn.undone ? "bad" : "faint"],
+        [turn.name, 7, 0, turn.undone ? "bold bad" : "bold"],
+        [left > 3 ? fitting(taskNames[turn.task], left) : "", 7 + 6.63 * (turn.name.length + 1), 0, ""],
+        [at, wide - 7, 0, turn.raised ? "bold end" : "faint end"],
+        [fitting(shortMethod(turn), room), 7, 1, ""],
+        [fitting(`${resumeText(turn.resume)} \u2192 ${short}`, room), 7, 2, turn.undone ? "bad" : "faint"],
     ];
 }
 
@@ -123,10 +126,7 @@ function drawTurn(turn, slot) {
     const cross = `M${x + 4},${y + 4}l${wide - 8},${tall - 8}m0,${8 - tall}l${8 - wide},${tall - 8}`;
     if (turn.undone && isNamed()) group.append(shape("path", { class: "cross", d: cross }));
     if (isFull()) {
-        inBox(turn, own).forEach(([text, names, right, rightNames], at) => {
-            group.append(words(text, x + 7, y + 15 + 15 * at, names));
-            if (right) group.append(words(right, x + own - 7, y + 15, rightNames));
-        });
+        inBox(turn, own).forEach(([text, from, at, names]) => group.append(words(text, x + from, y + 15 + 15 * at, names)));
         below(turn).forEach((text, at) => {
             group.append(words(fitting(text, Math.floor(own / 6.63)), x, y + tall + 13 + 13 * at, turn.undone ? "bad" : "faint"));
         });

@@ -5,7 +5,7 @@ pub(crate) static HEAD: &str = "<!doctype html>
 <html lang=\"en\">
 <head>
 <meta charset=\"utf-8\">
-<meta http-equiv=\"Content-Security-Policy\" content=\"default-src 'none'; style-src 'sha256-tNtsAbIgZ/g99N4szxYKXFee7ckWG4SN5tjiU4RBT8A='; script-src 'sha256-Rr2pluonrKRxZ/DYknH/SQOrMkJu3M/ifFUdKpMdu/c='\">
+<meta http-equiv=\"Content-Security-Policy\" content=\"default-src 'none'; style-src 'sha256-tNtsAbIgZ/g99N4szxYKXFee7ckWG4SN5tjiU4RBT8A='; script-src 'sha256-r8Lul+Cfc7xCNySV/LFNS25wG3mSiQYWnQN1UqafywA='\">
 <meta name=\"viewport\" content=\"width=device-width, initial-scale=1\">
 <title>Outcomes</title>
 <style>";
@@ -37,7 +37,7 @@ pub(crate) static BODY: &str = "</style>
 </section>
 <section id=\"orders\">
 <h2>In which order the turns run</h2>
-<p class=\"note\">A turn is what a task does from one wait to the next: <code>t1.0</code> is the first turn of task t1. Each line is the order that leads to an outcome, in the colours of the tasks. Pale turns are the same as those of the chosen outcome; from the bar on the order is another one.</p>
+<p class=\"note\">A turn is what a task does from one wait to the next: <code>t1.0</code> is the first turn of task t1. Each line is the order that leads to an outcome, in the colours of the tasks; one that ends badly has a red name. Pale turns are the same as those of the chosen outcome; from the bar on the order is another one.</p>
 <p id=\"tasks\"></p>
 <div class=\"wide\" id=\"lines\"></div>
 </section>

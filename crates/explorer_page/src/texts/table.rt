@@ -29,7 +29,7 @@ function showSummary() {
     document.title = at(\"title\").textContent = `How ${name} can end`;
     const many = askedOutcomes.length === 0 ? \"No outcome was found\" : `${counted(askedOutcomes.length, \"outcome was\", \"outcomes were\")} found`;
     const end = made(\"span\", { class: answer.search === \"complete\" ? null : \"bad\" }, ENDS[answer.search]);
-    at(\"summary\").append(`${many}, in ${counted(answer.states, \"state\")}. `, end);
+    at(\"summary\").append(`${many}. `, end, ` It has seen ${counted(answer.states, \"state\")}.`);
     if (isSwift) showSwift();
 }
 
@@ -50,13 +50,22 @@ function showSwift() {
     }
 }
 
+// Whose turn the last one of these steps is, and what it would have left, where some outcome's schedule begins with them.
+function lossOf(steps) {
+    const outcome = outcomes.find((one) => one.turns && common(one.steps, steps) === steps.length);
+    const last = steps[steps.length - 1];
+    const turn = outcome && outcome.turns.get(last.name);
+    return turn ? [made(\"span\", { class: \"bad\" }, ` The last one, of ${outcome.names[last.task]} in ${turn.method}, ${lossText(turn.losses)}.`)] : [];
+}
+
 // What was asked, and where it fails.
 function showAsked() {
     at(\"asked\").append(...answer.expectations.map(({ text, verdicts }) => {
         const failing = askedOutcomes.filter(({ place }) => verdicts[place] !== \"holds\");
         const shown = failing.slice(0, 12).map(linkTo);
         const mark = made(\"b\", { class: failing.length > 0 ? \"bad\" : \"good\" }, failing.length > 0 ? \"\\u2717 fails: \" : \"\\u2713 holds in each outcome: \");
-        const where = failing.length > 0 ? [\" in \", ...joined(shown, \", \"), failing.length > 12 ? ` and ${failing.length - 12} more` : \"\"] : [];
+        const many = ` in ${failing.length} of ${counted(askedOutcomes.length, \"outcome\")}: `;
+        const where = failing.length > 0 ? [many, ...joined(shown, \", \"), failing.length > 12 ? ` and ${failing.length - 12} more` : \"\"] : [];
         return made(\"li\", {}, mark, made(\"code\", {}, text), ...where);
     }));
     if (undoneSteps === null) {
@@ -68,8 +77,9 @@ function showAsked() {
     const what = isSwift ? \"An invariant or precondition fails, and the process ends, \" : \"A turn is undone by an invariant \";
     at(\"undone\").append(made(\"b\", { class: \"bad\" }, what), \"in this order: \");
     at(\"undone\").append(...undoneSteps.map((step, place) => cell(step, place === undoneSteps.length - 1 ? \"undone\" : \"\")));
+    at(\"undone\").append(...lossOf(undoneSteps));
     // Of a Swift file another line says so.
-    if (with_.length > 0 && !isSwift) at(\"undone\").append(\" So it is in \", ...joined(with_.slice(0, 12).map(linkTo), \", \"), with_.length > 12 ? \" and more.\" : \".\");
+    if (with_.length > 0 && !isSwift) at(\"undone\").append(\" A turn is undone in \", ...joined(with_.slice(0, 12).map(linkTo), \", \"), with_.length > 12 ? \" and more.\" : \".\");
 }
 
 // The columns of the table: how the roots end, and what of the rest is not the same in each outcome.

@@ -5,7 +5,7 @@ pub(crate) static HEAD: &str = "<!doctype html>
 <html lang=\"en\">
 <head>
 <meta charset=\"utf-8\">
-<meta http-equiv=\"Content-Security-Policy\" content=\"default-src 'none'; style-src 'sha256-Eo+BhDHXfn3fnJfRVuTcc51zenPgmXL320RfarCkknA='; script-src 'sha256-mOkDxQNOfiMa/zsB/GIEn5DZpe4fCwFmMBaUofYk8KQ='\">
+<meta http-equiv=\"Content-Security-Policy\" content=\"default-src 'none'; style-src 'sha256-Eo+BhDHXfn3fnJfRVuTcc51zenPgmXL320RfarCkknA='; script-src 'sha256-wo70p/Bnj0OiC63a/FLebOY2FwSEbYTXUUDaZ4ChWBc='\">
 <meta name=\"viewport\" content=\"width=device-width, initial-scale=1\">
 <title>A run</title>
 <style>";
@@ -43,8 +43,8 @@ pub(crate) static BODY: &str = "</style>
 <div id=\"view\" tabindex=\"0\" role=\"application\" aria-label=\"Turns, from left to right in the order in which they began. The arrow keys step from turn to turn.\"><div id=\"plane\"><svg id=\"picture\" role=\"img\" aria-label=\"A lane for each executor, and in it a box for each turn\"></svg></div></div>
 <div id=\"pages\"></div>
 <div id=\"legend\">
-<p>A lane is an executor, which runs one turn at a time. A box is a turn, in the colour of its task; from left to right they stand in the order in which they began. A turn that is crossed out was undone.</p>
-<p>In a box: <code>t1.0</code>, turn 0 of task t1; <code>p2</code>, its priority (<code>&#9650;</code> where it was raised), and <code>c1</code> where its task was cancelled; its method; how it began <code>&rarr;</code> how it ended. Below it: what it changed.</p>
+<p>A lane is an executor, which runs one turn at a time. A box is a turn: what a task does from one wait to the next. It has the colour of its task; from left to right they stand in the order in which they began. A turn that is crossed out was undone.</p>
+<p>In a box: <code>t1.0</code>, the first turn of task t1, and its name; <code>p2</code>, its priority (<code>&#9650;</code> where it was raised), and <code>c1</code> where it was cancelled; its method; how it began <code>&rarr;</code> how it ended. Below it: what it changed.</p>
 <p id=\"links\"><span>Lines lead to a turn from what it comes after:</span></p>
 </div>
 </section>

@@ -45,7 +45,7 @@ function changedMeanwhile(turn) {
     const isBetween = ({ executor, place }) => executor === turn.executor && place > own.place && place < turn.place;
     const between = turns.filter((other) => isBetween(other) && other.outcome === \"kept\");
     const ofActor = (changes) => changes.filter(({ field }) => field.startsWith(actor));
-    return between.flatMap((other) => ofActor(other.changes).map((change) => ({ ...change, by: other.name })));
+    return between.flatMap((other) => ofActor(other.changes).map((change) => ({ ...change, by: `${other.name} of ${taskNames[other.task]}` })));
 }
 
 const changed = ({ field, before, after }) => `${field} from ${before} to ${after}`;
@@ -63,7 +63,7 @@ function broke(turn) {
 function sentences(turn) {
     const said = [`Task ${task(turn.task)} ${began(turn)}.`];
     const others = changedMeanwhile(turn);
-    const lately = others.slice(-3).map((change) => `${changed(change)} (${change.by})`).join(\", \");
+    const lately = others.slice(-3).map((change) => `${changed(change)} (in ${change.by})`).join(\", \");
     if (others.length > 0) said.push(`Meanwhile others had changed ${lately}${others.length > 3 ? \", and more before\" : \"\"}.`);
     said.push(`It ${ENDED[turn.exit.is](turn.exit)}.`);
     const last = taskTurns[turn.task][taskTurns[turn.task].length - 1] === turn;

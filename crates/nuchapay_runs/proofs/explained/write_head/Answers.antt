@@ -8,4 +8,4 @@ pub returns : goal.returns
 returns c =
     let t = c.args.turn.now in
     let line = ap (λ (l : Line). turn_text t.names.script.now t.position l) c.requires.line in
-    both (both (both (both (same line c.write_turn.ensures) c.say.ensures) c.say-2.ensures) c.say-3.ensures) c.write_ends.ensures
+    both (both (both (both (both (same line c.write_turn.ensures) c.say.ensures) c.write_task.ensures) c.say-2.ensures) c.say-3.ensures) c.write_ends.ensures

@@ -1,0 +1,9 @@
+use Rattle.std.proofs.Common.{◌≡◌, ◌≤◌}
+use Rattle.swift_explorer.specs.FoundText.{turns_before}
+use Rattle.nuchapay.proofs.undone.begun.Given as goal
+
+abbrev pub invariant-loop-at : goal.invariant-loop-at
+invariant-loop-at l = record {
+  counted : l.turns ≡ turns_before l.task.0 l.path l.at;
+  few : l.turns ≤ l.at;
+}
