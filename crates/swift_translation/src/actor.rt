@@ -2,7 +2,8 @@
 
 use crate::frame::write_body;
 use crate::naming::{
-    PRECONDITION, write_instance, write_name, write_printed, write_unit, write_variable,
+    PRECONDITION, write_field_name, write_instance, write_name, write_printed, write_unit,
+    write_variable,
 };
 use crate::value::write_value;
 use crate::writing::Writing;
@@ -166,7 +167,7 @@ fn write_field(writing: &mut Writing<'_>, instance: usize, field: FieldDecl) {
         return;
     }
     writing.say("\n    var ");
-    write_name(writing, field.name);
+    write_field_name(writing, field.name);
     writing.say(" = ");
     let alloc = writing.alloc;
     writing.out.number(alloc, number);
@@ -230,9 +231,9 @@ fn write_invariants(writing: &mut Writing<'_>, actor: usize, has_precondition: b
 // The method that reads a field.
 fn write_read(writing: &mut Writing<'_>, field: FieldDecl) {
     writing.say("\n    func ");
-    write_name(writing, field.name);
+    write_field_name(writing, field.name);
     writing.say("() { return ");
-    write_name(writing, field.name);
+    write_field_name(writing, field.name);
     writing.say("; }");
 }
 

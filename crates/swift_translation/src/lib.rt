@@ -7,16 +7,22 @@ mod actor;
 mod file;
 // Methods that are put in where they are called.
 mod frame;
+// What holds of the definitions.
+mod laws;
 // The line of a text on which a place lies.
 mod line;
 // The names of a script.
 mod naming;
 // The text of a refusal.
 mod refused;
+// How names of a script are spelled.
+mod spelling;
 // Instructions as statements.
 mod step;
 // Values as expressions.
 mod value;
+// What is waited for.
+mod wait;
 // Words that a script keeps.
 mod word;
 // A text that is written.
@@ -25,4 +31,5 @@ mod writer;
 mod writing;
 
 pub use file::{Translation, translate};
+pub use laws::names_are_told_apart;
 pub use refused::refusal_text;
