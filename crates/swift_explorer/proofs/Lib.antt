@@ -39,4 +39,5 @@ mod InvariantsOfActors
 mod StartInvariants
 mod RunningAhead
 mod SilentMarks
+mod UnnamedRoots
 mod Trial

@@ -29,6 +29,7 @@ use Rattle.swift_digest.proofs.SameStands.{fields_push}
 use Rattle.swift_reordering.specs.Away.{job_looks_away}
 use Rattle.swift_reordering.specs.RunAhead.{OneTurn, after_turn, after_turns}
 use Rattle.swift_reordering.specs.Silent.{frame_is_silent}
+use Rattle.swift_reordering.proofs.Apart.{all_plain, always_apart, apart_first}
 use Rattle.swift_reordering.proofs.Bringing.{number_one}
 use Rattle.swift_reordering.proofs.Holding.{hold_always}
 use Rattle.swift_reordering.proofs.RunAhead.{run_more, turns_more}
@@ -74,7 +75,7 @@ run_block t r (folded e f) is = absurd is
 if_first : (fs callers : List FrameView) (p : FrameView) (P : FrameView → Type 0) → fs ≡ p ∷ callers → IfRunning fs P → P p
 if_first fs callers p P is holds = subst (λ (gs : List FrameView). IfRunning gs P) is holds
 
--- a turn has begun and run: it is silent, and goes on alone
+-- a turn has begun and run: it is silent, and goes on alone, or ends its task unseen
 module _ (blocks : List Block) (x w z : SearchedHistory) (t : TaskId) (place : ℕ) (hold : StartsHold (arc_value x.script)) (h : IsHistory (arc_value x.script) blocks x) (quiet : IsQuietAt x t) (at_place : JobRunsAt (arc_value x.script) x.tasks.items t place)
     (alone : GoesAlone x t place) (n : ℕ) (env : Env) (e : ℕ) (r : RecordView) (task_is : r.task ≡ t.0)
     (mid : IsHistory (arc_value x.script) (blocks ++ begun t.0 n env ∷ []) w) (is : IsHistory (arc_value x.script) ((blocks ++ begun t.0 n env ∷ []) ++ ran e r ∷ []) z)
@@ -148,8 +149,8 @@ module _ (blocks : List Block) (x w z : SearchedHistory) (t : TaskId) (place : �
       ∙ ap (λ (x : Resume). (kept_turn script r.frame one.0.body.task.outer rows x any_env).exit) resume
       ∙ ap (λ (sc : ScriptView). (kept_turn sc r.frame one.0.body.task.outer rows one.0.resume any_env).exit) (sym own)
 
-  goes : GoesOnAtOnce runs.stands.runs.0 r.exit
-  goes = subst (GoesOnAtOnce runs.stands.runs.0) (sym exit_is) (subst (λ (fs : List FrameView). TurnGoesOn one.0.body.script fs one.0.body.task.outer rows one.0.resume) frames (alone.2 one.0 one.1))
+  goes : GoesOnAtOnce script t.0 runs.stands.runs.0 r.exit
+  goes = subst (GoesOnAtOnce script t.0 runs.stands.runs.0) (sym exit_is) (subst (λ (fs : List FrameView). TurnGoesOn script t.0 one.0.body.script fs one.0.body.task.outer rows one.0.resume) frames (alone.2 one.0 one.1))
 
   abbrev life : Life
   life = life_of t.0 s.log
@@ -178,13 +179,15 @@ module _ (blocks : List Block) (x w z : SearchedHistory) (t : TaskId) (place : �
         number = number_is;
         quiet = still;
         alone = goes.0;
+        unnamed = goes.1;
+        apart = λ is. always_apart script cps t.0 (goes.1 is) blocks [] h.led.stand (all_plain blocks h.led.none_folded) (apart_first t.0);
       };
       away = ap (job_looks_away script) (h.led.given t.0) ∙ quiet.away;
     };
     is = is;
     task_is = refl;
     own = task_is;
-    whole = goes.1;
+    whole = goes.2;
     roots = same;
   }
 

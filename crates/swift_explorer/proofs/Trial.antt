@@ -1,9 +1,9 @@
 -- A turn is tried, and its task has what it had before.
 use Rattle.std.proofs.Common.{◌≡◌, ℕ, ℤ, List, [], ◌∷◌, ◌++◌, Vec, refl, sym, subst, ap, ap₂, ◌∙◌, inl, inr}
-use Rattle.std.specs.Prelude.{Option, Some, None, if◌then◌else◌}
+use Rattle.std.specs.Prelude.{◌⊎◌, Option, Some, None, if◌then◌else◌}
 use Rattle.std.specs.Option.{option_map}
 use Rattle.std.specs.declared.alloc.Global.{Global}
-use Rattle.std.proofs.lemmas.Bool.{cases_eq}
+use Rattle.std.proofs.lemmas.Bool.{cases_eq, false≢true}
 use Rattle.swift_types.specs.declared.env.Env.{Env}
 use Rattle.swift_types.specs.declared.outcome.Fault.{Fault}
 use Rattle.swift_types.specs.declared.outcome.Resume.{Resume}
@@ -13,6 +13,7 @@ use Rattle.swift_interpreter.specs.Turn.{EffectView, ExitView, Played, failing, 
 use Rattle.swift_turn.specs.declared.step.Step.{Step}
 use Rattle.swift_turn.specs.Body.{Advanced, AdvancesTo, HasFrames, IfRunning, Polls, TaskView, callers_of, entered, left}
 use Rattle.swift_history.specs.TurnEnds.{JobFacts}
+use Rattle.swift_reordering.specs.Unnamed.{IsUnnamed}
 use Rattle.swift_explorer.specs.declared.waiting.Ready.{Ready}
 use Rattle.swift_explorer.specs.declared.history.SearchedHistory.{SearchedHistory}
 use Rattle.std.specs.Arc.{arc_value}
@@ -73,12 +74,12 @@ frames_back script outer [] gs rows rows' resume env effects exit p has is polls
 frames_back script outer (q ∷ callers) [] rows rows' resume env effects exit p has is polls = absurd polls
 frames_back script outer (q ∷ callers) (k ∷ others) rows rows' resume env effects exit p has is polls = ap₂ (λ (x : FrameView) (xs : List FrameView). x ∷ xs) is (sym polls.0)
 
-pub turn_goes_on : (script : ScriptView) (outer : List (ℕ × ℤ)) (fs gs : List FrameView) (rows rows' : List (List ℤ)) (resume : Resume) (effects : List EffectView) (exit : ExitView)
-    → Polls script outer fs (entered rows resume any_env) gs (left rows' effects exit) → GoesOnAtOnce (callers_of gs) exit → TurnGoesOn script fs outer rows resume
-turn_goes_on script outer [] gs rows rows' resume effects exit polls goes = tt
-turn_goes_on script outer (p ∷ callers) [] rows rows' resume effects exit polls goes = absurd polls
-turn_goes_on script outer (p ∷ callers) (q ∷ others) rows rows' resume effects exit polls goes =
-    subst (GoesOnAtOnce callers) (ap (λ (k : Played). k.exit) polls.1.1) (subst (λ (cs : List FrameView). GoesOnAtOnce cs exit) polls.0 goes)
+pub turn_goes_on : (whole : ScriptView) (t : ℕ) (script : ScriptView) (outer : List (ℕ × ℤ)) (fs gs : List FrameView) (rows rows' : List (List ℤ)) (resume : Resume) (effects : List EffectView) (exit : ExitView)
+    → Polls script outer fs (entered rows resume any_env) gs (left rows' effects exit) → GoesOnAtOnce whole t (callers_of gs) exit → TurnGoesOn whole t script fs outer rows resume
+turn_goes_on whole t script outer [] gs rows rows' resume effects exit polls goes = tt
+turn_goes_on whole t script outer (p ∷ callers) [] rows rows' resume effects exit polls goes = absurd polls
+turn_goes_on whole t script outer (p ∷ callers) (q ∷ others) rows rows' resume effects exit polls goes =
+    subst (GoesOnAtOnce whole t callers) (ap (λ (k : Played). k.exit) polls.1.1) (subst (λ (cs : List FrameView). GoesOnAtOnce whole t cs exit) polls.0 goes)
 
 -- of the frame that runs
 
@@ -89,13 +90,16 @@ left_over script [] outer task step v has after runs = has
 left_over script (p ∷ []) outer task step v has after runs = subst (λ (a : Advanced). HasFrames a.task.frames) after runs
 left_over script (p ∷ q ∷ callers) outer task step v has after runs = tt
 
-pub returns_on : (callers : List FrameView) (v : ℤ) → HasFrames callers → GoesOnAtOnce callers (returning v)
-returns_on [] v has = absurd has
-returns_on (q ∷ callers) v has = (refl, λ breaks. breaks)
+-- or it has ended, and is a root that no line names
+pub returns_on : (script : ScriptView) (t : ℕ) (callers : List FrameView) (v : ℤ) → HasFrames callers ⊎ IsUnnamed script t → GoesOnAtOnce script t callers (returning v)
+returns_on script t [] v (inl has) = absurd has
+returns_on script t [] v (inr unnamed) = (refl, λ is. unnamed, λ breaks. breaks)
+returns_on script t (q ∷ callers) v has = (refl, λ is. absurd (false≢true is), λ breaks. breaks)
 
-pub fails_on : (callers : List FrameView) (f : Fault) → HasFrames callers → (BreaksInvariant (failing f) → ⊥) → GoesOnAtOnce callers (failing f)
-fails_on [] f has whole = absurd has
-fails_on (q ∷ callers) f has whole = (refl, whole)
+pub fails_on : (script : ScriptView) (t : ℕ) (callers : List FrameView) (f : Fault) → HasFrames callers ⊎ IsUnnamed script t → (BreaksInvariant (failing f) → ⊥) → GoesOnAtOnce script t callers (failing f)
+fails_on script t [] f (inl has) whole = absurd has
+fails_on script t [] f (inr unnamed) whole = (refl, λ is. unnamed, whole)
+fails_on script t (q ∷ callers) f has whole = (refl, λ is. absurd (false≢true is), whole)
 
 pub before_some : (x y : SearchedHistory) → IsAsBefore x y → IsSomeHistory x → IsSomeHistory y
 before_some x y before some = (some.0, subst (λ (s : ScriptView). IsHistory s some.0 y) (sym (ap arc_value before.script_is)) (before.is some.0 some.1))

@@ -1,5 +1,5 @@
 -- While silent turns run ahead. No public clause names these.
-use Rattle.std.specs.Prelude.{◌≡◌, ℕ, ℤ, true, false, Some, List, [], ◌∷◌, ◌++◌, slice_get}
+use Rattle.std.specs.Prelude.{◌≡◌, ◌||◌, ℕ, ℤ, true, false, Some, List, [], ◌∷◌, ◌++◌, slice_get}
 use Rattle.std.specs.Arc.{arc_value}
 use Rattle.swift_types.specs.declared.env.Env.{Env}
 use Rattle.swift_types.specs.declared.id.TaskId.{TaskId}
@@ -13,6 +13,7 @@ use Rattle.swift_history.specs.Histories.{Block, checkpoint_at}
 use Rattle.swift_course.specs.Course.{starts}
 use Rattle.swift_reordering.specs.RunAhead.{OneTurn, after_turn, after_turns, RunsSilently, AllRunSilently}
 use Rattle.swift_reordering.specs.Silent.{frame_is_silent, goes_on_alone}
+use Rattle.swift_reordering.specs.Unnamed.{IsUnnamed, ends_task}
 use Rattle.swift_explorer.specs.declared.ahead.TurnAhead.{TurnAhead}
 use Rattle.swift_explorer.specs.declared.ahead.TurnAhead.TheVariants.{Lost}
 use Rattle.swift_explorer.specs.declared.moves.Move.{Move}
@@ -36,19 +37,20 @@ pub record IsQuietAt (x : SearchedHistory) (t : TaskId) : Type 0 where
 abbrev pub any_env : Env
 any_env = record { priority = Background; cancelled = false; room = 0 }
 
--- a task whose frame has these callers goes on at once after a turn that ends so, and no invariant is broken by it
-abbrev pub GoesOnAtOnce : List FrameView → ExitView → Type 0
-GoesOnAtOnce callers exit = (goes_on_alone callers exit ≡ true) × (BreaksInvariant exit → ⊥)
+-- Task `t` of a script, whose frame has these callers, goes on at once after a turn that ends so, or it has ended, and is a root that no
+-- line names; and no invariant is broken by it.
+abbrev pub GoesOnAtOnce : ScriptView → ℕ → List FrameView → ExitView → Type 0
+GoesOnAtOnce script t callers exit = ((goes_on_alone callers exit || ends_task callers exit) ≡ true) × (ends_task callers exit ≡ true → IsUnnamed script t) × (BreaksInvariant exit → ⊥)
 
--- the next turn of a task with these frames ends so on these fields
-abbrev pub TurnGoesOn : ScriptView → List FrameView → List (ℕ × ℤ) → List (List ℤ) → Resume → Type 0
-TurnGoesOn script [] outer rows resume = Unit {0}
-TurnGoesOn script (p ∷ callers) outer rows resume = GoesOnAtOnce callers (kept_turn script p outer rows resume any_env).exit
+-- the next turn of a task with these frames, of body `own`, ends so on these fields
+abbrev pub TurnGoesOn : ScriptView → ℕ → ScriptView → List FrameView → List (ℕ × ℤ) → List (List ℤ) → Resume → Type 0
+TurnGoesOn script t own [] outer rows resume = Unit {0}
+TurnGoesOn script t own (p ∷ callers) outer rows resume = GoesOnAtOnce script t callers (kept_turn own p outer rows resume any_env).exit
 
 -- the next turn of a task ends so on the fields of executor `e`
 abbrev pub GoesAlone : SearchedHistory → TaskId → ℕ → Type 0
 GoesAlone x t e = (rows : List (List ℤ)) × (slice_get (rows_at x) e ≡ Some rows)
-    × ((g : Ready) → given_at x.tasks.items t.0 ≡ Some g → TurnGoesOn g.body.script g.body.task.frames g.body.task.outer rows g.resume)
+    × ((g : Ready) → given_at x.tasks.items t.0 ≡ Some g → TurnGoesOn (arc_value x.script) t.0 g.body.script g.body.task.frames g.body.task.outer rows g.resume)
 
 -- what was followed before was followed now
 pub record IsAsBefore (x y : SearchedHistory) : Type 0 where

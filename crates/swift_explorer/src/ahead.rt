@@ -1,11 +1,12 @@
 //! Silent turns that run at once, ahead of what may come in between.
 
-ghost use Rattle.std.specs.Prelude.{◌≡◌, IfOk, IsTrue, OnOk, Some, true};
+ghost use Rattle.std.specs.Prelude.{◌≡◌, ◌⊎◌, IfOk, IsTrue, OnOk, Some, true};
 ghost use Rattle.std.specs.Arc.{arc_value};
 ghost use Rattle.swift_script.specs.Scripts.{ScriptView};
 ghost use Rattle.swift_interpreter.specs.TurnStates.{exit_view};
 ghost use Rattle.swift_turn.specs.Body.{HasFrames, IfRunning, IsRunning, callers_of};
 ghost use Rattle.swift_reordering.specs.Silent.{frame_is_silent};
+ghost use Rattle.swift_reordering.specs.Unnamed.{IsUnnamed};
 ghost use Rattle.swift_explorer.specs.declared.waiting.Ready.{Ready};
 ghost use Rattle.swift_explorer.specs.AheadInside.{GoesAlone, GoesOnAtOnce, IsAsBefore, IsNotLost, IsQuietAt, RunsAhead, RunsTurn, StartsHold};
 ghost use Rattle.swift_explorer.specs.FusedInside.{AreTold};
@@ -15,9 +16,11 @@ ghost use Rattle.swift_explorer.specs.SilentInside.{HaveMarks};
 use crate::history::{Followed, SearchedHistory, copy_of};
 use crate::moves::Move;
 use crate::silent::is_marked;
+use crate::unnamed::root_is_unnamed;
 use crate::waiting::{put, take};
 use std::alloc::AllocError;
 use swift_interpreter::Exit;
+use swift_script::Script;
 use swift_turn::{Body, TurnOutcome, replay_turn};
 use swift_types::{Env, Fault, Priority, TaskId};
 
@@ -45,15 +48,27 @@ fn has_caller(body: &Body) -> Result<bool, AllocError>
     Ok(left.is_running())
 }
 
-// Whether a task goes on at once after a turn that ends so, and no invariant is broken by it.
-fn goes_on(body: &Body, exit: &Exit) -> Result<bool, AllocError>
+// Whether the frame that runs may be left unseen: it has a caller, or its task is a root that no line of the script names.
+fn leaves_unseen(body: &Body, script: &Script, task: TaskId) -> Result<bool, AllocError>
     requires { IsRunning body.now }
-    ensures { IfOk result (λ goes. IsTrue goes → GoesOnAtOnce (callers_of body.now.task.frames) (exit_view exit.now)) }
+    ensures { IfOk result (λ leaves. IsTrue leaves → HasFrames (callers_of body.now.task.frames) ⊎ IsUnnamed script.now task.0) }
+{
+    if has_caller(body)? {
+        return Ok(true);
+    }
+    Ok(root_is_unnamed(script, task))
+}
+
+// Whether a task goes on at once after a turn that ends so, or has ended and is a root that no line of the script names; and no invariant
+// is broken by it.
+fn goes_on(body: &Body, exit: &Exit, script: &Script, task: TaskId) -> Result<bool, AllocError>
+    requires { IsRunning body.now }
+    ensures { IfOk result (λ goes. IsTrue goes → GoesOnAtOnce script.now task.0 (callers_of body.now.task.frames) (exit_view exit.now)) }
 {
     match exit {
         Exit::Call(_) | Exit::Yield => Ok(true),
         Exit::Fault(Fault::Invariant) => Ok(false),
-        Exit::Return(_) | Exit::Fault(_) => has_caller(body),
+        Exit::Return(_) | Exit::Fault(_) => leaves_unseen(body, script, task),
         Exit::Wait(_) | Exit::Next(_) | Exit::Close(_, _) => Ok(false),
     }
 }
@@ -95,7 +110,7 @@ impl SearchedHistory {
         self.is_silent(marks, task) && self.looks_away(away, task)
     }
 
-    // Whether a task goes on at once after its next turn at an executor, where that looks at nothing. The history is as before.
+    // Whether a task goes on at once after its next turn at an executor, where that looks at nothing, or ends unseen. The history is as before.
     fn goes_alone(&mut self, task: TaskId, place: usize) -> Result<bool, AllocError>
         requires { IsSomeHistory self.old }
         ensures script { self.new.script ≡ self.old.script }
@@ -125,13 +140,13 @@ impl SearchedHistory {
         else {
             return Err(AllocError);
         };
-        let goes = goes_on(&ready.body, &exit)?;
+        let goes = goes_on(&ready.body, &exit, &self.script, task)?;
         ready.body.put_back(frame);
         put(&mut self.tasks, task, ready)?;
         Ok(goes)
     }
 
-    // The next turn of a task runs, where it is silent and goes on at once.
+    // The next turn of a task runs, where it is silent and the task goes on at once, or ends unseen.
     #[tactic(auto, using(crate::proofs::Trial::unchanged))]
     fn run_one(
         &mut self,
@@ -165,7 +180,7 @@ impl SearchedHistory {
         }
     }
 
-    // The next turn of a task runs, where it is silent and goes on at once, and is put to these steps.
+    // The same, and it is put to these steps.
     #[tactic(auto, using(crate::proofs::RunningAhead::stays_ahead, crate::proofs::RunningAhead::ran_ahead))]
     fn run_and_push(
         &mut self,

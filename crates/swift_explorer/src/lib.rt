@@ -33,6 +33,8 @@ mod search;
 mod silent;
 // What a search has found, as a text.
 mod text;
+// Roots that no line names.
+mod unnamed;
 // What the next turn of each task begins with.
 mod waiting;
 

@@ -1,8 +1,8 @@
 -- A silent turn, and a block of another task after it or before it.
 use Rattle.std.proofs.Common.{◌≡◌, ◌≢◌, ℕ, ℤ, List, [], ◌∷◌, ◌++◌, map, refl, sym, ◌∙◌, ap, ap₂, subst, subst₂, Bool, true, false, inl, inr}
 use Rattle.std.proofs.Math.Path.{fun_ext}
-use Rattle.std.specs.Prelude.{Option, Some, None, is_some, ◌==◌, ◌&&◌, ◌-◌, ◌^◌, nat_lt, min, sum_by, if◌then◌else◌}
-use Rattle.std.specs.List.{cons_option, range_with_len}
+use Rattle.std.specs.Prelude.{Option, Some, None, is_some, ◌==◌, ◌&&◌, ◌||◌, ◌-◌, ◌^◌, nat_lt, min, sum_by, if◌then◌else◌}
+use Rattle.std.specs.List.{AllByRecursion, cons_option, range_with_len}
 use Rattle.std.proofs.lemmas.Bool.{cases_eq, false≢true}
 use Rattle.swift_types.specs.declared.env.Env.{Env}
 use Rattle.swift_types.specs.declared.limits.TheConstants.{TASKS, MADE}
@@ -31,8 +31,10 @@ use Rattle.swift_history.specs.Checks.{Counters, is_begun, is_current, is_under_
 use Rattle.swift_history.specs.TurnEnds.{JobFacts, TurnEnd, task, root_job, turn_end}
 use Rattle.swift_history.specs.Histories.{Block, added, begun, ran, folded, Standing, at_first, after_block, after_blocks, with_jobs, taken, begun_priority, left_as, turn_applied, fields_of, records_of, record_in, TurnStands, Stands, AllStand}
 use Rattle.swift_history.specs.Orderly.{IsOrderly, job_executor}
-use Rattle.swift_laws.proofs.HistoriesTurns.{after_push, applied_is}
-use Rattle.swift_digest.specs.Digests.{ChildrenAreNew}
+use Rattle.swift_laws.proofs.HistoriesCounted.{AreCounted, unbegun}
+use Rattle.swift_laws.proofs.HistoriesTurns.{after_push, all_keep, applied_is, first_counted}
+use Rattle.swift_digest.specs.Digests.{ChildrenAreNew, digest_of}
+use Rattle.swift_digest.specs.Explored.{IsNotFolded}
 use Rattle.swift_digest.specs.Futures.{LeadAlike}
 use Rattle.swift_digest.specs.Plans.{job_plan, held_plans}
 use Rattle.std.specs.Option.{option_map}
@@ -43,88 +45,100 @@ use Rattle.swift_reordering.specs.Blurred.{stage_at}
 use Rattle.swift_reordering.specs.SilentTurns.{IsSilentTurn, SilentTurnsCommute}
 use Rattle.swift_reordering.proofs.Holding.{hold_always}
 use Rattle.swift_reordering.specs.Silent.{goes_on_alone}
+use Rattle.swift_reordering.specs.Unnamed.{IsApart, IsUnnamed, ends_task}
 use Rattle.swift_reordering.specs.Waiting.{IsOfOther}
-use Rattle.swift_reordering.proofs.Sights.{waited, AreSeen, seen_on, seen_tasks, seen_origin, seen_ending, seen_links, seen_cancelled}
+use Rattle.swift_reordering.proofs.Apart.{block_apart, record_spares, turn_shown}
+use Rattle.swift_reordering.proofs.Sights.{waited, AreSeen, seen_on, seen_tasks, seen_origin, seen_links, seen_cancelled}
 use Rattle.swift_reordering.proofs.SeenFits.{seen_fits, seen_counters}
-use Rattle.swift_reordering.proofs.SeenEnds.{EndSeen, seen_end}
+use Rattle.swift_reordering.proofs.SeenEnds.{EndSeen, TurnShown, all_shown, seen_end}
 use Rattle.swift_reordering.proofs.Priorities.{priority_later}
-use Rattle.swift_reordering.proofs.Others.{KeepsJob}
+use Rattle.swift_reordering.proofs.Others.{IsNotOf, KeepsJob, begin_keeps_job, gives_others, root_keeps_job, turn_keeps_by}
 use Rattle.swift_reordering.proofs.Keeping.{block_keeps_job}
-use Rattle.swift_reordering.proofs.SilentSteps.{GoesOnAlone, goes_alone, InvariantsHold, AfterAlone, silent_after, silent_fields, no_effects, played, alone_seen, alone_life, alone_job, alone_jobs}
+use Rattle.swift_reordering.proofs.SilentSteps.{GoesOnAlone, WayOut, goes, over, goes_alone, is_over, life_by, InvariantsHold, AfterAlone, silent_after, silent_fields, no_effects, played, alone_apart, alone_seen, alone_life, alone_job, alone_jobs}
 use Rattle.swift_reordering.proofs.Rooms.{total, sum_total}
 use Rattle.swift_reordering.proofs.Beside.{besides, besides_sight, other_life, one_digest}
 
 -- the room of turns, where the job of one task is not seen, and has reserved as much
 
-seen_reserved : (t roots : ℕ) (a b : List Event) → AreSeen (besides t) a b → room_held (life_of t a) ≡ room_held (life_of t b) → reserved_of roots a ≡ reserved_of roots b
+seen_reserved : (ends : Bool) (t roots : ℕ) (a b : List Event) → AreSeen (besides ends t) a b → room_held (life_of t a) ≡ room_held (life_of t b) → reserved_of roots a ≡ reserved_of roots b
 unfolding lives_of
-seen_reserved t roots a b same held =
+seen_reserved ends t roots a b same held =
     let each : (u : ℕ) → room_held (life_of u a) ≡ room_held (life_of u b) = λ u. elim (cases_eq u t) [
       | inl one ↦ ap (λ (v : ℕ). room_held (life_of v a)) one ∙ held ∙ ap (λ (v : ℕ). room_held (life_of v b)) (sym one)
-      | inr ne ↦ ap room_held (other_life t a b same u ne)
+      | inr ne ↦ ap room_held (other_life ends t a b same u ne)
     ] in
-    ap (λ (n : ℕ). sum_by room_held (map (λ u. life_of u a) (range_with_len 0 n))) (seen_tasks (besides t) (besides_sight t) a b same roots)
+    ap (λ (n : ℕ). sum_by room_held (map (λ u. life_of u a) (range_with_len 0 n))) (seen_tasks (besides ends t) (besides_sight ends t) a b same roots)
     ∙ sum_total a (tasks_of roots b) ∙ ap (λ (w : ℕ → ℕ). total w (tasks_of roots b)) (fun_ext each) ∙ sym (sum_total b (tasks_of roots b))
 
-seen_room : (t roots u : ℕ) (a b : List Event) → AreSeen (besides t) a b → room_held (life_of t a) ≡ room_held (life_of t b) → room_of roots u a ≡ room_of roots u b
-seen_room t roots u a b same held =
+seen_room : (ends : Bool) (t roots u : ℕ) (a b : List Event) → AreSeen (besides ends t) a b → room_held (life_of t a) ≡ room_held (life_of t b) → room_of roots u a ≡ room_of roots u b
+seen_room ends t roots u a b same held =
     let own : room_held (life_of u a) ≡ room_held (life_of u b) = elim (cases_eq u t) [
       | inl one ↦ ap (λ (v : ℕ). room_held (life_of v a)) one ∙ held ∙ ap (λ (v : ℕ). room_held (life_of v b)) (sym one)
-      | inr ne ↦ ap room_held (other_life t a b same u ne)
+      | inr ne ↦ ap room_held (other_life ends t a b same u ne)
     ] in
-    let tasks = seen_tasks (besides t) (besides_sight t) a b same roots in
-    let reserved = seen_reserved t roots a b same held in
+    let tasks = seen_tasks (besides ends t) (besides_sight ends t) a b same roots in
+    let reserved = seen_reserved ends t roots a b same held in
     ap₂ (λ (n k : ℕ). min MADE (TASKS - n - (k - room_held (life_of u a)))) tasks reserved ∙ ap (λ (k : ℕ). min MADE (TASKS - tasks_of roots b - (reserved_of roots b - k))) own
 
--- two standings that are one but for the job of a task that waits for nothing
-pub record AreBeside (t : ℕ) (z s : Standing) : Type 0 where
-  pub near : AreSeen (besides t) z.log s.log
+-- two standings that are one but for the job of a task that waits for nothing, or that has ended in one
+pub record AreBeside (ends : Bool) (t : ℕ) (z s : Standing) : Type 0 where
+  pub near : AreSeen (besides ends t) z.log s.log
   pub room : room_held (life_of t z.log) ≡ room_held (life_of t s.log)
   pub held : z.held ≡ s.held
   pub jobs : (u : ℕ) → u ≢ t → z.jobs u ≡ s.jobs u
 
-module _ (script : ScriptView) (t : ℕ) (s z : Standing) (beside : AreBeside t z s) where
+module _ (script : ScriptView) (ends : Bool) (t : ℕ) (s z : Standing) (beside : AreBeside ends t z s) where
   turn_beside : (executor u n : ℕ) (effects : List EffectView) (exit : ExitView) (job : JobFacts) (env : Env) (frame : FrameView) → u ≢ t → TurnStands script s executor u n effects exit job env frame
       → TurnStands script z executor u n effects exit job env frame
   turn_beside executor u n effects exit job env frame ne stands =
-      let life = other_life t z.log s.log beside.near u ne in
+      let life = other_life ends t z.log s.log beside.near u ne in
       record {
         given = beside.jobs u ne ∙ stands.given;
         number = stands.number;
         current = ap (λ (l : Life). is_current l n job.resume) life ∙ stands.current;
         has_begun = ap (λ (l : Life). l.stage) life ∙ stands.has_begun;
-        fits = seen_fits (besides t) (besides_sight t) z.log s.log beside.near script u effects (counters u z.log env.room) exit
-            ∙ ap (λ (c : Counters). fits_turn script u s.log c effects exit) (seen_counters (besides t) (besides_sight t) z.log s.log beside.near script u env.room) ∙ stands.fits;
+        fits = seen_fits (besides ends t) (besides_sight ends t) z.log s.log beside.near script u effects (counters u z.log env.room) exit
+            ∙ ap (λ (c : Counters). fits_turn script u s.log c effects exit) (seen_counters (besides ends t) (besides_sight ends t) z.log s.log beside.near script u env.room) ∙ stands.fits;
         runs = stands.runs;
         on = stands.on;
       }
 
-  -- and leaves the two beside each other
+  -- and leaves the two beside each other, and the job of the task where it is
   turn_leaves : (executor u n : ℕ) (effects : List EffectView) (exit : ExitView) (after : Option FrameView) (job : JobFacts) (env : Env) (frame : FrameView) → u ≢ t → TurnStands script s executor u n effects exit job env frame
-      → ChildrenAreNew (turn_applied script z u n effects exit after).log → ChildrenAreNew (turn_applied script s u n effects exit after).log
-      → AreSeen (besides t) (turn_applied script z u n effects exit after).log (turn_applied script s u n effects exit after).log
+      → TurnShown (besides_sight ends t).hides (root_count script) u n (begun_priority (stage_at z.log u)) z.log effects exit → AreCounted (root_count script) s.log s.held → is_under_way (stage_at s.log t) ≡ true → ChildrenAreNew (turn_applied script z u n effects exit after).log → ChildrenAreNew (turn_applied script s u n effects exit after).log
+      → AreSeen (besides ends t) (turn_applied script z u n effects exit after).log (turn_applied script s u n effects exit after).log
       × ((turn_applied script z u n effects exit after).held ≡ (turn_applied script s u n effects exit after).held)
       × ((v : ℕ) → v ≢ t → (turn_applied script z u n effects exit after).jobs v ≡ (turn_applied script s u n effects exit after).jobs v)
-  turn_leaves executor u n effects exit after job env frame ne stands new_z new_s =
+      × KeepsJob z (turn_applied script z u n effects exit after) t
+  unfolding turn_beside
+  turn_leaves executor u n effects exit after job env frame ne stands shown counted under new_z new_s =
       let callers : List FrameView = stands.runs.0 in
       let adv : Advanced = advanced script (left_as frame effects after) callers job.frames.outer exit in
       let is_s = applied_is script s u n job frame callers effects exit after stands.given stands.runs.1 in
       let is_z = applied_is script z u n job frame callers effects exit after (beside.jobs u ne ∙ stands.given) stands.runs.1 in
       let own_s : Priority = begun_priority (stage_at s.log u) in
       let own_z : Priority = begun_priority (stage_at z.log u) in
-      let own : own_z ≡ own_s = ap (λ (l : Life). begun_priority l.stage) (other_life t z.log s.log beside.near u ne) in
+      let own : own_z ≡ own_s = ap (λ (l : Life). begun_priority l.stage) (other_life ends t z.log s.log beside.near u ne) in
       let end_s : List (Option _) → TurnEnd = λ held. turn_end script s.log held u n own_s effects exit adv in
       let same : end_s z.held ≡ end_s s.held = ap end_s beside.held in
       let x : TurnEnd = turn_end script z.log z.held u n own_z effects exit adv in
-      let e : EndSeen (besides t) (besides_sight t) z.log s.log x (end_s z.held) =
-      seen_end (besides t) (besides_sight t) z.log s.log beside.near script z.held u n own_z own_s effects exit adv (inl own) (subst (λ (a : Standing). ChildrenAreNew a.log) is_z new_z)
+      let e : EndSeen (besides ends t) (besides_sight ends t) z.log s.log x (end_s z.held) =
+      seen_end (besides ends t) (besides_sight ends t) z.log s.log beside.near script z.held u n own_z own_s effects exit adv (inl own) shown (subst (λ (a : Standing). ChildrenAreNew a.log) is_z new_z)
       (subst (λ (a : TurnEnd). ChildrenAreNew a.log) (sym same) (subst (λ (a : Standing). ChildrenAreNew a.log) is_s new_s)) in
-      subst₂ (λ (a b : Standing). AreSeen (besides t) a.log b.log × (a.held ≡ b.held) × ((v : ℕ) → v ≢ t → a.jobs v ≡ b.jobs v)) (sym is_z) (sym is_s) (
-        subst (λ (a : TurnEnd). AreSeen (besides t) x.log a.log) same e.joint.near,
+      let jobs : x.jobs ≡ (end_s s.held).jobs = e.jobs ∙ ap (λ (a : TurnEnd). a.jobs) same in
+      let none : AllByRecursion (IsNotOf t) x.jobs = subst (AllByRecursion (IsNotOf t)) (sym jobs) (gives_others script s executor u n effects exit after job env frame stands counted t ne under) in
+      let keeps : KeepsJob z (turn_applied script z u n effects exit after) t =
+      turn_keeps_by script z executor u n effects exit after job env frame (turn_beside executor u n effects exit job env frame ne stands) t ne none in
+      let three : AreSeen (besides ends t) (turn_applied script z u n effects exit after).log (turn_applied script s u n effects exit after).log
+      × ((turn_applied script z u n effects exit after).held ≡ (turn_applied script s u n effects exit after).held)
+      × ((v : ℕ) → v ≢ t → (turn_applied script z u n effects exit after).jobs v ≡ (turn_applied script s u n effects exit after).jobs v) =
+      subst₂ (λ (a b : Standing). AreSeen (besides ends t) a.log b.log × (a.held ≡ b.held) × ((v : ℕ) → v ≢ t → a.jobs v ≡ b.jobs v)) (sym is_z) (sym is_s) (
+        subst (λ (a : TurnEnd). AreSeen (besides ends t) x.log a.log) same e.joint.near,
         e.held ∙ ap (λ (a : TurnEnd). a.held) same,
         λ v other. with_same x.jobs (taken u z.jobs) (taken u s.jobs) v (taken_same v other)
-            ∙ ap (λ (js : List JobFacts). with_jobs js (taken u s.jobs) v) (e.jobs ∙ ap (λ (a : TurnEnd). a.jobs) same),
-      )
+            ∙ ap (λ (js : List JobFacts). with_jobs js (taken u s.jobs) v) jobs,
+      ) in
+      (three.0, three.1, three.2, keeps)
     where
       taken_same : (v : ℕ) → v ≢ t → taken u z.jobs v ≡ taken u s.jobs v
       taken_same v other = ap (λ (o : Option JobFacts). if v == u then None else o) (beside.jobs v other)
@@ -139,8 +153,10 @@ module _ (script : ScriptView) (t : ℕ) (s z : Standing) (beside : AreBeside t 
 
 -- a block of another task
 
-module _ (script : ScriptView) (cps : List CheckpointView) (t : ℕ) (before others : List Block) (beside : AreBeside t (after_blocks script (at_first script) others) (after_blocks script (at_first script) before))
-    (fields : (k : ℕ) → fields_of script cps k others ≡ fields_of script cps k before) (stand : AllStand script cps [] before) (also : AllStand script cps [] others) where
+module _ (script : ScriptView) (cps : List CheckpointView) (ends : Bool) (t : ℕ) (before others : List Block) (beside : AreBeside ends t (after_blocks script (at_first script) others) (after_blocks script (at_first script) before))
+    (fields : (k : ℕ) → fields_of script cps k others ≡ fields_of script cps k before) (stand : AllStand script cps [] before) (also : AllStand script cps [] others)
+    (under : is_under_way (stage_at (after_blocks script (at_first script) before).log t) ≡ true)
+    (unnamed : ends ≡ true → IsUnnamed script t) (apart : ends ≡ true → IsApart t (digest_of (after_blocks script (at_first script) others).log)) where
   abbrev s : Standing
   s = after_blocks script (at_first script) before
 
@@ -150,39 +166,54 @@ module _ (script : ScriptView) (cps : List CheckpointView) (t : ℕ) (before oth
   -- it stands in both, and leaves them beside each other
   pub record LeavesBeside (b : Block) : Type 0 where
     pub stands : Stands script cps others b
-    pub near : AreSeen (besides t) (after_blocks script (at_first script) (others ++ b ∷ [])).log (after_blocks script (at_first script) (before ++ b ∷ [])).log
+    pub near : AreSeen (besides ends t) (after_blocks script (at_first script) (others ++ b ∷ [])).log (after_blocks script (at_first script) (before ++ b ∷ [])).log
     pub held : (after_blocks script (at_first script) (others ++ b ∷ [])).held ≡ (after_blocks script (at_first script) (before ++ b ∷ [])).held
     pub jobs : (v : ℕ) → v ≢ t → (after_blocks script (at_first script) (others ++ b ∷ [])).jobs v ≡ (after_blocks script (at_first script) (before ++ b ∷ [])).jobs v
+    pub keeps : KeepsJob z (after_blocks script (at_first script) (others ++ b ∷ [])) t
 
   abbrev Beside : Standing → Standing → Type 0
-  Beside x y = AreSeen (besides t) x.log y.log × (x.held ≡ y.held) × ((v : ℕ) → v ≢ t → x.jobs v ≡ y.jobs v)
+  Beside x y = AreSeen (besides ends t) x.log y.log × (x.held ≡ y.held) × ((v : ℕ) → v ≢ t → x.jobs v ≡ y.jobs v) × KeepsJob z x t
 
   leaves : (b : Block) → Stands script cps others b → Beside (after_block script z b) (after_block script s b) → LeavesBeside b
   leaves b stands is =
       let both : Beside (after_blocks script (at_first script) (others ++ b ∷ [])) (after_blocks script (at_first script) (before ++ b ∷ [])) =
       subst₂ Beside (sym (after_push script (at_first script) others b)) (sym (after_push script (at_first script) before b)) is in
-      record { stands = stands; near = both.0; held = both.1; jobs = both.2 }
+      record { stands = stands; near = both.0; held = both.1; jobs = both.2; keeps = both.3 }
+
+  counted : AreCounted (root_count script) s.log s.held
+  counted = all_keep script cps [] before stand (first_counted script)
+
+  -- what a turn names shows how it has ended
+  shown : (k : ℕ) (q : RecordView) (job : JobFacts) → Stands script cps others (ran k q) → TurnStands script z k q.task q.number q.effects q.exit job q.env q.frame
+      → TurnShown (besides_sight ends t).hides (root_count script) q.task q.number (begun_priority (stage_at z.log q.task)) z.log q.effects q.exit
+  shown k q job stands turn = by_end ends unnamed apart where
+    by_end : (b : Bool) → (b ≡ true → IsUnnamed script t) → (b ≡ true → IsApart t (digest_of z.log)) → TurnShown (besides_sight b t).hides (root_count script) q.task q.number (begun_priority (stage_at z.log q.task)) z.log q.effects q.exit
+    by_end false named none = all_shown (besides_sight false t).hides (λ u. refl) (root_count script) q.task q.number (begun_priority (stage_at z.log q.task)) z.log q.effects q.exit
+    by_end true named none =
+        let spares = record_spares script cps others k q t (named refl) stands in
+        turn_shown t script z k q.task q.number q.effects q.exit job q.env q.frame turn (named refl).root spares.0 spares.1 (none refl)
 
   pub block_beside : (b : Block) → Stands script cps before b → IsOfOther t b → LeavesBeside b
   block_beside (folded e f) stands of_other = absurd of_other
   block_beside (added r) stands of_other =
-      let origin = seen_origin (besides t) (besides_sight t) z.log s.log beside.near r in
+      let origin = seen_origin (besides ends t) (besides_sight ends t) z.log s.log beside.near r in
       leaves (added r) (stands.0, origin ∙ stands.1) (
-        seen_on (besides t) (besides_sight t) z.log s.log _ _ beside.near refl,
+        seen_on (besides ends t) (besides_sight ends t) z.log s.log _ _ beside.near refl,
         beside.held,
         λ v other. ap (λ (o : Option JobFacts). if v == r then Some (root_job script r) else o) (beside.jobs v other),
+        root_keeps_job script z r t (λ is. (let none = unbegun (counted.each t) (ap (λ (u : ℕ). (life_of u s.log).origin) (sym is) ∙ stands.1) in false≢true (sym none ∙ under))),
       )
   block_beside (begun u m env) stands of_other =
-      let life = other_life t z.log s.log beside.near u of_other in
+      let life = other_life ends t z.log s.log beside.near u of_other in
       let is_env : IsEnv (root_count script) (task u) z.log env = record {
-        priority = same_priority (links_of s.log) (links_of z.log) (seen_links (besides t) (besides_sight t) s.log z.log (sym beside.near)) (seen_links (besides t) (besides_sight t) z.log s.log beside.near) (task u) env.priority stands.3.priority;
-        cancelled = stands.3.cancelled ∙ sym (seen_cancelled (besides t) (besides_sight t) z.log s.log beside.near u);
-        room = stands.3.room ∙ sym (seen_room t (root_count script) u z.log s.log beside.near beside.room);
+        priority = same_priority (links_of s.log) (links_of z.log) (seen_links (besides ends t) (besides_sight ends t) s.log z.log (sym beside.near)) (seen_links (besides ends t) (besides_sight ends t) z.log s.log beside.near) (task u) env.priority stands.3.priority;
+        cancelled = stands.3.cancelled ∙ sym (seen_cancelled (besides ends t) (besides_sight ends t) z.log s.log beside.near u);
+        room = stands.3.room ∙ sym (seen_room ends t (root_count script) u z.log s.log beside.near beside.room);
       } in
       leaves (begun u m env) (stands.0, beside.jobs u of_other ∙ stands.1, ap (λ (l : Life). is_current l m stands.0.resume) life ∙ stands.2, is_env)
-      (seen_on (besides t) (besides_sight t) z.log s.log (Begin (task u) m env ∷ []) (Begin (task u) m env ∷ []) beside.near refl, beside.held, beside.jobs)
+      (seen_on (besides ends t) (besides_sight ends t) z.log s.log (Begin (task u) m env ∷ []) (Begin (task u) m env ∷ []) beside.near refl, beside.held, beside.jobs, record { same = begin_keeps_job z u m env t of_other; job = refl })
   block_beside (ran k q) stands of_other =
-      let turn = turn_beside script t s z beside k q.task q.number q.effects q.exit stands.job q.env q.frame of_other stands.stands in
+      let turn = turn_beside script ends t s z beside k q.task q.number q.effects q.exit stands.job q.env q.frame of_other stands.stands in
       let stands_z : Stands script cps others (ran k q) = record {
         job = stands.job;
         stands = turn;
@@ -192,14 +223,14 @@ module _ (script : ScriptView) (cps : List CheckpointView) (t : ℕ) (before oth
       } in
       let new_z = subst (λ (a : Standing). ChildrenAreNew a.log) (after_push script (at_first script) others (ran k q)) (histories_new script cps (others ++ ran k q ∷ []) (all_push script cps others [] (ran k q) also stands_z)) in
       let new_s = subst (λ (a : Standing). ChildrenAreNew a.log) (after_push script (at_first script) before (ran k q)) (histories_new script cps (before ++ ran k q ∷ []) (all_push script cps before [] (ran k q) stand stands)) in
-      leaves (ran k q) stands_z (turn_leaves script t s z beside k q.task q.number q.effects q.exit q.after stands.job q.env q.frame of_other stands.stands new_z new_s)
+      leaves (ran k q) stands_z (turn_leaves script ends t s z beside k q.task q.number q.effects q.exit q.after stands.job q.env q.frame of_other stands.stands (shown k q stands.job stands_z turn) counted under new_z new_s)
 
 -- after the silent turn, and before it
 
 current_too : (a b : Life) (n : ℕ) (x : Resume) → a.given ≡ b.given → is_under_way a.stage ≡ is_under_way b.stage → is_current a n x ≡ is_current b n x
 current_too a b n x given under = ap₂ (λ (g : Option LastJob) (y : Bool). was_given g n x && (nat_lt n (2 ^ 32 - 1) && y)) given under
 
-fits_alone : (script : ScriptView) (t u : ℕ) (a b : List Event) (c d : Counters) (callers : List FrameView) (exit : ExitView) → goes_on_alone callers exit ≡ true → fits_exit script t a c exit ≡ fits_exit script u b d exit
+fits_alone : (script : ScriptView) (t u : ℕ) (a b : List Event) (c d : Counters) (callers : List FrameView) (exit : ExitView) → (goes_on_alone callers exit || ends_task callers exit) ≡ true → fits_exit script t a c exit ≡ fits_exit script u b d exit
 fits_alone script t u a b c d callers (calling i) is = refl
 fits_alone script t u a b c d callers yielding is = refl
 fits_alone script t u a b c d callers (returning v) is = refl
@@ -207,6 +238,34 @@ fits_alone script t u a b c d callers (failing f) is = refl
 fits_alone script t u a b c d callers (waiting x) is = absurd (false≢true is)
 fits_alone script t u a b c d callers (asking_next g) is = absurd (false≢true is)
 fits_alone script t u a b c d callers (closing g f) is = absurd (false≢true is)
+
+not_folded_of : (t : ℕ) (b : Block) → IsOfOther t b → IsNotFolded b
+not_folded_of t (added r) is = tt
+not_folded_of t (begun u n env) is = tt
+not_folded_of t (ran e r) is = tt
+not_folded_of t (folded e f) is = absurd is
+
+-- what is left of a life where its task goes on, or has ended
+
+no_room : (n : ℕ) (w : WayOut) (l : Life) → room_held (life_by n w l) ≡ 0
+no_room n (goes v resume) l = refl
+no_room n (over x) l = refl
+
+not_begun : (n : ℕ) (w : WayOut) (l : Life) → is_begun (life_by n w l).stage ≡ false
+not_begun n (goes v resume) l = refl
+not_begun n (over x) l = refl
+
+same_given : (n : ℕ) (w : WayOut) (l m : Life) → m.given ≡ l.given → (life_by n w m).given ≡ (life_by n w l).given
+same_given n (goes v resume) l m same = refl
+same_given n (over x) l m same = same
+
+same_stage : (n : ℕ) (w : WayOut) (l m : Life) → (life_by n w m).stage ≡ (life_by n w l).stage
+same_stage n (goes v resume) l m = refl
+same_stage n (over x) l m = refl
+
+same_end : (n : ℕ) (w : WayOut) (l m : Life) → m.ending ≡ l.ending → (life_by n w m).ending ≡ (life_by n w l).ending
+same_end n (goes v resume) l m same = same
+same_end n (over x) l m same = refl
 
 stands_fields : (script : ScriptView) (m : ℕ) (st : TurnStateView) (f g : List (List ℤ)) (i j : ℕ) (after : Option FrameView) → StandsFor script m (record st { fields = f; room = i }) after → StandsFor script m (record st { fields = g; room = j }) after
 stands_fields script m st f g i j None is = is
@@ -326,9 +385,12 @@ module _ (script : ScriptView) (cps : List CheckpointView) (before : List Block)
         };
       }
 
-  -- the silent turn stands after the block
+  -- the silent turn stands after the block, and the task is apart there where it ends
+  apart_b : ends_task silent.runs.stands.runs.0 r.exit ≡ true → IsApart t (digest_of (at hb).log)
+  apart_b is = block_apart script cps before b t (silent.unnamed is) stands_b (not_folded_of t b of_other) (silent.apart is)
+
   abbrev silent_later : IsSilentTurn script cps hb t n later_env e later_turn
-  silent_later = record { begins = begins_later; runs = runs_later; given = given_b; own = silent.own; number = silent.number; quiet = silent.quiet; alone = silent.alone }
+  silent_later = record { begins = begins_later; runs = runs_later; given = given_b; own = silent.own; number = silent.number; quiet = silent.quiet; alone = silent.alone; unnamed = silent.unnamed; apart = apart_b }
 
   pub later_silent : IsSilentTurn script cps hb t n later_env e later_turn
   later_silent = silent_later
@@ -338,35 +400,51 @@ module _ (script : ScriptView) (cps : List CheckpointView) (before : List Block)
   after_stand : AllStand script cps [] after
   after_stand = all_push script cps (before ++ begun t n env ∷ []) [] (ran e r) (all_push script cps before [] (begun t n env) stand silent.begins) silent.runs
 
-  pub beside : AreBeside t (at after) (at before)
-  beside =
-      let one = silent_after script cps before t n env e r silent (hold before stand) in
-      record {
-        near = alone_seen (at before) (at after) t n env _ _ one (ap waited silent.given);
-        room = ap room_held (alone_life (at before) (at after) t n env _ _ one) ∙ ap room_in (sym silent.given);
-        held = one.held;
-        jobs = alone_jobs (at before) (at after) t n env _ _ one;
-      }
+  abbrev view_is : GoesOnAlone script (left_as r.frame r.effects r.after) silent.runs.stands.runs.0 silent.runs.job.frames.outer r.exit
+  view_is = goes_alone script (left_as r.frame r.effects r.after) silent.runs.stands.runs.0 silent.runs.job.frames.outer r.exit silent.alone
+
+  -- whether the task ends
+  abbrev ended : Bool
+  ended = is_over view_is.way
+
+  alone_one : AfterAlone (at before) (at after) t n env view_is.way
+  alone_one = silent_after script cps before t n env e r silent (hold before stand)
+
+  life_one : life_of t (at after).log ≡ life_by n view_is.way (life_of t (at before).log)
+  life_one = alone_life (at before) (at after) t n env view_is.way alone_one
+
+  pub beside : AreBeside ended t (at after) (at before)
+  beside = record {
+    near = alone_seen (at before) (at after) t n env view_is.way alone_one (ap waited silent.given) (λ is. silent.apart (sym view_is.over_is ∙ is));
+    room = ap room_held life_one ∙ no_room n view_is.way (life_of t (at before).log) ∙ ap room_in (sym silent.given);
+    held = alone_one.held;
+    jobs = alone_jobs (at before) (at after) t n env view_is.way alone_one;
+  }
 
   fields_after : (k : ℕ) → fields_of script cps k after ≡ fields_of script cps k before
   fields_after = silent_fields script cps before t n env e r silent (hold before stand)
 
-  block_after : LeavesBeside script cps t before after beside fields_after stand after_stand b
-  block_after = block_beside script cps t before after beside fields_after stand after_stand b stands_b of_other
+  over_unnamed : ended ≡ true → IsUnnamed script t
+  over_unnamed is = silent.unnamed (sym view_is.over_is ∙ is)
+
+  apart_after : ended ≡ true → IsApart t (digest_of (at after).log)
+  apart_after is = alone_apart (at before) (at after) t n env view_is.way alone_one (silent.apart (sym view_is.over_is ∙ is))
+
+  block_after : LeavesBeside script cps ended t before after beside fields_after stand after_stand under over_unnamed apart_after b
+  block_after = block_beside script cps ended t before after beside fields_after stand after_stand under over_unnamed apart_after b stands_b of_other
 
   pub stands_after : Stands script cps after b
   stands_after = block_after.stands
 
   orderly_by : (x : Block) → IsOfOther t x → IsOrderly script before x → IsOrderly script after x
-  orderly_by (added u) other is = λ v low. ap is_some (seen_origin (besides t) (besides_sight t) (at after).log (at before).log beside.near v) ∙ is v low
+  orderly_by (added u) other is = λ v low. ap is_some (seen_origin (besides ended t) (besides_sight ended t) (at after).log (at before).log beside.near v) ∙ is v low
   orderly_by (begun u m x) other is = (
-    λ v low. ap is_some (seen_origin (besides t) (besides_sight t) (at after).log (at before).log beside.near v) ∙ is.0 v low,
+    λ v low. ap is_some (seen_origin (besides ended t) (besides_sight ended t) (at after).log (at before).log beside.near v) ∙ is.0 v low,
     λ v same. elim (cases_eq v t) [
       | inl one ↦
-          let life = alone_life (at before) (at after) t n env _ _ (silent_after script cps before t n env e r silent (hold before stand)) in
-          ap (λ (w : ℕ). is_begun (stage_at (at after).log w)) one ∙ ap (λ (l : Life). is_begun l.stage) life
+          ap (λ (w : ℕ). is_begun (stage_at (at after).log w)) one ∙ ap (λ (l : Life). is_begun l.stage) life_one ∙ not_begun n view_is.way (life_of t (at before).log)
       | inr ne ↦
-          ap (λ (l : Life). is_begun l.stage) (other_life t (at after).log (at before).log beside.near v ne)
+          ap (λ (l : Life). is_begun l.stage) (other_life ended t (at after).log (at before).log beside.near v ne)
           ∙ is.1 v (ap (job_executor script) (sym (beside.jobs v ne)) ∙ same ∙ ap (job_executor script) (beside.jobs u other))
     ],
   )
@@ -382,39 +460,34 @@ module _ (script : ScriptView) (cps : List CheckpointView) (before : List Block)
   abbrev then_first : List Block
   then_first = (hb ++ c ∷ []) ++ ran e later_turn ∷ []
 
-  abbrev view_is : GoesOnAlone script (left_as r.frame r.effects r.after) silent.runs.stands.runs.0 silent.runs.job.frames.outer r.exit
-  view_is = goes_alone script (left_as r.frame r.effects r.after) silent.runs.stands.runs.0 silent.runs.job.frames.outer r.exit silent.alone
-
-  alone_one : AfterAlone (at before) (at after) t n env view_is.view view_is.resume
-  alone_one = silent_after script cps before t n env e r silent (hold before stand)
-
-  alone_two : AfterAlone (at hb) (at then_first) t n later_env view_is.view view_is.resume
+  alone_two : AfterAlone (at hb) (at then_first) t n later_env view_is.way
   alone_two = silent_after script cps hb t n later_env e later_turn silent_later (hold hb hb_stand)
 
-  kept_after : KeepsJob (at after) (at first_then) t
-  kept_after = block_keeps_job script cps after b t after_stand stands_after of_other (ap (λ (l : Life). is_under_way l.stage) (alone_life (at before) (at after) t n env view_is.view view_is.resume alone_one))
+  life_two : life_of t (at then_first).log ≡ life_by n view_is.way (life_of t (at hb).log)
+  life_two = alone_life (at hb) (at then_first) t n later_env view_is.way alone_two
 
-  both_seen : AreSeen (besides t) (at then_first).log (at first_then).log
-  both_seen = alone_seen (at hb) (at then_first) t n later_env view_is.view view_is.resume alone_two (ap waited given_b) ∙ sym block_after.near
+  both_seen : AreSeen (besides ended t) (at then_first).log (at first_then).log
+  both_seen = alone_seen (at hb) (at then_first) t n later_env view_is.way alone_two (ap waited given_b) (λ is. apart_b (sym view_is.over_is ∙ is)) ∙ sym block_after.near
 
   both_lives : life_of t (at then_first).log ≡ life_of t (at first_then).log
   both_lives =
       let a : Life = life_of t (at then_first).log in
       let d : Life = life_of t (at first_then).log in
-      let at_two = alone_life (at hb) (at then_first) t n later_env view_is.view view_is.resume alone_two in
-      let at_one = alone_life (at before) (at after) t n env view_is.view view_is.resume alone_one in
-      let origin : a.origin ≡ d.origin = seen_origin (besides t) (besides_sight t) (at then_first).log (at first_then).log both_seen t in
-      let ending : a.ending ≡ d.ending = seen_ending (besides t) (besides_sight t) (at then_first).log (at first_then).log both_seen t in
-      let given : a.given ≡ d.given = ap (λ (l : Life). l.given) at_two ∙ sym (kept_after.same.given ∙ ap (λ (l : Life). l.given) at_one) in
-      let stage : a.stage ≡ d.stage = ap (λ (l : Life). l.stage) at_two ∙ sym (kept_after.same.stage ∙ ap (λ (l : Life). l.stage) at_one) in
+      let first : Life = life_of t (at before).log in
+      let second : Life = life_of t (at hb).log in
+      let keeps = block_after.keeps.same in
+      let origin : a.origin ≡ d.origin = seen_origin (besides ended t) (besides_sight ended t) (at then_first).log (at first_then).log both_seen t in
+      let given : a.given ≡ d.given = ap (λ (l : Life). l.given) life_two ∙ same_given n view_is.way first second kept.same.given ∙ ap (λ (l : Life). l.given) (sym life_one) ∙ sym keeps.given in
+      let stage : a.stage ≡ d.stage = ap (λ (l : Life). l.stage) life_two ∙ same_stage n view_is.way first second ∙ ap (λ (l : Life). l.stage) (sym life_one) ∙ sym keeps.stage in
+      let ending : a.ending ≡ d.ending = ap (λ (l : Life). l.ending) life_two ∙ same_end n view_is.way first second kept.same.ending ∙ ap (λ (l : Life). l.ending) (sym life_one) ∙ sym keeps.ending in
       λ k. record { origin = origin k; given = given k; stage = stage k; ending = ending k }
 
   both_jobs : (u : ℕ) → (at then_first).jobs u ≡ (at first_then).jobs u
   both_jobs u = elim (cases_eq u t) [
     | inl same ↦
-        ap (at then_first).jobs same ∙ alone_job (at hb) (at then_first) t n later_env view_is.view view_is.resume alone_two
-        ∙ sym (kept_after.job ∙ alone_job (at before) (at after) t n env view_is.view view_is.resume alone_one) ∙ ap (at first_then).jobs (sym same)
-    | inr ne ↦ alone_jobs (at hb) (at then_first) t n later_env view_is.view view_is.resume alone_two u ne ∙ sym (block_after.jobs u ne)
+        ap (at then_first).jobs same ∙ alone_job (at hb) (at then_first) t n later_env view_is.way alone_two
+        ∙ sym (block_after.keeps.job ∙ alone_job (at before) (at after) t n env view_is.way alone_one) ∙ ap (at first_then).jobs (sym same)
+    | inr ne ↦ alone_jobs (at hb) (at then_first) t n later_env view_is.way alone_two u ne ∙ sym (block_after.jobs u ne)
   ]
 
   both_fields : (k : ℕ) → fields_of script cps k then_first ≡ fields_of script cps k first_then
@@ -438,7 +511,7 @@ module _ (script : ScriptView) (cps : List CheckpointView) (before : List Block)
   pub both_lead : LeadAlike script cps then_first first_then
   both_lead = record {
     standing = record {
-      digest = one_digest t (at then_first).log (at first_then).log both_seen both_lives;
+      digest = one_digest ended t (at then_first).log (at first_then).log both_seen both_lives;
       held = ap (held_plans script) (alone_two.held ∙ sym block_after.held);
       jobs = λ u. ap (option_map (job_plan script)) (both_jobs u);
     };

@@ -24,7 +24,7 @@ block_keeps_job script cps bs b t stood stands of_other under =
     counted = all_keep script cps [] bs stood (first_counted script)
 
     by_kind : (c : Block) → Stands script cps bs c → IsOfOther t c → KeepsJob s (after_block script s c) t
-    by_kind (added r) stands of_other = root_keeps_job script s counted r t (λ is.
+    by_kind (added r) stands of_other = root_keeps_job script s r t (λ is.
         (let none = unbegun (counted.each t) (ap (λ (u : ℕ). (life_of u s.log).origin) (sym is) ∙ stands.1) in false≢true (sym none ∙ under)))
     by_kind (begun u m env) stands of_other = record { same = begin_keeps_job s u m env t of_other; job = refl }
     by_kind (ran e r) stands of_other = turn_keeps_job script s counted e r.task r.number r.effects r.exit r.after stands.job r.env r.frame stands.stands t of_other under

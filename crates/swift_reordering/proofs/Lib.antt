@@ -28,3 +28,5 @@ pub mod SilentWalk
 pub mod SilentEnds
 pub mod RunAhead
 pub mod AheadWalk
+pub mod Naming
+pub mod Apart

@@ -29,7 +29,7 @@ use Rattle.std.specs.List.{cons_option}
 abbrev pub blurs : ℕ → Life → Life
 blurs u l = blurred_life l
 
-blurred_twice : (s : Option JobStage) → blurred_stage s ≡ blurred_stage (blurred_stage s)
+pub blurred_twice : (s : Option JobStage) → blurred_stage s ≡ blurred_stage (blurred_stage s)
 blurred_twice None = refl
 blurred_twice (Some (Begun env)) = refl
 blurred_twice (Some Given) = refl
@@ -38,11 +38,11 @@ blurred_twice (Some (Waits t)) = refl
 blurred_twice (Some (Asks g)) = refl
 blurred_twice (Some (Closes g)) = refl
 
-later_blurred : (x s : Option JobStage) → blurred_stage (later x s) ≡ blurred_stage (later x (blurred_stage s))
+pub later_blurred : (x s : Option JobStage) → blurred_stage (later x s) ≡ blurred_stage (later x (blurred_stage s))
 later_blurred None s = blurred_twice s
 later_blurred (Some x) s = refl
 
-waits_blurred : (s : Option JobStage) → waited (blurred_stage s) ≡ waited s
+pub waits_blurred : (s : Option JobStage) → waited (blurred_stage s) ≡ waited s
 waits_blurred None = refl
 waits_blurred (Some (Begun env)) = refl
 waits_blurred (Some Given) = refl
@@ -51,12 +51,13 @@ waits_blurred (Some (Waits t)) = refl
 waits_blurred (Some (Asks g)) = refl
 waits_blurred (Some (Closes g)) = refl
 
-pub blurs_sight : IsSight blurs
+abbrev pub blurs_sight : IsSight blurs
 blurs_sight = record {
+  hides = λ u. false;
   again = λ u l. ap (λ (s : Option JobStage). record l { stage = s }) (blurred_twice l.stage);
   on = λ u l e. ap (λ (s : Option JobStage). record (lived l e) { stage = s }) (later_blurred (stage_in e) l.stage);
   origin = λ u l. refl;
-  ending = λ u l. refl;
+  ending = λ u l shown. refl;
   waits = λ u l. waits_blurred l.stage;
 }
 
@@ -71,7 +72,7 @@ module _ (a b : List Event) (same : AreNear a b) where
   near_origin = seen_origin blurs blurs_sight a b same
 
   pub near_ending : (t : ℕ) → (life_of t a).ending ≡ (life_of t b).ending
-  near_ending = seen_ending blurs blurs_sight a b same
+  near_ending t = seen_ending blurs blurs_sight a b same t refl
 
   pub near_given : (t : ℕ) → (life_of t a).given ≡ (life_of t b).given
   near_given t = ap (λ (l : Life). l.given) (seen_life blurs blurs_sight a b same t)

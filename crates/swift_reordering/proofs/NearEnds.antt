@@ -1,9 +1,9 @@
 -- The end of a turn on two logs that differ only in which turns under way have begun, and in which environments.
-use Rattle.std.proofs.Common.{◌≡◌, ◌⊎◌, ℕ, List, ◌++◌}
+use Rattle.std.proofs.Common.{◌≡◌, ◌⊎◌, ℕ, List, ◌++◌, false, refl}
 use Rattle.std.specs.Prelude.{Option}
 use Rattle.std.specs.List.{AllByRecursion}
 use Rattle.swift_types.specs.declared.priority.Priority.{Priority}
-use Rattle.swift_script.specs.Scripts.{ScriptView}
+use Rattle.swift_script.specs.Scripts.{ScriptView, root_count}
 use Rattle.swift_interpreter.specs.Turn.{EffectView, ExitView}
 use Rattle.swift_turn.specs.Body.{Advanced}
 use Rattle.swift_events.specs.declared.event.Event.{Event}
@@ -28,4 +28,5 @@ EndNear = seen.EndSeen blurs blurs_sight
 pub near_end : (a b : List Event) → AreNear a b → (script : ScriptView) (held : List (Option WaitingTaskView)) (t n : ℕ) (own other : Priority) (effects : List EffectView) (exit : ExitView) (adv : Advanced)
     → (own ≡ other) ⊎ AllByRecursion seen.TakesNone effects → ChildrenAreNew (turn_end script a held t n own effects exit adv).log → ChildrenAreNew (turn_end script b held t n other effects exit adv).log
     → EndNear a b (turn_end script a held t n own effects exit adv) (turn_end script b held t n other effects exit adv)
-near_end = seen.seen_end blurs blurs_sight
+near_end a b same script held t n own other effects exit adv free =
+    seen.seen_end blurs blurs_sight a b same script held t n own other effects exit adv free (seen.all_shown (λ u. false) (λ u. refl) (root_count script) t n own a effects exit)

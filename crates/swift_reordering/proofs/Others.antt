@@ -4,6 +4,7 @@ use Rattle.std.specs.Prelude.{Option, Some, None, ◌==◌, if◌then◌else◌}
 use Rattle.std.specs.List.{AllByRecursion}
 use Rattle.std.proofs.lemmas.Bool.{cases_eq, ne_eqb, false≢true}
 use Rattle.swift_types.specs.declared.env.Env.{Env}
+use Rattle.swift_types.specs.declared.outcome.Ending.{Ending}
 use Rattle.swift_types.specs.declared.priority.Priority.{Priority}
 use Rattle.swift_script.specs.Scripts.{ScriptView, root_count, root_priority}
 use Rattle.swift_interpreter.specs.Frames.{FrameView}
@@ -15,7 +16,7 @@ use Rattle.swift_events.specs.declared.life.Life.{Life}
 use Rattle.swift_events.specs.declared.life.LastJob.{LastJob}
 use Rattle.swift_events.specs.declared.life.JobStage.{JobStage}
 use Rattle.swift_events.specs.Events.{later, task_of}
-use Rattle.swift_events.specs.Lives.{life_of, stage_in, given_in}
+use Rattle.swift_events.specs.Lives.{life_of, stage_in, given_in, ending_in}
 use Rattle.swift_events.proofs.LogLemmas.{life_of-push_same, life_of-push_other}
 use Rattle.swift_history.specs.Checks.{is_under_way}
 use Rattle.swift_history.specs.TurnEnds.{JobFacts, TurnEnd, task, gives, root_job, exit_events, log_after, turn_end}
@@ -30,35 +31,37 @@ use Rattle.swift_reordering.specs.Blurred.{stage_at}
 abbrev given_at : List Event → ℕ → Option LastJob
 given_at log u = (life_of u log).given
 
--- how far the job of task `u` is, and which one it is
+-- how far the job of task `u` is, which one it is, and how the task has ended
 pub record SameJob (first : List Event) (u : ℕ) (log : List Event) : Type 0 where
   pub stage : stage_at log u ≡ stage_at first u
   pub given : given_at log u ≡ given_at first u
+  pub ending : (life_of u log).ending ≡ (life_of u first).ending
 
 abbrev SaysNoJob : Event → Type 0
-SaysNoJob e = (stage_in e ≡ None) × (given_in e ≡ None)
+SaysNoJob e = (stage_in e ≡ None) × (given_in e ≡ None) × (ending_in e ≡ None)
 
 job_other : (first : List Event) (u : ℕ) (log : List Event) (e : Event) → task_of e ≢ u → SameJob first u log → SameJob first u (log ++ e ∷ [])
-job_other first u log e ne same = (let is = life_of-push_other u log e ne in record { stage = ap (λ (l : Life). l.stage) is ∙ same.stage; given = ap (λ (l : Life). l.given) is ∙ same.given })
+job_other first u log e ne same = (let is = life_of-push_other u log e ne in record { stage = ap (λ (l : Life). l.stage) is ∙ same.stage; given = ap (λ (l : Life). l.given) is ∙ same.given; ending = ap (λ (l : Life). l.ending) is ∙ same.ending })
 
 job_quiet : (first : List Event) (u : ℕ) (log : List Event) (e : Event) → SaysNoJob e → SameJob first u log → SameJob first u (log ++ e ∷ [])
 job_quiet first u log e quiet same = elim (cases_eq (task_of e) u) [
   | inl one ↦ (let is = life_of-push_same u log e one in record {
     stage = ap (λ (l : Life). l.stage) is ∙ ap (λ (x : Option JobStage). later x (stage_at log u)) quiet.0 ∙ same.stage;
     given = ap (λ (l : Life). l.given) is ∙ ap (λ (x : Option LastJob). later x (given_at log u)) quiet.1 ∙ same.given;
+    ending = ap (λ (l : Life). l.ending) is ∙ ap (λ (x : Option Ending). later x (life_of u log).ending) quiet.2 ∙ same.ending;
   })
   | inr ne ↦ job_other first u log e ne same
 ]
 
 -- what a turn of task `t` writes before it gives jobs
 written_job : (roots t u : ℕ) (first log : List Event) (e : Event) → t ≢ u → IsWritten roots t log e → SameJob first u log → SameJob first u (log ++ e ∷ [])
-written_job roots t u first log (Free made by p detached) ne w same = job_quiet first u log (Free made by p detached) (refl, refl) same
-written_job roots t u first log (Child made o g p) ne w same = job_quiet first u log (Child made o g p) (refl, refl) same
-written_job roots t u first log (Open o g) ne w same = job_quiet first u log (Open o g) (refl, refl) same
-written_job roots t u first log (Skip o g) ne w same = job_quiet first u log (Skip o g) (refl, refl) same
-written_job roots t u first log (CancelTask v) ne w same = job_quiet first u log (CancelTask v) (refl, refl) same
-written_job roots t u first log (CancelGroup o g) ne w same = job_quiet first u log (CancelGroup o g) (refl, refl) same
-written_job roots t u first log (End v ending) ne w same = job_quiet first u log (End v ending) (refl, refl) same
+written_job roots t u first log (Free made by p detached) ne w same = job_quiet first u log (Free made by p detached) (refl, refl, refl) same
+written_job roots t u first log (Child made o g p) ne w same = job_quiet first u log (Child made o g p) (refl, refl, refl) same
+written_job roots t u first log (Open o g) ne w same = job_quiet first u log (Open o g) (refl, refl, refl) same
+written_job roots t u first log (Skip o g) ne w same = job_quiet first u log (Skip o g) (refl, refl, refl) same
+written_job roots t u first log (CancelTask v) ne w same = job_quiet first u log (CancelTask v) (refl, refl, refl) same
+written_job roots t u first log (CancelGroup o g) ne w same = job_quiet first u log (CancelGroup o g) (refl, refl, refl) same
+written_job roots t u first log (End v ending) ne w same = job_other first u log (End v ending) (λ is. ne (sym w ∙ is)) same
 written_job roots t u first log (Wait v awaited) ne w same = job_other first u log (Wait v awaited) (λ is. ne (sym w ∙ is)) same
 written_job roots t u first log (Next o g) ne w same = job_other first u log (Next o g) (λ is. ne (sym w ∙ is)) same
 written_job roots t u first log (Close o g) ne w same = job_other first u log (Close o g) (λ is. ne (sym w ∙ is)) same
@@ -67,7 +70,7 @@ written_job roots t u first log (Begin v n env) ne w same = absurd w
 written_job roots t u first log (Apply v n) ne w same = absurd w
 written_job roots t u first log (Give v n resume) ne w same = absurd w
 
-abbrev IsNotOf : ℕ → JobFacts → Type 0
+abbrev pub IsNotOf : ℕ → JobFacts → Type 0
 IsNotOf u j = j.task ≢ u
 
 gives_job : (js : List JobFacts) (first : List Event) (u : ℕ) (log : List Event) → AllByRecursion (IsNotOf u) js → SameJob first u log → SameJob first u (log ++ gives js)
@@ -92,40 +95,64 @@ pub record KeepsJob (s z : Standing) (u : ℕ) : Type 0 where
   pub same : SameJob s.log u z.log
   pub job : z.jobs u ≡ s.jobs u
 
-module _ (script : ScriptView) (s : Standing) (counted : AreCounted (root_count script) s.log s.held) where
-  -- a turn leaves the job of another task, where that is under way
-  pub turn_keeps_job : (e t n : ℕ) (effects : List EffectView) (exit : ExitView) (after : Option FrameView) (job : JobFacts) (env : Env) (frame : FrameView) → TurnStands script s e t n effects exit job env frame
-      → (u : ℕ) → t ≢ u → is_under_way (stage_at s.log u) ≡ true → KeepsJob s (turn_applied script s t n effects exit after) u
-  turn_keeps_job e t n effects exit after job env frame stands u ne under =
+module _ (script : ScriptView) (s : Standing) (e t n : ℕ) (effects : List EffectView) (exit : ExitView) (after : Option FrameView) (job : JobFacts) (env : Env) (frame : FrameView) (stands : TurnStands script s e t n effects exit job env frame) where
+  -- the end of a turn
+  abbrev pub end_there : TurnEnd
+  end_there = turn_end script s.log s.held t n (begun_priority (stage_at s.log t)) effects exit (advanced script (left_as frame effects after) stands.runs.0 job.frames.outer exit)
+
+  abbrev own : Priority
+  own = begun_priority (stage_at s.log t)
+
+  abbrev first : List Event
+  first = s.log ++ Apply (task t) n ∷ []
+
+  abbrev done : List Event
+  done = log_after (root_count script) t own first effects
+
+  abbrev written : List Event
+  written = done ++ exit_events t done exit (advanced script (left_as frame effects after) stands.runs.0 job.frames.outer exit).step
+
+  written_keeps : (u : ℕ) → t ≢ u → SameJob s.log u written
+  written_keeps u ne =
       let roots : ℕ = root_count script in
-      let own : Priority = begun_priority (stage_at s.log t) in
       let adv : Advanced = advanced script (left_as frame effects after) stands.runs.0 job.frames.outer exit in
-      let x : TurnEnd = turn_end script s.log s.held t n own effects exit adv in
-      let first : List Event = s.log ++ Apply (task t) n ∷ [] in
-      let done : List Event = log_after roots t own first effects in
-      let written : List Event = done ++ exit_events t done exit adv.step in
-      let is = current_is (life_of t s.log) n job.resume stands.current in
-      let follows = turn_follows script s.held t n own s.log effects exit adv is.0 is.1 counted in
-      let at_first : SameJob s.log u first = job_other s.log u s.log (Apply (task t) n) ne (record { stage = refl; given = refl }) in
+      let at_first : SameJob s.log u first = job_other s.log u s.log (Apply (task t) n) ne (record { stage = refl; given = refl; ending = refl }) in
       let keep = λ (l : List Event) (w : Event) (is_written : IsWritten roots t l w) (same : SameJob s.log u l). written_job roots t u s.log l w ne is_written same in
       let at_done : SameJob s.log u done = keeps_effects (SameJob s.log u) roots t own keep first effects at_first in
-      let at_written : SameJob s.log u written = keeps_exit (SameJob s.log u) roots t own keep done exit adv.step at_done in
-      let none : AllByRecursion (IsNotOf u) x.jobs = none_of x.jobs u written (ap is_under_way at_written.stage ∙ under) follows.1.resting in
+      keeps_exit (SameJob s.log u) roots t own keep done exit adv.step at_done
+
+  -- it gives no job to another task whose turn is under way
+  pub gives_others : AreCounted (root_count script) s.log s.held → (u : ℕ) → t ≢ u → is_under_way (stage_at s.log u) ≡ true → AllByRecursion (IsNotOf u) end_there.jobs
+  gives_others counted u ne under =
+      let adv : Advanced = advanced script (left_as frame effects after) stands.runs.0 job.frames.outer exit in
+      let is = current_is (life_of t s.log) n job.resume stands.current in
+      let follows = turn_follows script s.held t n own s.log effects exit adv is.0 is.1 counted in
+      none_of end_there.jobs u written (ap is_under_way (written_keeps u ne).stage ∙ under) follows.1.resting
+
+  -- a turn leaves the job of another task, where it gives that none
+  pub turn_keeps_by : (u : ℕ) → t ≢ u → AllByRecursion (IsNotOf u) end_there.jobs → KeepsJob s (turn_applied script s t n effects exit after) u
+  turn_keeps_by u ne none =
       subst (λ (z : Standing). KeepsJob s z u) (sym (applied_is script s t n job frame stands.runs.0 effects exit after stands.given stands.runs.1)) (record {
-        same = gives_job x.jobs s.log u written none at_written;
-        job = with_others x.jobs (taken t s.jobs) u none ∙ ap (λ (b : Bool). if b then None else s.jobs u) (ne_eqb u t (λ is. ne (sym is)));
+        same = gives_job end_there.jobs s.log u written none (written_keeps u ne);
+        job = with_others end_there.jobs (taken t s.jobs) u none ∙ ap (λ (b : Bool). if b then None else s.jobs u) (ne_eqb u t (λ is. ne (sym is)));
       })
 
-  -- and so does a root
-  pub root_keeps_job : (r u : ℕ) → r ≢ u → KeepsJob s (after_block script s (added r)) u
-  root_keeps_job r u ne =
-      let e : Event = Root (task r) (root_priority script r) in
-      record {
-        same = subst (SameJob s.log u) (append_assoc s.log (e ∷ []) (gives (root_job script r ∷ [])))
-            (gives_job (root_job script r ∷ []) s.log u (s.log ++ e ∷ []) (ne, tt) (job_other s.log u s.log e ne (record { stage = refl; given = refl })));
-        job = with_others (root_job script r ∷ []) s.jobs u (ne, tt);
-      }
+-- so it does where that is under way
+pub turn_keeps_job : (script : ScriptView) (s : Standing) → AreCounted (root_count script) s.log s.held → (e t n : ℕ) (effects : List EffectView) (exit : ExitView) (after : Option FrameView) (job : JobFacts) (env : Env) (frame : FrameView)
+    → TurnStands script s e t n effects exit job env frame → (u : ℕ) → t ≢ u → is_under_way (stage_at s.log u) ≡ true → KeepsJob s (turn_applied script s t n effects exit after) u
+turn_keeps_job script s counted e t n effects exit after job env frame stands u ne under =
+    turn_keeps_by script s e t n effects exit after job env frame stands u ne (gives_others script s e t n effects exit after job env frame stands counted u ne under)
+
+-- and so does a root
+pub root_keeps_job : (script : ScriptView) (s : Standing) (r u : ℕ) → r ≢ u → KeepsJob s (after_block script s (added r)) u
+root_keeps_job script s r u ne =
+    let e : Event = Root (task r) (root_priority script r) in
+    record {
+      same = subst (SameJob s.log u) (append_assoc s.log (e ∷ []) (gives (root_job script r ∷ [])))
+          (gives_job (root_job script r ∷ []) s.log u (s.log ++ e ∷ []) (ne, tt) (job_other s.log u s.log e ne (record { stage = refl; given = refl; ending = refl })));
+      job = with_others (root_job script r ∷ []) s.jobs u (ne, tt);
+    }
 
 -- a begin leaves the jobs of other tasks
 pub begin_keeps_job : (s : Standing) (t n : ℕ) (env : Env) (u : ℕ) → t ≢ u → SameJob s.log u (s.log ++ Begin (task t) n env ∷ [])
-begin_keeps_job s t n env u ne = job_other s.log u s.log (Begin (task t) n env) ne (record { stage = refl; given = refl })
+begin_keeps_job s t n env u ne = job_other s.log u s.log (Begin (task t) n env) ne (record { stage = refl; given = refl; ending = refl })

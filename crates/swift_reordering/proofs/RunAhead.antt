@@ -1,5 +1,5 @@
 -- Silent turns run ahead of a history: each step that may follow the history may follow after them, or is one of them.
-use Rattle.std.proofs.Common.{◌≡◌, ◌≢◌, ◌⊎◌, ℕ, List, [], ◌∷◌, ◌++◌, map, refl, sym, ◌∙◌, ap, ap₂, subst, subst₂, true, inl, inr, append_assoc, append-nil}
+use Rattle.std.proofs.Common.{◌≡◌, ◌≢◌, ◌⊎◌, ℕ, List, [], ◌∷◌, ◌++◌, map, refl, sym, ◌∙◌, ap, ap₂, subst, subst₂, Bool, true, inl, inr, append_assoc, append-nil}
 use Rattle.std.specs.Prelude.{Option, Some, is_some, ◌||◌}
 use Rattle.std.specs.Option.{option_map}
 use Rattle.std.proofs.lemmas.Bool.{cases_eq}
@@ -29,6 +29,7 @@ use Rattle.swift_reordering.specs.Blurred.{stage_at}
 use Rattle.swift_reordering.specs.RunAhead.{OneTurn, after_turn, after_turns, RunsSilently, AllRunSilently, LeadAsOne}
 use Rattle.swift_reordering.specs.Silent.{goes_on_alone, code_is_silent, frame_is_silent}
 use Rattle.swift_reordering.specs.SilentTurns.{Commutes}
+use Rattle.swift_reordering.specs.Unnamed.{IsApart, ends_task}
 use Rattle.swift_reordering.specs.Waiting.{IsOfOther}
 use Rattle.swift_reordering.proofs.Bringing.{number_one}
 use Rattle.swift_reordering.proofs.Closed.{same_away}
@@ -37,28 +38,31 @@ use Rattle.swift_reordering.proofs.Diamonds.{silent_commutes}
 use Rattle.swift_reordering.proofs.Holding.{hold_always}
 use Rattle.swift_reordering.proofs.Keeping.{block_keeps_job}
 use Rattle.swift_reordering.proofs.Sights.{waited}
-use Rattle.swift_reordering.proofs.SilentSteps.{silent_after, alone_seen, alone_jobs}
+use Rattle.swift_reordering.proofs.SilentSteps.{silent_after, over_apart, alone_seen, alone_jobs}
 
--- frames of one plan are silent, and go on alone, both or neither
+-- frames of one plan are silent, and go on alone or end their task, both or neither
 
 plan_silent : (script : ScriptView) (p q : FrameView) → plan_of script p ≡ plan_of script q → frame_is_silent script p ≡ frame_is_silent script q
 plan_silent script p q same = ap (λ (h : FramePlan). is_some h.pending || code_is_silent h.todo true) same
 
-alone_rest : (script : ScriptView) (ps qs : List FrameView) (exit : ExitView) → map (caller_plan script) ps ≡ map (caller_plan script) qs → goes_on_alone ps exit ≡ goes_on_alone qs exit
-alone_rest script [] [] exit same = refl
+abbrev LeaveAlike : List FrameView → List FrameView → ExitView → Type 0
+LeaveAlike ps qs exit = (goes_on_alone ps exit ≡ goes_on_alone qs exit) × (ends_task ps exit ≡ ends_task qs exit)
+
+alone_rest : (script : ScriptView) (ps qs : List FrameView) (exit : ExitView) → map (caller_plan script) ps ≡ map (caller_plan script) qs → LeaveAlike ps qs exit
+alone_rest script [] [] exit same = (refl, refl)
 alone_rest script (p ∷ ps) (q ∷ qs) exit same = by_exit exit where
-  by_exit : (x : ExitView) → goes_on_alone (p ∷ ps) x ≡ goes_on_alone (q ∷ qs) x
-  by_exit (calling c) = refl
-  by_exit (waiting t) = refl
-  by_exit (asking_next n) = refl
-  by_exit (closing n f) = refl
-  by_exit yielding = refl
-  by_exit (returning v) = refl
-  by_exit (failing f) = refl
+  by_exit : (x : ExitView) → LeaveAlike (p ∷ ps) (q ∷ qs) x
+  by_exit (calling c) = (refl, refl)
+  by_exit (waiting t) = (refl, refl)
+  by_exit (asking_next n) = (refl, refl)
+  by_exit (closing n f) = (refl, refl)
+  by_exit yielding = (refl, refl)
+  by_exit (returning v) = (refl, refl)
+  by_exit (failing f) = (refl, refl)
 alone_rest script [] (q ∷ qs) exit same = absurd (cc same)
 alone_rest script (p ∷ ps) [] exit same = absurd (cc same)
 
-alone_frames : (script : ScriptView) (fs gs ps qs : List FrameView) (p q : FrameView) (exit : ExitView) → fs ≡ p ∷ ps → gs ≡ q ∷ qs → frame_plans script fs ≡ frame_plans script gs → goes_on_alone ps exit ≡ goes_on_alone qs exit
+alone_frames : (script : ScriptView) (fs gs ps qs : List FrameView) (p q : FrameView) (exit : ExitView) → fs ≡ p ∷ ps → gs ≡ q ∷ qs → frame_plans script fs ≡ frame_plans script gs → LeaveAlike ps qs exit
 alone_frames script fs gs ps qs p q exit one two same =
     let both : plan_of script p ∷ map (caller_plan script) ps ≡ plan_of script q ∷ map (caller_plan script) qs = ap (frame_plans script) (sym one) ∙ same ∙ ap (frame_plans script) two in
     alone_rest script ps qs exit (cc both)
@@ -193,7 +197,9 @@ module _ (script : ScriptView) (cps : List CheckpointView) where
             own = silent.own;
             number = silent.number;
             quiet = plan_silent script frame x.turn.frame (sym p.like.1) ∙ silent.quiet;
-            alone = alone ∙ silent.alone;
+            alone = ap₂ (λ (x y : Bool). x || y) alone.0 alone.1 ∙ silent.alone;
+            unnamed = λ is. silent.unnamed (sym alone.1 ∙ is);
+            apart = λ is. subst (IsApart x.task) same.0.standing.digest (silent.apart (sym alone.1 ∙ is));
           };
           away = sym (same_away script cps h k same.0 x.task) ∙ runs.away;
         };
@@ -370,8 +376,8 @@ module _ (script : ScriptView) (cps : List CheckpointView) (hold : (e : ℕ) →
       let one = silent_after script cps h x.task x.number x.env x.executor x.turn silent (hold_always script cps x.executor (hold x.executor) h all) in
       let s = at script cps h in
       let z = at script cps (after_turn h x) in (
-        alone_jobs s z x.task x.number x.env _ _ one u ne,
-        other_life x.task z.log s.log (alone_seen s z x.task x.number x.env _ _ one (ap waited silent.given)) u ne,
+        alone_jobs s z x.task x.number x.env _ one u ne,
+        other_life _ x.task z.log s.log (alone_seen s z x.task x.number x.env _ one (ap waited silent.given) (over_apart script cps h x.task x.number x.env x.executor x.turn silent (hold_always script cps x.executor (hold x.executor) h all))) u ne,
       )
 
   -- a task of such a turn has a job that looks away, and its turn has not begun

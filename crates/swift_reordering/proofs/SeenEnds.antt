@@ -109,31 +109,76 @@ own_end script log held t n own other effects exit adv (inr all) =
     end))
     (own_after (root_count script) t own other effects begun all) (own_made script t own other effects begun all)
 
+-- Each task that a turn names at its end shows how it has ended: those that its effects cancel, by the log before each, and the one that it
+-- waits for.
+
+abbrev pub NameShown : (ℕ → Bool) → ℕ → List Event → TaskName → Type 0
+NameShown hides t log name = hides (named_task t name log).0 ≡ false
+
+abbrev pub EffectShown : (ℕ → Bool) → ℕ → List Event → EffectView → Type 0
+EffectShown hides t log (cancelling_task name) = NameShown hides t log name
+EffectShown hides t log _ = Unit {0}
+
+abbrev pub EffectsShown : (ℕ → Bool) → ℕ → ℕ → Priority → List EffectView → List Event → Type 0
+EffectsShown hides roots t own [] log = Unit {0}
+EffectsShown hides roots t own (e ∷ es) log = EffectShown hides t log e × EffectsShown hides roots t own es (log ++ effect_events roots t own log e)
+
+abbrev pub ExitShown : (ℕ → Bool) → ℕ → List Event → ExitView → Type 0
+ExitShown hides t log (waiting name) = NameShown hides t log name
+ExitShown hides t log _ = Unit {0}
+
+pub record TurnShown (hides : ℕ → Bool) (roots t n : ℕ) (own : Priority) (log : List Event) (effects : List EffectView) (exit : ExitView) : Type 0 where
+  pub effects_are : EffectsShown hides roots t own effects (log ++ Apply (task t) n ∷ [])
+  pub exit_is : ExitShown hides t (log_after roots t own (log ++ Apply (task t) n ∷ []) effects) exit
+
+-- where nothing is hidden
+module _ (hides : ℕ → Bool) (none : (u : ℕ) → hides u ≡ false) where
+  effect_none : (t : ℕ) (log : List Event) (e : EffectView) → EffectShown hides t log e
+  effect_none t log (cancelling_task name) = none (named_task t name log).0
+  effect_none t log (spawning i p bindings) = tt
+  effect_none t log (detaching i p) = tt
+  effect_none t log opening = tt
+  effect_none t log (adding g unless i p bindings) = tt
+  effect_none t log (cancelling_group g) = tt
+
+  effects_none : (roots t : ℕ) (own : Priority) (es : List EffectView) (log : List Event) → EffectsShown hides roots t own es log
+  effects_none roots t own [] log = tt
+  effects_none roots t own (e ∷ es) log = (effect_none t log e, effects_none roots t own es (log ++ effect_events roots t own log e))
+
+  exit_none : (t : ℕ) (log : List Event) (exit : ExitView) → ExitShown hides t log exit
+  exit_none t log (waiting name) = none (named_task t name log).0
+  exit_none t log (calling i) = tt
+  exit_none t log (asking_next g) = tt
+  exit_none t log (closing g f) = tt
+  exit_none t log yielding = tt
+  exit_none t log (returning v) = tt
+  exit_none t log (failing f) = tt
+
+  pub all_shown : (roots t n : ℕ) (own : Priority) (log : List Event) (effects : List EffectView) (exit : ExitView) → TurnShown hides roots t n own log effects exit
+  all_shown roots t n own log effects exit = record { effects_are = effects_none roots t own effects _; exit_is = exit_none t _ exit }
+
 module _ (sees : ℕ → Life → Life) (sight : IsSight sees) where
   module _ (a b : List Event) (same : AreSeen sees a b) where
     same_named : (t : ℕ) (name : TaskName) → named_task t name a ≡ named_task t name b
     same_named t (RootName r) = refl
     same_named t (Own k) = ap (λ (us : List TaskId). unwrap_or (slice_get us k) (task 0)) (seen_own sees sight a b same t)
 
-    same_ending : (t : ℕ) → (life_of t a).ending ≡ (life_of t b).ending
-    same_ending t = seen_ending sees sight a b same t
-
     same_left_out : (t g : ℕ) (unless : Bool) → is_left_out t g unless a ≡ is_left_out t g unless b
     same_left_out t g unless = ap (λ (x : Bool). unless && x) (seen_cancelled_group sees sight a b same t g)
 
-    same_cancel : (t : ℕ) (name : TaskName) → cancel_events (named_task t name a) a ≡ cancel_events (named_task t name b) b
-    same_cancel t name =
-        ap (λ (o : Option Ending). if is_some o then [] else CancelTask (named_task t name a) ∷ []) (same_ending (named_task t name a).0)
+    same_cancel : (t : ℕ) (name : TaskName) → NameShown sight.hides t a name → cancel_events (named_task t name a) a ≡ cancel_events (named_task t name b) b
+    same_cancel t name shown =
+        ap (λ (o : Option Ending). if is_some o then [] else CancelTask (named_task t name a) ∷ []) (seen_ending sees sight a b same (named_task t name a).0 shown)
         ∙ ap (λ (u : TaskId). cancel_events u b) (same_named t name)
 
-    same_effect : (roots t : ℕ) (own : Priority) (e : EffectView) → effect_events roots t own a e ≡ effect_events roots t own b e
-    same_effect roots t own (spawning i p bindings) = ap (λ (n : ℕ). Free (task n) (task t) (unwrap_or p own) false ∷ []) (seen_tasks sees sight a b same roots)
-    same_effect roots t own (detaching i p) = ap (λ (n : ℕ). Free (task n) (task t) p true ∷ []) (seen_tasks sees sight a b same roots)
-    same_effect roots t own opening = ap (λ (n : ℕ). Open (task t) n ∷ []) (seen_opened sees sight a b same t)
-    same_effect roots t own (adding g unless i p bindings) =
+    same_effect : (roots t : ℕ) (own : Priority) (e : EffectView) → EffectShown sight.hides t a e → effect_events roots t own a e ≡ effect_events roots t own b e
+    same_effect roots t own (spawning i p bindings) shown = ap (λ (n : ℕ). Free (task n) (task t) (unwrap_or p own) false ∷ []) (seen_tasks sees sight a b same roots)
+    same_effect roots t own (detaching i p) shown = ap (λ (n : ℕ). Free (task n) (task t) p true ∷ []) (seen_tasks sees sight a b same roots)
+    same_effect roots t own opening shown = ap (λ (n : ℕ). Open (task t) n ∷ []) (seen_opened sees sight a b same t)
+    same_effect roots t own (adding g unless i p bindings) shown =
         ap₂ (λ (x : Bool) (n : ℕ). if x then Skip (task t) g ∷ [] else Child (task n) (task t) g (unwrap_or p Background) ∷ []) (same_left_out t g unless) (seen_tasks sees sight a b same roots)
-    same_effect roots t own (cancelling_task name) = same_cancel t name
-    same_effect roots t own (cancelling_group g) = refl
+    same_effect roots t own (cancelling_task name) shown = same_cancel t name shown
+    same_effect roots t own (cancelling_group g) shown = refl
 
     same_job : (script : ScriptView) (t : ℕ) (e : EffectView) → effect_jobs script t a e ≡ effect_jobs script t b e
     same_job script t (spawning i p bindings) = ap (λ (n : ℕ). first_job script n i.method i.args bindings ∷ []) (seen_tasks sees sight a b same (root_count script))
@@ -146,27 +191,27 @@ module _ (sees : ℕ → Life → Life) (sight : IsSight sees) where
 
     -- exits
 
-    same_exit : (t : ℕ) (exit : ExitView) (step : Step) → ChildrenAreNew a → ChildrenAreNew b → exit_events t a exit step ≡ exit_events t b exit step
-    same_exit t (waiting name) step new_a new_b =
-        ap (λ (o : Option Ending). wait_events t (named_task t name a) o) (same_ending (named_task t name a).0)
+    same_exit : (t : ℕ) (exit : ExitView) (step : Step) → ExitShown sight.hides t a exit → ChildrenAreNew a → ChildrenAreNew b → exit_events t a exit step ≡ exit_events t b exit step
+    same_exit t (waiting name) step shown new_a new_b =
+        ap (λ (o : Option Ending). wait_events t (named_task t name a) o) (seen_ending sees sight a b same (named_task t name a).0 shown)
         ∙ ap (λ (u : TaskId). wait_events t u (life_of u.0 b).ending) (same_named t name)
-    same_exit t (asking_next g) step new_a new_b = ap (λ (x : GroupView). next_events t g (next_of x)) (seen_group sees sight a b same t g new_a new_b)
-    same_exit t (closing g f) step new_a new_b = refl
-    same_exit t (calling i) step new_a new_b = refl
-    same_exit t yielding step new_a new_b = refl
-    same_exit t (returning v) step new_a new_b = refl
-    same_exit t (failing f) step new_a new_b = refl
+    same_exit t (asking_next g) step shown new_a new_b = ap (λ (x : GroupView). next_events t g (next_of x)) (seen_group sees sight a b same t g new_a new_b)
+    same_exit t (closing g f) step shown new_a new_b = refl
+    same_exit t (calling i) step shown new_a new_b = refl
+    same_exit t yielding step shown new_a new_b = refl
+    same_exit t (returning v) step shown new_a new_b = refl
+    same_exit t (failing f) step shown new_a new_b = refl
 
-    same_resume : (t : ℕ) (exit : ExitView) (step : Step) → ChildrenAreNew a → ChildrenAreNew b → exit_resume t a exit step ≡ exit_resume t b exit step
-    same_resume t (waiting name) step new_a new_b =
-        ap (λ (o : Option Ending). wait_resume o) (same_ending (named_task t name a).0)
+    same_resume : (t : ℕ) (exit : ExitView) (step : Step) → ExitShown sight.hides t a exit → ChildrenAreNew a → ChildrenAreNew b → exit_resume t a exit step ≡ exit_resume t b exit step
+    same_resume t (waiting name) step shown new_a new_b =
+        ap (λ (o : Option Ending). wait_resume o) (seen_ending sees sight a b same (named_task t name a).0 shown)
         ∙ ap (λ (u : TaskId). wait_resume (life_of u.0 b).ending) (same_named t name)
-    same_resume t (asking_next g) step new_a new_b = ap (λ (x : GroupView). next_resume (next_of x)) (seen_group sees sight a b same t g new_a new_b)
-    same_resume t (closing g f) step new_a new_b = ap (λ (x : GroupView). close_resume (close_of x)) (seen_group sees sight a b same t g new_a new_b)
-    same_resume t (calling i) step new_a new_b = refl
-    same_resume t yielding step new_a new_b = refl
-    same_resume t (returning v) step new_a new_b = refl
-    same_resume t (failing f) step new_a new_b = refl
+    same_resume t (asking_next g) step shown new_a new_b = ap (λ (x : GroupView). next_resume (next_of x)) (seen_group sees sight a b same t g new_a new_b)
+    same_resume t (closing g f) step shown new_a new_b = ap (λ (x : GroupView). close_resume (close_of x)) (seen_group sees sight a b same t g new_a new_b)
+    same_resume t (calling i) step shown new_a new_b = refl
+    same_resume t yielding step shown new_a new_b = refl
+    same_resume t (returning v) step shown new_a new_b = refl
+    same_resume t (failing f) step shown new_a new_b = refl
 
     -- what follows
 
@@ -198,16 +243,11 @@ module _ (sees : ℕ → Life → Life) (sight : IsSight sees) where
 
   -- effects, in order
 
-  same_after : (roots t : ℕ) (own : Priority) (es : List EffectView) (a b : List Event) → AreSeen sees a b → AreSeen sees (log_after roots t own a es) (log_after roots t own b es)
-  same_after roots t own [] a b same = same
-  same_after roots t own (e ∷ es) a b same =
-      same_after roots t own es (a ++ effect_events roots t own a e) (b ++ effect_events roots t own b e) (seen_on sees sight a b _ _ same (same_effect a b same roots t own e))
-
-  same_made : (script : ScriptView) (t : ℕ) (own : Priority) (es : List EffectView) (a b : List Event) → AreSeen sees a b → jobs_made script t own a es ≡ jobs_made script t own b es
-  same_made script t own [] a b same = refl
-  same_made script t own (e ∷ es) a b same =
+  same_made : (script : ScriptView) (t : ℕ) (own : Priority) (es : List EffectView) (a b : List Event) → AreSeen sees a b → EffectsShown sight.hides (root_count script) t own es a → jobs_made script t own a es ≡ jobs_made script t own b es
+  same_made script t own [] a b same shown = refl
+  same_made script t own (e ∷ es) a b same shown =
       ap₂ (λ (xs ys : List JobFacts). xs ++ ys) (same_job a b same script t e)
-      (same_made script t own es (a ++ effect_events (root_count script) t own a e) (b ++ effect_events (root_count script) t own b e) (seen_on sees sight a b _ _ same (same_effect a b same (root_count script) t own e)))
+      (same_made script t own es (a ++ effect_events (root_count script) t own a e) (b ++ effect_events (root_count script) t own b e) (seen_on sees sight a b _ _ same (same_effect a b same (root_count script) t own e shown.0)) shown.1)
 
   -- both
   pub record AreJoint (first other a b : List Event) : Type 0 where
@@ -223,10 +263,10 @@ module _ (sees : ℕ → Life → Life) (sight : IsSight sees) where
     gone = subst (λ (xs : List Event). HaveGoneOn first other (a ++ es) (b ++ xs)) is (gone_all es first other a b both.gone);
   }
 
-  joint_after : (roots t : ℕ) (own : Priority) (es : List EffectView) (first other a b : List Event) → AreJoint first other a b → AreJoint first other (log_after roots t own a es) (log_after roots t own b es)
-  joint_after roots t own [] first other a b both = both
-  joint_after roots t own (e ∷ es) first other a b both =
-      joint_after roots t own es first other (a ++ effect_events roots t own a e) (b ++ effect_events roots t own b e) (joint_on first other a b _ _ both (same_effect a b both.near roots t own e))
+  joint_after : (roots t : ℕ) (own : Priority) (es : List EffectView) (first other a b : List Event) → AreJoint first other a b → EffectsShown sight.hides roots t own es a → AreJoint first other (log_after roots t own a es) (log_after roots t own b es)
+  joint_after roots t own [] first other a b both shown = both
+  joint_after roots t own (e ∷ es) first other a b both shown =
+      joint_after roots t own es first other (a ++ effect_events roots t own a e) (b ++ effect_events roots t own b e) (joint_on first other a b _ _ both (same_effect a b both.near roots t own e shown.0)) shown.1
 
   -- the whole end of a turn: the same jobs, the same tasks wait, and the logs have gone on by the same events
   pub record EndSeen (a b : List Event) (x y : TurnEnd) : Type 0 where
@@ -235,25 +275,25 @@ module _ (sees : ℕ → Life → Life) (sight : IsSight sees) where
     pub jobs : x.jobs ≡ y.jobs
 
   one_end : (a b : List Event) → AreSeen sees a b → (script : ScriptView) (held : List (Option WaitingTaskView)) (t n : ℕ) (own : Priority) (effects : List EffectView) (exit : ExitView) (adv : Advanced)
-      → ChildrenAreNew (turn_end script a held t n own effects exit adv).log → ChildrenAreNew (turn_end script b held t n own effects exit adv).log
+      → TurnShown sight.hides (root_count script) t n own a effects exit → ChildrenAreNew (turn_end script a held t n own effects exit adv).log → ChildrenAreNew (turn_end script b held t n own effects exit adv).log
       → EndSeen a b (turn_end script a held t n own effects exit adv) (turn_end script b held t n own effects exit adv)
-  one_end a b same script held t n own effects exit adv new_a new_b =
+  one_end a b same script held t n own effects exit adv shown new_a new_b =
       let roots : ℕ = root_count script in
       let first_a : List Event = a ++ Apply (task t) n ∷ [] in
       let first_b : List Event = b ++ Apply (task t) n ∷ [] in
       let first : AreJoint a b first_a first_b = joint_on a b a b _ _ (joint_first a b same) refl in
       let done_a : List Event = log_after roots t own first_a effects in
       let done_b : List Event = log_after roots t own first_b effects in
-      let done : AreJoint a b done_a done_b = joint_after roots t own effects a b first_a first_b first in
+      let done : AreJoint a b done_a done_b = joint_after roots t own effects a b first_a first_b first shown.effects_are in
       let end_a : List Event = done_a ++ exit_events t done_a exit adv.step in
       let end_b : List Event = done_b ++ exit_events t done_b exit adv.step in
       let new_end_a : ChildrenAreNew end_a = new_prefix end_a _ new_a in
       let new_end_b : ChildrenAreNew end_b = new_prefix end_b _ new_b in
       let new_done_a : ChildrenAreNew done_a = new_prefix done_a _ new_end_a in
       let new_done_b : ChildrenAreNew done_b = new_prefix done_b _ new_end_b in
-      let ended : AreJoint a b end_a end_b = joint_on a b done_a done_b _ _ done (same_exit done_a done_b done.near t exit adv.step new_done_a new_done_b) in
-      let made : jobs_made script t own first_a effects ≡ jobs_made script t own first_b effects = same_made script t own effects first_a first_b first.near in
-      let resume = same_resume done_a done_b done.near t exit adv.step new_done_a new_done_b in
+      let ended : AreJoint a b end_a end_b = joint_on a b done_a done_b _ _ done (same_exit done_a done_b done.near t exit adv.step shown.exit_is new_done_a new_done_b) in
+      let made : jobs_made script t own first_a effects ≡ jobs_made script t own first_b effects = same_made script t own effects first_a first_b first.near shown.effects_are in
+      let resume = same_resume done_a done_b done.near t exit adv.step shown.exit_is new_done_a new_done_b in
       let start : List JobFacts → AfterTurn = λ js. record { held = held ++ replicate (length js) None; jobs = js } in
       let f_a : AfterTurn = followed t (n + 1) adv.task (exit_resume t done_a exit adv.step) adv.step end_a (start (jobs_made script t own first_a effects)) in
       let f_b : AfterTurn = followed t (n + 1) adv.task (exit_resume t done_b exit adv.step) adv.step end_b (start (jobs_made script t own first_b effects)) in
@@ -267,9 +307,9 @@ module _ (sees : ℕ → Life → Life) (sight : IsSight sees) where
       }
 
   pub seen_end : (a b : List Event) → AreSeen sees a b → (script : ScriptView) (held : List (Option WaitingTaskView)) (t n : ℕ) (own other : Priority) (effects : List EffectView) (exit : ExitView) (adv : Advanced)
-      → (own ≡ other) ⊎ AllByRecursion TakesNone effects → ChildrenAreNew (turn_end script a held t n own effects exit adv).log → ChildrenAreNew (turn_end script b held t n other effects exit adv).log
+      → (own ≡ other) ⊎ AllByRecursion TakesNone effects → TurnShown sight.hides (root_count script) t n own a effects exit → ChildrenAreNew (turn_end script a held t n own effects exit adv).log → ChildrenAreNew (turn_end script b held t n other effects exit adv).log
       → EndSeen a b (turn_end script a held t n own effects exit adv) (turn_end script b held t n other effects exit adv)
-  seen_end a b same script held t n own other effects exit adv free new_a new_b =
+  seen_end a b same script held t n own other effects exit adv free shown new_a new_b =
       let is = own_end script b held t n own other effects exit adv free in
       subst (EndSeen a b (turn_end script a held t n own effects exit adv)) is
-      (one_end a b same script held t n own effects exit adv new_a (subst (λ (e : TurnEnd). ChildrenAreNew e.log) (sym is) new_b))
+      (one_end a b same script held t n own effects exit adv shown new_a (subst (λ (e : TurnEnd). ChildrenAreNew e.log) (sym is) new_b))

@@ -21,12 +21,13 @@ waited (Some (Asks g)) = Some (Asks g)
 waited (Some (Closes g)) = Some (Closes g)
 waited _ = None
 
--- What is seen of lives goes on by events, and shows where a task comes from, how it ended, and what it waits for.
+-- What is seen of lives goes on by events, and shows where a task comes from, what it waits for, and, unless that is hidden, how it ended.
 pub record IsSight (sees : ℕ → Life → Life) : Type 0 where
+  pub hides : ℕ → Bool
   pub again : (u : ℕ) (l : Life) → sees u l ≡ sees u (sees u l)
   pub on : (u : ℕ) (l : Life) (e : Event) → sees u (lived l e) ≡ sees u (lived (sees u l) e)
   pub origin : (u : ℕ) (l : Life) → (sees u l).origin ≡ l.origin
-  pub ending : (u : ℕ) (l : Life) → (sees u l).ending ≡ l.ending
+  pub ending : (u : ℕ) (l : Life) → hides u ≡ false → (sees u l).ending ≡ l.ending
   pub waits : (u : ℕ) (l : Life) → waited (sees u l).stage ≡ waited l.stage
 
 -- a digest with lives so seen, and logs of which that is one
@@ -83,8 +84,8 @@ module _ (sees : ℕ → Life → Life) (sight : IsSight sees) where
     pub seen_origin : (t : ℕ) → (life_of t a).origin ≡ (life_of t b).origin
     seen_origin t = sym (sight.origin t (life_of t a)) ∙ ap (λ (l : Life). l.origin) (seen_life t) ∙ sight.origin t (life_of t b)
 
-    pub seen_ending : (t : ℕ) → (life_of t a).ending ≡ (life_of t b).ending
-    seen_ending t = sym (sight.ending t (life_of t a)) ∙ ap (λ (l : Life). l.ending) (seen_life t) ∙ sight.ending t (life_of t b)
+    pub seen_ending : (t : ℕ) → sight.hides t ≡ false → (life_of t a).ending ≡ (life_of t b).ending
+    seen_ending t shown = sym (sight.ending t (life_of t a) shown) ∙ ap (λ (l : Life). l.ending) (seen_life t) ∙ sight.ending t (life_of t b) shown
 
     pub seen_waits : (t : ℕ) → waited (life_of t a).stage ≡ waited (life_of t b).stage
     seen_waits t = sym (sight.waits t (life_of t a)) ∙ ap (λ (l : Life). waited l.stage) (seen_life t) ∙ sight.waits t (life_of t b)

@@ -1,9 +1,12 @@
--- Where a silent turn leads: only the job of its own task changes.
+-- Where a silent turn leads: only the job of its own task changes, or that task has ended.
 use Rattle.std.proofs.Common.{◌≡◌, ◌≢◌, ℕ, ℤ, ◌+◌, List, [], ◌∷◌, ◌++◌, length, refl, sym, ◌∙◌, ap, ap₂, subst, Bool, true, false, append-nil}
-use Rattle.std.specs.Prelude.{Option, Some, None, ◌==◌, nat_lt, if◌then◌else◌}
+use Rattle.std.specs.Prelude.{Option, Some, None, ◌==◌, ◌||◌, nat_lt, if◌then◌else◌}
 use Rattle.std.specs.List.{cons_option}
 use Rattle.std.proofs.lemmas.Bool.{eq-eqb, eqb-true, ne_eqb, false≢true}
 use Rattle.swift_types.specs.declared.env.Env.{Env}
+use Rattle.swift_types.specs.declared.id.TaskId.{TaskId}
+use Rattle.swift_types.specs.declared.outcome.Ending.{Ending}
+use Rattle.swift_types.specs.declared.outcome.Ending.TheVariants as ending
 use Rattle.swift_types.specs.declared.limits.TheConstants.{FRAMES}
 use Rattle.swift_types.specs.declared.outcome.Fault.TheVariants.{Depth}
 use Rattle.swift_types.specs.declared.outcome.Resume.{Resume}
@@ -17,75 +20,126 @@ use Rattle.swift_journal.specs.Records.{RecordView}
 use Rattle.swift_journal.specs.Replay.{turn_of, replay}
 use Rattle.swift_journal.specs.Checkpoints.{CheckpointView}
 use Rattle.swift_events.specs.declared.event.Event.{Event}
-use Rattle.swift_events.specs.declared.event.Event.TheVariants.{Begin, Apply, Give}
+use Rattle.swift_events.specs.declared.event.Event.TheVariants.{Begin, Apply, End, Give}
 use Rattle.swift_events.specs.declared.life.Life.{Life}
+use Rattle.swift_events.specs.declared.life.JobStage.{JobStage}
 use Rattle.swift_events.specs.declared.life.JobStage.TheVariants.{Given, Begun, Applied}
 use Rattle.swift_events.specs.Lives.{life_of}
-use Rattle.swift_events.proofs.LogLemmas.{life_of-push_same}
-use Rattle.swift_history.specs.TurnEnds.{JobFacts, WaitingTaskView, TurnEnd, task, gives, resume_at, turn_end}
+use Rattle.swift_events.specs.Relations.{parent_of, waiters_of}
+use Rattle.swift_events.proofs.LogLemmas.{life_of-push_same, parent_of-push, waiters_of-push_none}
+use Rattle.swift_history.specs.TurnEnds.{JobFacts, WaitingTaskView, AfterTurn, TurnEnd, task, gives, resume_at, resume_of, wake_all, wake_each, wake_parent, turn_end}
 use Rattle.swift_history.specs.Histories.{Block, begun, ran, Standing, at_first, after_block, after_blocks, with_jobs, taken, begun_priority, left_as, fields_of}
 use Rattle.swift_laws.proofs.HistoriesTurns.{after_push, applied_is}
+use Rattle.swift_digest.specs.Digests.{digest_of}
+use Rattle.swift_digest.proofs.Answers.{parent_of_is, waiters_of_is}
 use Rattle.swift_digest.proofs.SameStands.{fields_push}
 use Rattle.swift_reordering.specs.Blurred.{stage_at}
 use Rattle.swift_reordering.specs.SilentTurns.{IsSilentTurn}
 use Rattle.swift_reordering.specs.Silent.{goes_on_alone}
+use Rattle.swift_reordering.specs.Unnamed.{IsApart, ends_task}
+use Rattle.swift_reordering.proofs.Apart.{Apart, LeavesApart, apart_push}
 use Rattle.swift_reordering.proofs.Sights.{waited, AreSeen}
-use Rattle.swift_reordering.proofs.Beside.{besides, seen_local}
+use Rattle.swift_reordering.proofs.Beside.{IsOfJob, besides, seen_local}
 use Rattle.swift_reordering.proofs.SilentPlay.{SamePlay, silent_turn}
 
--- the end of a turn that goes on alone
+-- the end of a turn after which the task goes on alone, or has ended
+
+-- how the task goes on: with these frames and this resume; or it has ended
+pub data WayOut : Type 0 where
+  goes : TaskView → Resume → WayOut
+  over : Ending → WayOut
+
+abbrev pub is_over : WayOut → Bool
+is_over (goes v resume) = false
+is_over (over x) = true
 
 abbrev pub job_after : ℕ → ℕ → TaskView → Resume → JobFacts
 job_after t n v resume = record { task = t; number = n + 1; resume = resume_at (n + 1) resume; frames = v }
 
-abbrev pub alone_end : List Event → List (Option WaitingTaskView) → ℕ → ℕ → TaskView → Resume → TurnEnd
-alone_end log held t n v resume = record {
-  log = (log ++ Apply (task t) n ∷ []) ++ gives (job_after t n v resume ∷ []);
+-- the event that is written last
+abbrev pub last_event : ℕ → ℕ → WayOut → Event
+last_event t n (goes v resume) = Give (task t) (n + 1) (resume_at (n + 1) resume)
+last_event t n (over x) = End (task t) x
+
+-- the job that is made
+abbrev pub last_job : ℕ → ℕ → WayOut → List JobFacts
+last_job t n (goes v resume) = job_after t n v resume ∷ []
+last_job t n (over x) = []
+
+abbrev pub alone_end : List Event → List (Option WaitingTaskView) → ℕ → ℕ → WayOut → TurnEnd
+alone_end log held t n way = record {
+  log = (log ++ Apply (task t) n ∷ []) ++ last_event t n way ∷ [];
   held = held;
-  jobs = job_after t n v resume ∷ [];
+  jobs = last_job t n way;
 }
 
--- what an exit that goes on alone comes to
+-- nobody waits for a task that has ended
+abbrev pub IsFree : WayOut → ℕ → List Event → Type 0
+IsFree (goes v resume) t log = Unit {0}
+IsFree (over x) t log = (waiters_of t log ≡ []) × (parent_of t log ≡ None)
+
+-- what an exit comes to after which the task goes on alone, or has ended
 pub record GoesOnAlone (script : ScriptView) (p : FrameView) (callers : List FrameView) (outer : List (ℕ × ℤ)) (exit : ExitView) : Type 0 where
-  pub view : TaskView
-  pub resume : Resume
-  pub end_is : (log : List Event) (held : List (Option WaitingTaskView)) (t n : ℕ) (own : Priority) → turn_end script log held t n own [] exit (advanced script p callers outer exit) ≡ alone_end log held t n view resume
+  pub way : WayOut
+  pub over_is : is_over way ≡ ends_task callers exit
+  pub end_is : (log : List Event) (held : List (Option WaitingTaskView)) (t n : ℕ) (own : Priority) → IsFree way t log → turn_end script log held t n own [] exit (advanced script p callers outer exit) ≡ alone_end log held t n way
 
 plain_end : (log : List Event) (held : List (Option WaitingTaskView)) (t n : ℕ) (v : TaskView) (resume : Resume)
-    → ◌≡◌ {A = TurnEnd} (record { log = ((log ++ Apply (task t) n ∷ []) ++ []) ++ gives (job_after t n v resume ∷ []); held = held ++ []; jobs = job_after t n v resume ∷ [] }) (alone_end log held t n v resume)
+    → ◌≡◌ {A = TurnEnd} (record { log = ((log ++ Apply (task t) n ∷ []) ++ []) ++ gives (job_after t n v resume ∷ []); held = held ++ []; jobs = job_after t n v resume ∷ [] }) (alone_end log held t n (goes v resume))
 plain_end log held t n v resume = ap₂ (λ (l : List Event) (h : List (Option WaitingTaskView)). record { log = l ++ gives (job_after t n v resume ∷ []); held = h; jobs = job_after t n v resume ∷ [] })
     (append-nil (log ++ Apply (task t) n ∷ [])) (append-nil held)
 
+-- the end of a task for which nobody waits wakes none
+ended_end : (log : List Event) (held : List (Option WaitingTaskView)) (t n : ℕ) (x : Ending) → IsFree (over x) t log
+    → (let written = (log ++ Apply (task t) n ∷ []) ++ End (task t) x ∷ [] in let f = wake_all t x written (record { held = held ++ []; jobs = [] }) in ◌≡◌ {A = TurnEnd} (record { log = written ++ gives f.jobs; held = f.held; jobs = f.jobs }) (alone_end log held t n (over x)))
+ended_end log held t n x free =
+    let written : List Event = (log ++ Apply (task t) n ∷ []) ++ End (task t) x ∷ [] in
+    let none : waiters_of t written ≡ [] = waiters_of-push_none t (log ++ Apply (task t) n ∷ []) (End (task t) x) refl ∙ waiters_of-push_none t log (Apply (task t) n) refl ∙ free.0 in
+    let nobody : parent_of t written ≡ None = parent_of-push t (log ++ Apply (task t) n ∷ []) (End (task t) x) refl ∙ parent_of-push t log (Apply (task t) n) refl ∙ free.1 in
+    let first : AfterTurn = record { held = held ++ []; jobs = [] } in
+    let same : wake_all t x written first ≡ first = ap₂ (λ (p : Option (ℕ × ℕ)) (us : List TaskId). wake_parent p x written (wake_each us (resume_of x) first)) nobody none in
+    ap (λ (f : AfterTurn). record { log = written ++ gives f.jobs; held = f.held; jobs = f.jobs }) same
+    ∙ ap₂ (λ (l : List Event) (h : List (Option WaitingTaskView)). record { log = l; held = h; jobs = [] }) (append-nil written) (append-nil held)
+
 called_alone : (script : ScriptView) (p : FrameView) (callers : List FrameView) (outer : List (ℕ × ℤ)) (c : InvocationView) (b : Bool) → nat_lt (length (p ∷ callers)) FRAMES ≡ b → GoesOnAlone script p callers outer (calling c)
 called_alone script p callers outer c true is = record {
-  view = (called script p callers outer c).task;
-  resume = Start;
-  end_is = λ log held t n own. rw is (plain_end log held t n _ _);
+  way = goes (called script p callers outer c).task Start;
+  over_is = refl;
+  end_is = λ log held t n own free. rw is (plain_end log held t n _ _);
 }
 called_alone script p callers outer c false is = record {
-  view = (called script p callers outer c).task;
-  resume = Raise Depth;
-  end_is = λ log held t n own. rw is (plain_end log held t n _ _);
+  way = goes (called script p callers outer c).task (Raise Depth);
+  over_is = refl;
+  end_is = λ log held t n own free. rw is (plain_end log held t n _ _);
 }
 
-pub goes_alone : (script : ScriptView) (p : FrameView) (callers : List FrameView) (outer : List (ℕ × ℤ)) (exit : ExitView) → goes_on_alone callers exit ≡ true → GoesOnAlone script p callers outer exit
+pub goes_alone : (script : ScriptView) (p : FrameView) (callers : List FrameView) (outer : List (ℕ × ℤ)) (exit : ExitView) → (goes_on_alone callers exit || ends_task callers exit) ≡ true → GoesOnAlone script p callers outer exit
 goes_alone script p callers outer (calling c) is = called_alone script p callers outer c (nat_lt (length (p ∷ callers)) FRAMES) refl
-goes_alone script p callers outer yielding is = record { view = _; resume = _; end_is = λ log held t n own. plain_end log held t n (record { frames = p ∷ callers; outer = outer }) Go }
-goes_alone script p (q ∷ callers) outer (returning v) is = record { view = (advanced script p (q ∷ callers) outer (returning v)).task; resume = Value v; end_is = λ log held t n own. plain_end log held t n _ _ }
-goes_alone script p (q ∷ callers) outer (failing f) is = record { view = (advanced script p (q ∷ callers) outer (failing f)).task; resume = Raise f; end_is = λ log held t n own. plain_end log held t n _ _ }
-goes_alone script p [] outer (returning v) is = absurd (false≢true is)
-goes_alone script p [] outer (failing f) is = absurd (false≢true is)
+goes_alone script p callers outer yielding is = record { way = goes (record { frames = p ∷ callers; outer = outer }) Go; over_is = refl; end_is = λ log held t n own free. plain_end log held t n (record { frames = p ∷ callers; outer = outer }) Go }
+goes_alone script p (q ∷ callers) outer (returning v) is = record { way = goes (advanced script p (q ∷ callers) outer (returning v)).task (Value v); over_is = refl; end_is = λ log held t n own free. plain_end log held t n _ _ }
+goes_alone script p (q ∷ callers) outer (failing f) is = record { way = goes (advanced script p (q ∷ callers) outer (failing f)).task (Raise f); over_is = refl; end_is = λ log held t n own free. plain_end log held t n _ _ }
+goes_alone script p [] outer (returning v) is = record { way = over (ending.Value v); over_is = refl; end_is = λ log held t n own free. ended_end log held t n (ending.Value v) free }
+goes_alone script p [] outer (failing f) is = record { way = over (ending.Fault f); over_is = refl; end_is = λ log held t n own free. ended_end log held t n (ending.Fault f) free }
 goes_alone script p callers outer (waiting x) is = absurd (false≢true is)
 goes_alone script p callers outer (asking_next g) is = absurd (false≢true is)
 goes_alone script p callers outer (closing g f) is = absurd (false≢true is)
 
--- where one job is in place of another
-pub record AfterAlone (s z : Standing) (t n : ℕ) (env : Env) (view : TaskView) (resume : Resume) : Type 0 where
-  pub log : z.log ≡ ((s.log ++ Begin (task t) n env ∷ []) ++ Apply (task t) n ∷ []) ++ gives (job_after t n view resume ∷ [])
+-- where one job is in place of another, or none is
+pub record AfterAlone (s z : Standing) (t n : ℕ) (env : Env) (way : WayOut) : Type 0 where
+  pub log : z.log ≡ ((s.log ++ Begin (task t) n env ∷ []) ++ Apply (task t) n ∷ []) ++ last_event t n way ∷ []
   pub held : z.held ≡ s.held
-  pub jobs : z.jobs ≡ with_jobs (job_after t n view resume ∷ []) (taken t s.jobs)
+  pub jobs : z.jobs ≡ with_jobs (last_job t n way) (taken t s.jobs)
 
-module _ (s z : Standing) (t n : ℕ) (env : Env) (view : TaskView) (resume : Resume) (alone : AfterAlone s z t n env view resume) where
+-- the life of the task after it
+abbrev pub life_by : ℕ → WayOut → Life → Life
+life_by n (goes v resume) l = record l { given = Some (record { number = n + 1; resume = resume_at (n + 1) resume }); stage = Some Given }
+life_by n (over x) l = record l { stage = Some Applied; ending = Some x }
+
+abbrev pub job_by : ℕ → ℕ → WayOut → Option JobFacts
+job_by t n (goes v resume) = Some (job_after t n v resume)
+job_by t n (over x) = None
+
+module _ (s z : Standing) (t n : ℕ) (env : Env) (way : WayOut) (alone : AfterAlone s z t n env way) where
   abbrev one : List Event
   one = s.log ++ Begin (task t) n env ∷ []
 
@@ -93,28 +147,55 @@ module _ (s z : Standing) (t n : ℕ) (env : Env) (view : TaskView) (resume : Re
   two = one ++ Apply (task t) n ∷ []
 
   -- the log says nothing else
-  pub alone_seen : waited (stage_at s.log t) ≡ None → AreSeen (besides t) z.log s.log
-  alone_seen none =
+  pub alone_seen : waited (stage_at s.log t) ≡ None → (is_over way ≡ true → IsApart t (digest_of s.log)) → AreSeen (besides (is_over way) t) z.log s.log
+  alone_seen none apart =
       let at_one : stage_at one t ≡ Some (Begun env) = ap (λ (l : Life). l.stage) (life_of-push_same t s.log (Begin (task t) n env) refl) in
       let at_two : stage_at two t ≡ Some Applied = ap (λ (l : Life). l.stage) (life_of-push_same t one (Apply (task t) n) refl) in
-      subst (λ (l : List Event). AreSeen (besides t) l s.log) (sym alone.log)
-      (seen_local t two (Give (task t) (n + 1) (resume_at (n + 1) resume)) refl (ap waited at_two)
-      ∙ seen_local t one (Apply (task t) n) refl (ap waited at_one)
-      ∙ seen_local t s.log (Begin (task t) n env) refl none)
+      let apart_one = λ (is : is_over way ≡ true). apart_push t s.log (Begin (task t) n env) tt (apart is) in
+      let apart_two = λ (is : is_over way ≡ true). apart_push t one (Apply (task t) n) tt (apart_one is) in
+      subst (λ (l : List Event). AreSeen (besides (is_over way) t) l s.log) (sym alone.log)
+      (seen_local (is_over way) t two (last_event t n way) (last_of_job way) (ap waited at_two) apart_two
+      ∙ seen_local (is_over way) t one (Apply (task t) n) refl (ap waited at_one) apart_one
+      ∙ seen_local (is_over way) t s.log (Begin (task t) n env) refl none apart)
+    where
+      last_of_job : (w : WayOut) → IsOfJob (is_over w) t (last_event t n w)
+      last_of_job (goes v resume) = refl
+      last_of_job (over x) = (refl, refl)
+
+  -- it leaves the task apart
+  pub alone_apart : IsApart t (digest_of s.log) → IsApart t (digest_of z.log)
+  alone_apart apart = subst (Apart t) (sym alone.log) (apart_push t two (last_event t n way) (last_leaves way) (apart_push t one (Apply (task t) n) tt (apart_push t s.log (Begin (task t) n env) tt apart))) where
+    last_leaves : (w : WayOut) → LeavesApart t (last_event t n w)
+    last_leaves (goes v resume) = tt
+    last_leaves (over x) = tt
 
   -- the life of the task
-  pub alone_life : life_of t z.log ≡ record (life_of t s.log) { given = Some (record { number = n + 1; resume = resume_at (n + 1) resume }); stage = Some Given }
+  pub alone_life : life_of t z.log ≡ life_by n way (life_of t s.log)
   alone_life =
-      ap (life_of t) alone.log ∙ life_of-push_same t two (Give (task t) (n + 1) (resume_at (n + 1) resume)) refl
-      ∙ ap (λ (l : Life). record l { given = Some (record { number = n + 1; resume = resume_at (n + 1) resume }); stage = Some Given })
-      (life_of-push_same t one (Apply (task t) n) refl ∙ ap (λ (l : Life). record l { stage = Some Applied }) (life_of-push_same t s.log (Begin (task t) n env) refl))
+      ap (life_of t) alone.log ∙ by_way way
+      ∙ ap (life_by n way) (life_of-push_same t one (Apply (task t) n) refl ∙ ap (λ (l : Life). record l { stage = Some Applied }) (life_of-push_same t s.log (Begin (task t) n env) refl))
+      ∙ forgets way
+    where
+      by_way : (w : WayOut) → life_of t (two ++ last_event t n w ∷ []) ≡ life_by n w (life_of t two)
+      by_way (goes v resume) = life_of-push_same t two (Give (task t) (n + 1) (resume_at (n + 1) resume)) refl
+      by_way (over x) = life_of-push_same t two (End (task t) x) refl ∙ ap (λ (o : Option JobStage). record (life_of t two) { stage = o; ending = Some x }) (ap (λ (l : Life). l.stage) (life_of-push_same t one (Apply (task t) n) refl))
+
+      forgets : (w : WayOut) → life_by n w (record (life_of t s.log) { stage = Some Applied }) ≡ life_by n w (life_of t s.log)
+      forgets (goes v resume) = refl
+      forgets (over x) = refl
 
   -- jobs of others
   pub alone_jobs : (u : ℕ) → u ≢ t → z.jobs u ≡ s.jobs u
-  alone_jobs u ne = ap (λ (f : ℕ → Option JobFacts). f u) alone.jobs ∙ ap (λ (b : Bool). if b then Some (job_after t n view resume) else (if b then None else s.jobs u)) (ne_eqb u t ne)
+  alone_jobs u ne = ap (λ (f : ℕ → Option JobFacts). f u) alone.jobs ∙ by_way way where
+    by_way : (w : WayOut) → with_jobs (last_job t n w) (taken t s.jobs) u ≡ s.jobs u
+    by_way (goes v resume) = ap (λ (b : Bool). if b then Some (job_after t n v resume) else (if b then None else s.jobs u)) (ne_eqb u t ne)
+    by_way (over x) = ap (λ (b : Bool). if b then None else s.jobs u) (ne_eqb u t ne)
 
-  pub alone_job : z.jobs t ≡ Some (job_after t n view resume)
-  alone_job = ap (λ (f : ℕ → Option JobFacts). f t) alone.jobs ∙ ap (λ (b : Bool). if b then Some (job_after t n view resume) else (if b then None else s.jobs t)) (eq-eqb t t refl)
+  pub alone_job : z.jobs t ≡ job_by t n way
+  alone_job = ap (λ (f : ℕ → Option JobFacts). f t) alone.jobs ∙ by_way way where
+    by_way : (w : WayOut) → with_jobs (last_job t n w) (taken t s.jobs) t ≡ job_by t n w
+    by_way (goes v resume) = ap (λ (b : Bool). if b then Some (job_after t n v resume) else (if b then None else s.jobs t)) (eq-eqb t t refl)
+    by_way (over x) = ap (λ (b : Bool). if b then None else s.jobs t) (eq-eqb t t refl)
 
 module _ (script : ScriptView) (cps : List CheckpointView) where
   -- each invariant holds of the fields
@@ -163,7 +244,19 @@ module _ (script : ScriptView) (cps : List CheckpointView) where
     abbrev after : List Block
     after = (before ++ begun t n env ∷ []) ++ ran e r ∷ []
 
-    pub silent_after : AfterAlone s (after_blocks script (at_first script) after) t n env on_alone.view on_alone.resume
+    abbrev pub over_is : is_over on_alone.way ≡ ends_task silent.runs.stands.runs.0 r.exit
+    over_is = on_alone.over_is
+
+    -- where the task ends nobody has waited for it
+    free : IsFree on_alone.way t mid.log
+    free = by_way on_alone.way over_is where
+      by_way : (w : WayOut) → is_over w ≡ ends_task silent.runs.stands.runs.0 r.exit → IsFree w t mid.log
+      by_way (goes v resume) is = tt
+      by_way (over x) is =
+          let apart : IsApart t (digest_of mid.log) = subst (λ (a : Standing). IsApart t (digest_of a.log)) (sym to_mid) (apart_push t s.log (Begin (task t) n env) tt (silent.apart (sym is))) in
+          (waiters_of_is t mid.log ∙ apart.waiters, parent_of_is t mid.log ∙ apart.parent)
+
+    pub silent_after : AfterAlone s (after_blocks script (at_first script) after) t n env on_alone.way
     silent_after =
         let callers : List FrameView = silent.runs.stands.runs.0 in
         let adv : Advanced = advanced script (left_as r.frame r.effects r.after) callers silent.runs.job.frames.outer r.exit in
@@ -171,16 +264,19 @@ module _ (script : ScriptView) (cps : List CheckpointView) where
         let end_of : ℕ → ℕ → List EffectView → TurnEnd = λ u m es. turn_end script mid.log mid.held u m own es r.exit adv in
         let is = after_push script (at_first script) (before ++ begun t n env ∷ []) (ran e r)
         ∙ applied_is script mid r.task r.number silent.runs.job r.frame callers r.effects r.exit r.after silent.runs.stands.given silent.runs.stands.runs.1 in
-        let end : end_of r.task r.number r.effects ≡ alone_end mid.log mid.held t n on_alone.view on_alone.resume =
-        ap₂ (λ (u m : ℕ). end_of u m r.effects) silent.own silent.number ∙ ap (end_of t n) no_effects ∙ on_alone.end_is mid.log mid.held t n own in
-        let x : TurnEnd = end_of r.task r.number r.effects in
-        let jobs : (after_blocks script (at_first script) after).jobs ≡ with_jobs (alone_end mid.log mid.held t n on_alone.view on_alone.resume).jobs (taken t mid.jobs) =
+        let end : end_of r.task r.number r.effects ≡ alone_end mid.log mid.held t n on_alone.way =
+        ap₂ (λ (u m : ℕ). end_of u m r.effects) silent.own silent.number ∙ ap (end_of t n) no_effects ∙ on_alone.end_is mid.log mid.held t n own free in
+        let jobs : (after_blocks script (at_first script) after).jobs ≡ with_jobs (last_job t n on_alone.way) (taken t mid.jobs) =
         ap (λ (a : Standing). a.jobs) is ∙ ap₂ (λ (js : List JobFacts) (u : ℕ). with_jobs js (taken u mid.jobs)) (ap (λ (y : TurnEnd). y.jobs) end) silent.own in
         record {
-          log = ap (λ (a : Standing). a.log) is ∙ ap (λ (y : TurnEnd). y.log) end ∙ ap (λ (a : Standing). (a.log ++ Apply (task t) n ∷ []) ++ gives (job_after t n on_alone.view on_alone.resume ∷ [])) to_mid;
+          log = ap (λ (a : Standing). a.log) is ∙ ap (λ (y : TurnEnd). y.log) end ∙ ap (λ (a : Standing). (a.log ++ Apply (task t) n ∷ []) ++ last_event t n on_alone.way ∷ []) to_mid;
           held = ap (λ (a : Standing). a.held) is ∙ ap (λ (y : TurnEnd). y.held) end ∙ ap (λ (a : Standing). a.held) to_mid;
-          jobs = jobs ∙ ap (λ (a : Standing). with_jobs (job_after t n on_alone.view on_alone.resume ∷ []) (taken t a.jobs)) to_mid;
+          jobs = jobs ∙ ap (λ (a : Standing). with_jobs (last_job t n on_alone.way) (taken t a.jobs)) to_mid;
         }
+
+    -- the task is apart where it ends
+    pub over_apart : is_over on_alone.way ≡ true → IsApart t (digest_of s.log)
+    over_apart is = silent.apart (sym over_is ∙ is)
 
     -- the fields stay
     fields_if : (b : Bool) (h : List (List ℤ)) → (b ≡ true → h ≡ f) → replay script h (cons_option (if b then Some r else None) []) ≡ h

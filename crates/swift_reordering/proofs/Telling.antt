@@ -1,4 +1,4 @@
--- A method whose instructions look away looks away.
+-- A method whose instructions look away looks away; where they spare a root, it does.
 use Rattle.std.proofs.Common.{◌≡◌, ℕ, zero, suc, List, [], ◌∷◌, refl, sym, ◌∙◌, ap, Bool, true, false}
 use Rattle.std.specs.Prelude.{Option, Some, None, All, Contains, ◌&&◌, slice_get}
 use Rattle.std.proofs.lemmas.Bool.{false≢true}
@@ -11,30 +11,32 @@ use Rattle.script_code.specs.declared.instruction.Act.{Act}
 use Rattle.script_code.specs.declared.instruction.Act.TheVariants as acts
 use Rattle.script_code.specs.declared.instruction.Instruction.{Instruction}
 use Rattle.swift_reordering.proofs.Priorities.{cons_here, cons_more}
-use Rattle.swift_reordering.specs.Away.{term_looks_away, operation_looks_away, code_looks_away, action_looks_away, instruction_looks_away, InstructionsTell}
+use Rattle.swift_reordering.specs.Away.{term_looks_away, operation_looks_away, code_all, action_is, instruction_is, InstructionsTell}
+use Rattle.swift_reordering.specs.Unnamed.{operation_spares, term_spares, InstructionsSpare}
 
--- what an instruction does looks away or not, whatever its followers stand for
-same_action : (at other : ℕ → Code) (a : Act) (next last : ℕ) → action_looks_away (first_by at a next last) ≡ action_looks_away (first_by other a next last)
-same_action at other acts.End next last = refl
-same_action at other (acts.Test e) next last = refl
-same_action at other (acts.SetVariable x e) next last = refl
-same_action at other (acts.SetField p e) next last = refl
-same_action at other (acts.Return e) next last = refl
-same_action at other (acts.Throw e) next last = refl
-same_action at other acts.Check next last = refl
-same_action at other acts.Yield next last = refl
-same_action at other (acts.Wait w) next last = refl
-same_action at other (acts.Receive place e) next last = refl
-same_action at other (acts.Spawn c p h) next last = refl
-same_action at other (acts.Detach c p h) next last = refl
-same_action at other (acts.Add g unless c p) next last = refl
-same_action at other (acts.Cancel c) next last = refl
-same_action at other (acts.Open h) next last = refl
-same_action at other acts.Close next last = refl
-same_action at other (acts.Bind l e) next last = refl
-same_action at other acts.Unbind next last = refl
-same_action at other acts.Assume next last = refl
-same_action at other acts.Isolated next last = refl
+module _ (op : Operation → Bool) (test : Term → Bool) where
+  -- what an instruction does is so or not, whatever its followers stand for
+  same_action : (at other : ℕ → Code) (a : Act) (next last : ℕ) → action_is op test (first_by at a next last) ≡ action_is op test (first_by other a next last)
+  same_action at other acts.End next last = refl
+  same_action at other (acts.Test e) next last = refl
+  same_action at other (acts.SetVariable x e) next last = refl
+  same_action at other (acts.SetField p e) next last = refl
+  same_action at other (acts.Return e) next last = refl
+  same_action at other (acts.Throw e) next last = refl
+  same_action at other acts.Check next last = refl
+  same_action at other acts.Yield next last = refl
+  same_action at other (acts.Wait w) next last = refl
+  same_action at other (acts.Receive place e) next last = refl
+  same_action at other (acts.Spawn c p h) next last = refl
+  same_action at other (acts.Detach c p h) next last = refl
+  same_action at other (acts.Add g unless c p) next last = refl
+  same_action at other (acts.Cancel c) next last = refl
+  same_action at other (acts.Open h) next last = refl
+  same_action at other acts.Close next last = refl
+  same_action at other (acts.Bind l e) next last = refl
+  same_action at other acts.Unbind next last = refl
+  same_action at other acts.Assume next last = refl
+  same_action at other acts.Isolated next last = refl
 
 -- where it does something, that goes on at a number
 goes_on_at : (at : ℕ → Code) (a : Act) (next last : ℕ) (d : Operation) (rest : Code) → does d rest ≡ first_by at a next last → (k : ℕ) × (at k ≡ rest)
@@ -64,26 +66,26 @@ all_true : (a b : Bool) → a ≡ true → b ≡ true → (a && b) ≡ true
 all_true true b one two = two
 all_true false b one two = absurd (false≢true one)
 
-module _ (instructions : List Instruction) (body : Code) (at : ℕ → Code) (follows : FollowsCode instructions body at) (all : All (λ line. instruction_looks_away line ≡ true) instructions) where
-  line_if : (o : Option Instruction) (k : ℕ) → slice_get instructions k ≡ o → action_looks_away (first_if at o) ≡ true
+module _ (op : Operation → Bool) (test : Term → Bool) (instructions : List Instruction) (body : Code) (at : ℕ → Code) (follows : FollowsCode instructions body at) (all : All (λ line. instruction_is op test line ≡ true) instructions) where
+  line_if : (o : Option Instruction) (k : ℕ) → slice_get instructions k ≡ o → action_is op test (first_if at o) ≡ true
   line_if None k is = refl
-  line_if (Some line) k is = same_action at (λ n. code.end) line.act line.next line.other ∙ All-contains (λ x. instruction_looks_away x ≡ true) instructions line all (contains_at instructions k line is)
+  line_if (Some line) k is = same_action op test at (λ n. code.end) line.act line.next line.other ∙ All-contains (λ x. instruction_is op test x ≡ true) instructions line all (contains_at instructions k line is)
 
-  line_away : (k : ℕ) → action_looks_away (first (at k)) ≡ true
-  line_away k = ap action_looks_away (follows.each k) ∙ line_if (slice_get instructions k) k refl
+  line_is : (k : ℕ) → action_is op test (first (at k)) ≡ true
+  line_is k = ap (action_is op test) (follows.each k) ∙ line_if (slice_get instructions k) k refl
 
   -- what statements begin with, and where they go on
 
-  after_act : (d : Operation) (rest : Code) (k : ℕ) → at k ≡ code.act d rest → (operation_looks_away d ≡ true) × ((n : ℕ) × (at n ≡ rest))
+  after_act : (d : Operation) (rest : Code) (k : ℕ) → at k ≡ code.act d rest → (op d ≡ true) × ((n : ℕ) × (at n ≡ rest))
   after_act d rest k is = (
-    ap (λ (c : Code). action_looks_away (first c)) (sym is) ∙ line_away k,
+    ap (λ (c : Code). action_is op test (first c)) (sym is) ∙ line_is k,
     goes_on_if at (slice_get instructions k) d rest (ap first (sym is) ∙ follows.each k),
   )
 
-  after_test : (c : Code) (t : Term) (held failed : Code) (k : ℕ) → at k ≡ c → first c ≡ tests t held failed → (term_looks_away t ≡ true) × ((n : ℕ) × (at n ≡ held)) × ((n : ℕ) × (at n ≡ failed))
+  after_test : (c : Code) (t : Term) (held failed : Code) (k : ℕ) → at k ≡ c → first c ≡ tests t held failed → (test t ≡ true) × ((n : ℕ) × (at n ≡ held)) × ((n : ℕ) × (at n ≡ failed))
   after_test c t held failed k is begins =
       let both = tests_if at (slice_get instructions k) t held failed (sym begins ∙ ap first (sym is) ∙ follows.each k) in
-      (ap action_looks_away (sym begins) ∙ ap (λ (x : Code). action_looks_away (first x)) (sym is) ∙ line_away k, both.0, both.1)
+      (ap (action_is op test) (sym begins) ∙ ap (λ (x : Code). action_is op test (first x)) (sym is) ∙ line_is k, both.0, both.1)
 
   -- what follows statements stands somewhere
   end_at : (c after : Code) (k : ℕ) → at k ≡ followed c after → (n : ℕ) × (at n ≡ after)
@@ -97,16 +99,16 @@ module _ (instructions : List Instruction) (body : Code) (at : ℕ → Code) (fo
       let a = after_test (followed (code.loop t x rest) after) t (followed x (followed (code.loop t x rest) after)) (followed rest after) k is refl in
       end_at rest after a.2.0 a.2.1
 
-  part_away : (c after : Code) (k : ℕ) → at k ≡ followed c after → code_looks_away c ≡ true
-  part_away code.end after k is = refl
-  part_away (code.act d rest) after k is = (let a = after_act d (followed rest after) k is in all_true _ _ a.0 (part_away rest after a.1.0 a.1.1))
-  part_away (code.choice t x y rest) after k is =
+  part_is : (c after : Code) (k : ℕ) → at k ≡ followed c after → code_all op test c ≡ true
+  part_is code.end after k is = refl
+  part_is (code.act d rest) after k is = (let a = after_act d (followed rest after) k is in all_true _ _ a.0 (part_is rest after a.1.0 a.1.1))
+  part_is (code.choice t x y rest) after k is =
       let a = after_test (followed (code.choice t x y rest) after) t (followed x (followed rest after)) (followed y (followed rest after)) k is refl in
       let b = end_at x (followed rest after) a.1.0 a.1.1 in
-      all_true _ _ a.0 (all_true _ _ (part_away x (followed rest after) a.1.0 a.1.1) (all_true _ _ (part_away y (followed rest after) a.2.0 a.2.1) (part_away rest after b.0 b.1)))
-  part_away (code.loop t x rest) after k is =
+      all_true _ _ a.0 (all_true _ _ (part_is x (followed rest after) a.1.0 a.1.1) (all_true _ _ (part_is y (followed rest after) a.2.0 a.2.1) (part_is rest after b.0 b.1)))
+  part_is (code.loop t x rest) after k is =
       let a = after_test (followed (code.loop t x rest) after) t (followed x (followed (code.loop t x rest) after)) (followed rest after) k is refl in
-      all_true _ _ a.0 (all_true _ _ (part_away x (followed (code.loop t x rest) after) a.1.0 a.1.1) (part_away rest after a.2.0 a.2.1))
+      all_true _ _ a.0 (all_true _ _ (part_is x (followed (code.loop t x rest) after) a.1.0 a.1.1) (part_is rest after a.2.0 a.2.1))
 
   ends_so : (c : Code) → followed c code.end ≡ c
   ends_so code.end = refl
@@ -114,8 +116,11 @@ module _ (instructions : List Instruction) (body : Code) (at : ℕ → Code) (fo
   ends_so (code.choice t x y rest) = ap (code.choice t x y) (ends_so rest)
   ends_so (code.loop t x rest) = ap (code.loop t x) (ends_so rest)
 
-  body_away : code_looks_away body ≡ true
-  body_away = part_away body code.end 0 (follows.start ∙ sym (ends_so body))
+  body_is : code_all op test body ≡ true
+  body_is = part_is body code.end 0 (follows.start ∙ sym (ends_so body))
 
 pub instructions_tell : InstructionsTell
-instructions_tell instructions body at follows all = body_away instructions body at follows all
+instructions_tell instructions body at follows all = body_is operation_looks_away term_looks_away instructions body at follows all
+
+pub instructions_spare : InstructionsSpare
+instructions_spare t instructions body at follows all = body_is (operation_spares t) term_spares instructions body at follows all

@@ -47,12 +47,16 @@ operation_looks_away (code.add h unless c p) = terms_look_away c.args
 operation_looks_away (code.bind l t) = term_looks_away t
 operation_looks_away _ = true
 
--- Each statement does, and each test.
+-- Each statement is so, and each test.
+abbrev pub code_all : (Operation → Bool) → (Term → Bool) → Code → Bool
+code_all op test code.end = true
+code_all op test (code.act d rest) = op d && code_all op test rest
+code_all op test (code.choice t a b rest) = test t && (code_all op test a && (code_all op test b && code_all op test rest))
+code_all op test (code.loop t a rest) = test t && (code_all op test a && code_all op test rest)
+
+-- Each statement looks away, and each test.
 abbrev pub code_looks_away : Code → Bool
-code_looks_away code.end = true
-code_looks_away (code.act d rest) = operation_looks_away d && code_looks_away rest
-code_looks_away (code.choice t a b rest) = term_looks_away t && (code_looks_away a && (code_looks_away b && code_looks_away rest))
-code_looks_away (code.loop t a rest) = term_looks_away t && (code_looks_away a && code_looks_away rest)
+code_looks_away c = code_all operation_looks_away term_looks_away c
 
 -- The next turn of a frame looks away: a fault is pending, so that it runs no statement, or its whole method does.
 abbrev pub frame_looks_away : ScriptView → FrameView → Bool
@@ -68,15 +72,19 @@ abbrev pub job_looks_away : ScriptView → Option JobFacts → Bool
 job_looks_away script None = false
 job_looks_away script (Some j) = frames_look_away script j.frames.frames
 
--- what comes next looks away, whatever follows it
-abbrev pub action_looks_away : NextAction → Bool
-action_looks_away ends = true
-action_looks_away (does d rest) = operation_looks_away d
-action_looks_away (tests t held failed) = term_looks_away t
+-- what comes next is so, whatever follows it
+abbrev pub action_is : (Operation → Bool) → (Term → Bool) → NextAction → Bool
+action_is op test ends = true
+action_is op test (does d rest) = op d
+action_is op test (tests t held failed) = test t
 
--- an instruction looks away, wherever it goes on
+-- an instruction is so, wherever it goes on
+abbrev pub instruction_is : (Operation → Bool) → (Term → Bool) → Instruction → Bool
+instruction_is op test line = action_is op test (first_by (λ k. code.end) line.act line.next line.other)
+
+-- an instruction looks away
 abbrev pub instruction_looks_away : Instruction → Bool
-instruction_looks_away line = action_looks_away (first_by (λ k. code.end) line.act line.next line.other)
+instruction_looks_away line = instruction_is operation_looks_away term_looks_away line
 
 -- A method looks away where each of its instructions does: to see that, each is read once.
 abbrev pub InstructionsTell : Type 0

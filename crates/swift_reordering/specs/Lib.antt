@@ -7,3 +7,4 @@ pub mod Silent
 pub mod SilentTurns
 pub mod SilentSearch
 pub mod RunAhead
+pub mod Unnamed

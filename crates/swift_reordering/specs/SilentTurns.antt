@@ -1,5 +1,5 @@
 -- A silent turn may run before or after a block of another task (our own).
-use Rattle.std.specs.Prelude.{◌≡◌, ◌≢◌, ◌⊎◌, ℕ, ◌+◌, true, Some, List, [], ◌∷◌, ◌++◌, length, Contains}
+use Rattle.std.specs.Prelude.{◌≡◌, ◌≢◌, ◌⊎◌, ◌||◌, ℕ, ◌+◌, true, Some, List, [], ◌∷◌, ◌++◌, length, Contains}
 use Rattle.std.specs.List.{AllByRecursion}
 use Rattle.swift_types.specs.declared.env.Env.{Env}
 use Rattle.swift_script.specs.Scripts.{ScriptView, executor_invariants}
@@ -10,15 +10,18 @@ use Rattle.swift_events.specs.declared.life.JobStage.TheVariants.{Given}
 use Rattle.swift_history.specs.Histories.{Block, begun, ran, at_first, after_blocks, checkpoint_at, Stands, AllStand}
 use Rattle.swift_history.specs.Orderly.{AllAllowed, IsOrderly}
 use Rattle.swift_laws.specs.Laws.{ActorsHaveExecutors}
+use Rattle.swift_digest.specs.Digests.{digest_of}
 use Rattle.swift_digest.specs.Futures.{LeadAlike}
 use Rattle.swift_digest.specs.Explored.{IsNotFolded}
 use Rattle.swift_reordering.specs.Fused.{RunsNext, BeginLate}
 use Rattle.swift_reordering.specs.FusedSteps.{HasExit}
 use Rattle.swift_reordering.specs.Blurred.{stage_at}
 use Rattle.swift_reordering.specs.Silent.{goes_on_alone, frame_is_silent}
+use Rattle.swift_reordering.specs.Unnamed.{ends_task, IsApart, IsUnnamed}
 use Rattle.swift_reordering.specs.Waiting.{IsOfOther}
 
--- Task `t` may begin after these blocks, and then run on executor `e` as this record says; its turn is silent, and it goes on at once.
+-- Task `t` may begin after these blocks, and then run on executor `e` as this record says; its turn is silent, and it goes on at once, or it
+-- ends, and is a root that no line names.
 pub record IsSilentTurn (script : ScriptView) (checkpoints : List CheckpointView) (before : List Block) (t n : ℕ) (env : Env) (e : ℕ) (r : RecordView) : Type 0 where
   pub begins : Stands script checkpoints before (begun t n env)
   pub runs : Stands script checkpoints (before ++ begun t n env ∷ []) (ran e r)
@@ -26,7 +29,9 @@ pub record IsSilentTurn (script : ScriptView) (checkpoints : List CheckpointView
   pub own : r.task ≡ t
   pub number : r.number ≡ n
   pub quiet : frame_is_silent script r.frame ≡ true
-  pub alone : goes_on_alone runs.stands.runs.0 r.exit ≡ true
+  pub alone : (goes_on_alone runs.stands.runs.0 r.exit || ends_task runs.stands.runs.0 r.exit) ≡ true
+  pub unnamed : ends_task runs.stands.runs.0 r.exit ≡ true → IsUnnamed script t
+  pub apart : ends_task runs.stands.runs.0 r.exit ≡ true → IsApart t (digest_of (after_blocks script (at_first script) before).log)
 
 -- It may do so after block `b` too, in another environment, and `b` may stand after it, in order where it was so before; each of the two
 -- ways leads as the other does.

@@ -6,6 +6,7 @@ ghost use Rattle.swift_reordering.specs.FusedSteps.{ClosedHasEachExit, ClosedHas
 ghost use Rattle.swift_reordering.specs.RunAhead.{ClosedAheadHasEachExit, ClosedAheadHasEachOutcome};
 ghost use Rattle.swift_reordering.specs.SilentSearch.{ClosedSilentlyHasEachExit, ClosedSilentlyHasEachOutcome};
 ghost use Rattle.swift_reordering.specs.SilentTurns.{SilentTurnsCommute, SilentTurnsMayGoFirst};
+ghost use Rattle.swift_reordering.specs.Unnamed.{InstructionsSpare, TurnsSpare};
 ghost use Rattle.swift_reordering.specs.Waiting.{BeginsMayWait};
 
 /// A report in order has another with the same endings, fields and turns, in which each turn that looks away begins right before it runs,
@@ -35,7 +36,18 @@ pub fn instructions_tell()
     ensures { InstructionsTell }
 {}
 
-/// A turn that touches nothing but its own task, which goes on at once, may run before or after a block of another task (our own).
+/// A method neither waits for a root nor cancels it by its name where none of its instructions does (our own).
+pub fn instructions_spare()
+    ensures { InstructionsSpare }
+{}
+
+/// Nor does a turn of such a method (our own).
+pub fn turns_spare()
+    ensures { TurnsSpare }
+{}
+
+/// A turn that touches nothing but its own task, which goes on at once or is a root that no line names and ends, may run before or after a
+/// block of another task (our own).
 pub fn silent_turns_commute()
     ensures { SilentTurnsCommute }
 {}

@@ -7,7 +7,9 @@ use Rattle.swift_interpreter.specs.Frames.{FrameView, effect_views, frame_view}
 use Rattle.swift_interpreter.specs.TurnStates.{exit_view}
 use Rattle.swift_turn.specs.Body.{BodyView, HasFrames, TaskView, callers_of}
 use Rattle.swift_explorer.specs.declared.waiting.Ready.{Ready}
-use Rattle.swift_explorer.specs.AheadInside.{TurnGoesOn, any_env}
+use Rattle.swift_script.specs.Scripts.{ScriptView}
+use Rattle.std.specs.Arc.{arc_value}
+use Rattle.swift_explorer.specs.AheadInside.{GoesOnAtOnce, TurnGoesOn, any_env}
 use Rattle.swift_explorer.specs.HistoryInside.{given_at, rows_at}
 use Rattle.swift_explorer.proofs.Rows.{rows_here}
 use Rattle.swift_explorer.proofs.Trial.{as_before, frames_back, turn_goes_on}
@@ -46,13 +48,14 @@ returns-clause-alone c = λ is.
     let lt : c.args.place < length x.fields.items = omega (arith, c.if-place-len.false, c.len.ensures) in
     let at : v ≡ get_or x.fields.items c.args.place v = search rules in
     let same_rows : rows_of copy.items ≡ rows_of v.items = search rules in
+    let own : c.deref-2.result.now ≡ arc_value x.script = search rules in
     let there : slice_get (rows_at x) c.args.place ≡ Some (rows_of copy.items) =
     rows_here seen x.fields.items c.args.place v (slice_get-get_or x.fields.items c.args.place v lt ∙ ap Some (sym at)) ∙ ap Some (sym same_rows) in (
       rows_of copy.items,
       there,
       λ k given.
           (let same : g ≡ k = ap (λ (o : Option Ready). unwrap_or o g) (sym was ∙ given) in
-          subst (λ (h : Ready). TurnGoesOn h.body.script h.body.task.frames h.body.task.outer (rows_of copy.items) h.resume) same
-          (turn_goes_on g.body.script g.body.task.outer g.body.task.frames c.replay_turn.new.body.task.frames (rows_of copy.items) (rows_of outcome.fields.items) g.resume (effect_views outcome.effects.items) (exit_view outcome.exit) c.in-Ok.ensures.turn
-          (c.in_ok-goes.ensures is))),
+          subst (λ (h : Ready). TurnGoesOn (arc_value x.script) t.0 h.body.script h.body.task.frames h.body.task.outer (rows_of copy.items) h.resume) same
+          (turn_goes_on (arc_value x.script) t.0 g.body.script g.body.task.outer g.body.task.frames c.replay_turn.new.body.task.frames (rows_of copy.items) (rows_of outcome.fields.items) g.resume (effect_views outcome.effects.items) (exit_view outcome.exit) c.in-Ok.ensures.turn
+          (subst (λ (s : ScriptView). GoesOnAtOnce s t.0 (callers_of c.replay_turn.new.body.task.frames) (exit_view outcome.exit)) own (c.in_ok-goes.ensures is)))),
     ))
