@@ -10,9 +10,9 @@ use crate::scheduled::ScheduledRun;
 use explorer_differences::difference_text;
 use nuchapay_tool::OutcomePair;
 use std::alloc::{AllocError, Global};
+use std::mem::replace;
 use std::sync::Arc;
 use swift_explorer::RunOutcome;
-use swift_report::Report;
 use swift_script::read;
 use swift_tool::ToolFault;
 
@@ -55,22 +55,13 @@ pub fn pair_compared(
 }
 
 // The outcome that a run by a schedule has come to.
-fn outcome_of(run: ScheduledRun) -> RunOutcome
+fn outcome_of(alloc: Global, run: ScheduledRun) -> RunOutcome
     ensures { result ≡ outcome_of run }
 {
-    let ScheduledRun {
-        script: _,
-        schedule,
-        given: _,
-        report,
-    } = run;
-    let Report {
-        journals: _,
-        checkpoints: _,
-        log: _,
-        endings,
-        fields,
-    } = report;
+    let mut run = run;
+    let schedule = replace(&mut run.schedule, Vec::new(alloc));
+    let endings = replace(&mut run.report.endings, Vec::new(alloc));
+    let fields = replace(&mut run.report.fields, Vec::new(alloc));
     RunOutcome {
         schedule,
         endings,
@@ -89,7 +80,7 @@ pub fn runs_compared(
 {
     let script = Arc::clone(&first.script)?;
     let numbers = (pair.first, pair.second);
-    let first = outcome_of(first);
-    let second = outcome_of(second);
+    let first = outcome_of(alloc, first);
+    let second = outcome_of(alloc, second);
     difference_text(alloc, &script, numbers, &first, &second)
 }
