@@ -7,6 +7,7 @@ _nuchapay() {
         each=${COMP_WORDS[at]}
         case $each in
             --workers | --format | --outcome | --schedule | --limit | --from | --color | --expect | --save) if [[ ${COMP_WORDS[at + 1]} == = ]]; then ((at += 2)); else ((at++)); fi ;;
+            --diff) ((at += 2)) ;;
             -?*) ;;
             *) if [[ -z $command ]]; then command=$each; else ((place++)); fi ;;
         esac
@@ -33,6 +34,7 @@ _nuchapay() {
         show:--from) files='*' ;;
         explore:--limit) words='' ;;
         explore:--schedule) words='' ;;
+        explore:--diff) words='' ;;
         explore:--expect) words='' ;;
         explore:--format) words='text json html' ;;
         explore:--save) files='*' ;;
@@ -55,7 +57,7 @@ _nuchapay() {
                 show:*:0) files='*.actors' ;;
                 swift:-*) words='--help' ;;
                 swift:*:0) files='*.actors' ;;
-                explore:-*) words='--limit --broken --schedule --expect --no-fault --format --save --from --help' ;;
+                explore:-*) words='--limit --broken --schedule --diff --expect --no-fault --format --save --from --help' ;;
                 explore:*:0) files='*.actors' ;;
                 help:-*) words='--help' ;;
                 help:*:0) words='run why check explain print show swift explore help' ;;

@@ -53,6 +53,7 @@ complete -c nuchapay -n '__fish_seen_subcommand_from swift' -k -a '(__fish_compl
 complete -c nuchapay -n '__fish_seen_subcommand_from explore' -l limit -x -d 'Keeps at most N states, from 1 to 10000000'
 complete -c nuchapay -n '__fish_seen_subcommand_from explore' -l broken -d 'Prints the schedule to a turn that an invariant undoes, and nothing else'
 complete -c nuchapay -n '__fish_seen_subcommand_from explore' -l schedule -x -d 'Runs the schedule of outcome K again, and prints the whole report'
+complete -c nuchapay -n '__fish_seen_subcommand_from explore' -l diff -x -d 'Says in what outcomes K and L differ, and from where their schedules do'
 complete -c nuchapay -n '__fish_seen_subcommand_from explore' -l expect -x -d 'Fails where EXPR, over Actor.field and the values of roots, is 0 in an outcome'
 complete -c nuchapay -n '__fish_seen_subcommand_from explore' -l no-fault -d 'Fails where a root ends with a fault in an outcome'
 complete -c nuchapay -n '__fish_seen_subcommand_from explore' -l format -x -a 'text json html' -d 'Prints what was found as text, as JSON, or as a page for a browser'

@@ -14,7 +14,7 @@ FOLDER = os.path.join(TOP, "completions")
 
 
 class Option(NamedTuple):
-    """An argument that begins with `--`. One without a value is a flag; the value FILE is any file."""
+    """An argument that begins with `--`. One without a value is a flag; the value FILE is any file; `K L` are two values."""
 
     name: str
     text: str
@@ -95,6 +95,7 @@ NUCHAPAY = (
             LIMIT,
             Option("broken", "Prints the schedule to a turn that an invariant undoes, and nothing else"),
             Option("schedule", "Runs the schedule of outcome K again, and prints the whole report", "K"),
+            Option("diff", "Says in what outcomes K and L differ, and from where their schedules do", "K L"),
             Option("expect", "Fails where EXPR, over Actor.field and the values of roots, is 0 in an outcome", "EXPR"),
             Option("no-fault", "Fails where a root ends with a fault in an outcome"),
             Option("format", "Prints what was found as text, as JSON, or as a page for a browser", "FORMAT", ("text", "json", "html")),
@@ -164,7 +165,9 @@ def bash(program):
     commands = program.commands or (program.itself,)
     # Before its command is there, a program's command has no name.
     first = [program.itself._replace(name="")] if program.commands else []
-    takers = dict.fromkeys("--" + option.name for command in commands for option in command.options if option.value)
+    takers, of_two = (
+        dict.fromkeys("--" + option.name for command in commands for option in command.options if len(option.value.split()) == many) for many in (1, 2)
+    )
     counted = "if [[ -z $command ]]; then command=$each; else ((place++)); fi" if program.commands else "((place++))"
     return "\n".join([
         heading(program, "bash"),
@@ -176,6 +179,7 @@ def bash(program):
         "        each=${COMP_WORDS[at]}",
         "        case $each in",
         f"            {' | '.join(takers)}) if [[ ${{COMP_WORDS[at + 1]}} == = ]]; then ((at += 2)); else ((at++)); fi ;;",
+        *([f"            {' | '.join(of_two)}) ((at += 2)) ;;"] if of_two else []),
         "            -?*) ;;",
         f"            *) {counted} ;;",
         "        esac",
@@ -210,8 +214,8 @@ def zsh_arguments(command, program):
     for option in options_of(command):
         text = option.text.replace("[", "\\[").replace("]", "\\]")
         taken = "_files" if option.value == "FILE" else f"({' '.join(option.words)})"
-        value = f":{option.value}:{taken}" if option.value else ""
-        yield quoted(f"--{option.name}{'=' if option.value else ''}[{text}]{value}")
+        value = "".join(f":{each}:{taken}" for each in option.value.split())
+        yield quoted(f"--{option.name}{'=' if len(option.value.split()) == 1 else ''}[{text}]{value}")
     for place, operand in enumerate(command.operands, 1):
         what = '_files -g "*.actors"' if is_script(operand) else f"({' '.join(words_of(operand, program))})"
         yield quoted(f"{place}:{operand.strip('[]<>')}:{what}")

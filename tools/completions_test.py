@@ -41,10 +41,10 @@ def takes(command):
 def told(text):
     """The same, as `--help` of a program or a command lists it."""
     found = {}
-    for name, value, line in re.findall(r"(?m)^ +(?:-\w, )?--([\w-]+)(?: <(\w+)>)? +(.*)$", text):
+    for name, value, line in re.findall(r"(?m)^ +(?:-\w, )?--([\w-]+)(?: <(\w+(?:> <\w+)*)>)? +(.*)$", text):
         words = re.search(r" \[possible values: (.*?)\]", line)
         shown = re.sub(r" \[(?:default|possible values): .*?\]", "", line)
-        found[name] = (value, tuple(words[1].split(", ")) if words else (), shown)
+        found[name] = (value.replace("> <", " "), tuple(words[1].split(", ")) if words else (), shown)
     return found
 
 
@@ -143,6 +143,7 @@ class Completions(unittest.TestCase):
         self.assertEqual(sorted(self.complete("nuchapay", "run", "--workers", "2", "account")), ["account.actors", "account_fixed.actors"])
         self.assertEqual(self.complete("nuchapay", "why", "races/late"), ["races/late_cancel.actors"])
         self.assertEqual(self.complete("nuchapay", "check", "rac"), ["races"])
+        self.assertEqual(self.complete("nuchapay", "explore", "--diff", "1", "2", "rac"), ["races"])
         self.assertEqual(self.complete("nuchapay", "why", "account.actors", ""), [])
         self.assertEqual(self.complete("nuchapay", "why", "-", ""), [])
         self.assertEqual(self.complete("swiftrun", "--w"), ["--workers"])

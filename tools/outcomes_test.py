@@ -12,7 +12,7 @@ import os
 import sys
 from typing import NamedTuple
 
-from outcomes import explore
+from outcomes import explore, histories
 from racy_scripts import Writer
 
 TOP = os.path.dirname(os.path.dirname(os.path.abspath(__file__)))
@@ -171,6 +171,8 @@ def main() -> None:
     for case in CASES:
         found = test_script(tally, case.name, case.script)
         tally.test(case.name, found <= explore(case.script, early_tokens=True).outcomes, "early tokens lack some")
+        any_job = explore(case.script, any_job=True).outcomes
+        tally.test(case.name, found <= any_job == histories(case.script).outcomes, "histories have other outcomes than workers that take any job")
         tally.test(case.name, len(found) == case.outcomes, f"{len(found)} and not {case.outcomes}\n" + "\n".join(sorted(found)))
     for path in sorted(glob.glob(os.path.join(TOP, "examples/*.actors"))):
         name = os.path.relpath(path, TOP)

@@ -4,3 +4,4 @@ pub mod Scheduled
 pub mod Schedules
 pub mod Searches
 pub mod SwiftSearches
+pub mod Differences

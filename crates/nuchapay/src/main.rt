@@ -7,6 +7,10 @@
 //! refused, 4 for a run that was refused, or a file or device that failed, 5 for a search that decides nothing.
 #![tactic(auto)]
 
+// What is said of two outcomes.
+mod difference_answers;
+// In what two outcomes differ.
+mod differences;
 // Outcomes of orders of turns.
 mod explore;
 // Outcomes of orders of turns of a Swift file.
@@ -34,6 +38,7 @@ mod undone;
 // Runs whose turns are explained.
 mod values;
 
+use crate::difference_answers::{say_difference, say_saved_difference};
 use crate::explore::explored;
 use crate::explore_swift::explored_swift;
 use crate::input::{is_swift, name_of, say_no_script, script};
@@ -162,6 +167,8 @@ where
             say_explored(host, save, found)
         }
         Question::ExploreBroken(limit) => say_broken(host, limit, broken_line(host, text, limit)),
+        Question::Difference(limit, pair) => say_difference(host, text, limit, pair),
+        Question::SavedDifference(path, pair) => say_saved_difference(host, name, text, path, pair),
     }
 }
 

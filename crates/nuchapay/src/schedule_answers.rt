@@ -46,6 +46,50 @@ fn say_run(rt: &HostRuntime, path: &str, text: &[u8], run: &ScheduledRun, form: 
     }
 }
 
+/// What a file of schedules has; the status to end with where it can't be read, which is said.
+pub(crate) fn file_of(rt: &HostRuntime, name: &str) -> Result<Vec<u8>, u8> {
+    match fs::read(rt, name) {
+        Ok(file) => Ok(file),
+        Err(error) => {
+            let _ = eprintln!(rt; "nuchapay: {name}: {error}");
+            Err(4)
+        }
+    }
+}
+
+/// The run by the schedule of an outcome of a file, once it is said what was chosen of it, where something was; the status to end with where
+/// there is none, which is said.
+pub(crate) fn run_of_file(
+    rt: &HostRuntime,
+    path: &str,
+    text: &[u8],
+    name: &str,
+    file: &[u8],
+    outcome: u32,
+) -> Result<ScheduledRun, u8> {
+    match saved_run(rt.alloc(), text, file, SavedChoice::Outcome(outcome)) {
+        Ok(SavedRun::Followed(ChosenRun::Run(run))) => with_chosen(rt, run),
+        Ok(SavedRun::Followed(ChosenRun::None(why))) => {
+            Err(say_no_run(rt, ScheduleChoice::Given(""), why))
+        }
+        Ok(SavedRun::NotThere(found)) => Err(say_not_there(rt, path, name, found)),
+        Err(fault) => Err(tell(rt, Err(fault))),
+    }
+}
+
+// A run, once it is said what was chosen of its schedule, where something was.
+fn with_chosen(rt: &HostRuntime, run: ScheduledRun) -> Result<ScheduledRun, u8> {
+    match chosen_text(rt.alloc(), &run) {
+        Ok(said) => {
+            if let Some(said) = said {
+                let _ = eprintln!(rt; "nuchapay: {said}");
+            }
+            Ok(run)
+        }
+        Err(fault) => Err(tell(rt, Err(ToolFault::from(fault)))),
+    }
+}
+
 /// Says this of a run by a schedule of a file. The status to end with: 2 where the file is of another script, or has no such schedule.
 pub fn say_saved(
     rt: &HostRuntime,
@@ -54,13 +98,9 @@ pub fn say_saved(
     place: SavedPlace<'_>,
     form: RunForm<'_>,
 ) -> u8 {
-    let file = match fs::read(rt, place.path) {
+    let file = match file_of(rt, place.path) {
         Ok(file) => file,
-        Err(error) => {
-            let name = place.path;
-            let _ = eprintln!(rt; "nuchapay: {name}: {error}");
-            return 4;
-        }
+        Err(status) => return status,
     };
     let choice = match place.word {
         SavedWord::Outcome(number) => SavedChoice::Outcome(number),
@@ -113,8 +153,8 @@ fn say_after(
     say_form(rt, heading, run, form)
 }
 
-// Says why there is no run by a schedule. The status to end with.
-fn say_no_run(rt: &HostRuntime, schedule: ScheduleChoice<'_>, why: NoRun) -> u8 {
+/// Says why there is no run by a schedule. The status to end with.
+pub(crate) fn say_no_run(rt: &HostRuntime, schedule: ScheduleChoice<'_>, why: NoRun) -> u8 {
     match no_run_text(rt.alloc(), schedule, why) {
         Ok(said) => {
             let _ = eprintln!(rt; "nuchapay: {said}");

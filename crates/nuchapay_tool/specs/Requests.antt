@@ -2,7 +2,7 @@
 use Rattle.std.specs.Prelude.{◌≤◌}
 use Rattle.swift_types.specs.declared.limits.TheConstants.{WORKERS}
 use Rattle.nuchapay_tool.specs.declared.requests.Question.{Question}
-use Rattle.nuchapay_tool.specs.declared.requests.Question.TheVariants.{Run, RunJson, Values, Why, Check, CheckJson, Print, Show, Scheduled, Saved, Swift, Explore, ExploreBroken}
+use Rattle.nuchapay_tool.specs.declared.requests.Question.TheVariants.{Run, RunJson, Values, Why, Check, CheckJson, Print, Show, Scheduled, Saved, Swift, Explore, ExploreBroken, Difference, SavedDifference}
 use Rattle.nuchapay_tool.specs.declared.requests.Request.{Request}
 use Rattle.nuchapay_tool.specs.declared.requests.Request.TheVariants.{Explain, Ask}
 
@@ -21,6 +21,8 @@ IsOnCrew (Saved place form) = Unit {0}
 IsOnCrew Swift = Unit {0}
 IsOnCrew (Explore limit expected without_fault format save) = Unit {0}
 IsOnCrew (ExploreBroken limit) = Unit {0}
+IsOnCrew (Difference limit pair) = Unit {0}
+IsOnCrew (SavedDifference path pair) = Unit {0}
 
 -- A run is asked for on 1 to 8 workers.
 abbrev pub HasCrew : Request → Type 0

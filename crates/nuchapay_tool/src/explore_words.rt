@@ -3,11 +3,11 @@
 ghost use Rattle.std.specs.Prelude.{IfOk};
 ghost use Rattle.nuchapay_tool.specs.Requests.{HasCrew, IsOnCrew};
 
-use crate::requests::{Question, Request, RunForm, ScheduleChoice, SearchFormat};
-use crate::schedule_words::saved_by;
+use crate::requests::{OutcomePair, Question, Request, RunForm, ScheduleChoice, SearchFormat};
+use crate::schedule_words::{saved_by, saved_pair};
 use crate::words::{Refused, file, flag, from, limit, named, number, option, source, with_arg};
 use clap::error::ErrorKind;
-use clap::{Arg, ArgAction, ArgMatches, Command};
+use clap::{Arg, ArgAction, ArgMatches, Command, value_parser};
 use std::alloc::{AllocError, Global};
 
 // How what was found is written.
@@ -16,6 +16,14 @@ fn format<'a>(alloc: Global) -> Arg<'a> {
     option(alloc, "format", "FORMAT", help)
         .value_parser(["text", "json", "html"].as_slice())
         .default_value("text")
+}
+
+// Two outcomes.
+fn diff<'a>(alloc: Global) -> Arg<'a> {
+    let help = "Says in what outcomes K and L differ, and from where their schedules do";
+    option(alloc, "diff", "K", help)
+        .value_names(["K", "L"].as_slice())
+        .value_parser(value_parser!(u32).range(1..10_000_001))
 }
 
 /// The words of `explore`.
@@ -32,6 +40,7 @@ pub(crate) fn explore_command<'a>(alloc: Global) -> Result<Command<'a>, AllocErr
     let words = with_arg(words, flag(alloc, "broken", broken));
     let schedule = "Runs the schedule of outcome K again, and prints the whole report";
     let words = with_arg(words, number(alloc, "schedule", "K", schedule));
+    let words = with_arg(words, diff(alloc));
     let expect = "Fails where EXPR, over Actor.field and the values of roots, is 0 in an outcome";
     let words = with_arg(
         words,
@@ -69,50 +78,84 @@ fn format_of(found: &ArgMatches<'_>) -> SearchFormat {
     }
 }
 
-// Whether one schedule is asked about.
-fn is_of_one(found: &ArgMatches<'_>) -> bool {
+// The outcomes that are to be compared, if any are.
+fn pair_of(found: &ArgMatches<'_>) -> Option<OutcomePair> {
+    let mut numbers = found.get_many::<u32>("diff")?;
+    match (numbers.next()?, numbers.next()?) {
+        (Ok(first), Ok(second)) => Some(OutcomePair { first, second }),
+        _ => None,
+    }
+}
+
+// Whether one schedule is asked about, or two are.
+fn is_of_some(found: &ArgMatches<'_>) -> bool {
     let outcome = found.get_one::<u32>("schedule");
-    outcome.is_some() || found.get_flag("broken") || found.get_str("from").is_some()
+    outcome.is_some()
+        || found.get_flag("broken")
+        || found.get_str("from").is_some()
+        || pair_of(found).is_some()
 }
 
 // Why words that are of all outcomes have no place there, if some are given.
 fn misplaced(found: &ArgMatches<'_>) -> Option<&'static str> {
     if found.get_flag("no-fault") || found.get_strs("expect").is_some() {
         return Some(
-            "--expect and --no-fault are asked of all outcomes: they have no place beside --broken or --schedule",
+            "--expect and --no-fault are asked of all outcomes: they have no place beside --broken, --schedule or --diff",
         );
     }
     if found.get_str("save").is_some() {
-        return Some("--save is for all outcomes, and not for --broken or --schedule");
+        return Some("--save is for all outcomes, and not for --broken, --schedule or --diff");
     }
     match format_of(found) {
         SearchFormat::Text => None,
         SearchFormat::Json => {
-            Some("--format json is for all outcomes, and not for --broken or --schedule")
+            Some("--format json is for all outcomes, and not for --broken, --schedule or --diff")
         }
         SearchFormat::Html => {
-            Some("--format html is for all outcomes, and not for --broken or --schedule")
+            Some("--format html is for all outcomes, and not for --broken, --schedule or --diff")
         }
     }
 }
 
-/// The search that is asked for. What is expected is asked of all outcomes, so there is no place for it beside one schedule.
+/// The search that is asked for. What is expected is asked of all outcomes, so there is no place for it beside one schedule or two.
 pub(crate) fn explore_request<'a>(
     alloc: Global,
     found: &ArgMatches<'a>,
 ) -> Result<Request<'a>, Refused>
     ensures { IfOk result HasCrew }
 {
-    if !is_of_one(found) {
+    if !is_of_some(found) {
         return expecting_request(alloc, found);
     }
     if let Some(said) = misplaced(found) {
         return Err(conflict(said));
     }
-    match one_question(found) {
+    let question = match pair_of(found) {
+        Some(pair) => pair_question(found, pair),
+        None => one_question(found),
+    };
+    match question {
         Ok(question) => Ok(Request::Ask(source(found), question)),
         Err(refused) => Err(refused),
     }
+}
+
+// What is asked of two outcomes.
+fn pair_question<'a>(found: &ArgMatches<'a>, pair: OutcomePair) -> Result<Question<'a>, Refused>
+    ensures { IfOk result IsOnCrew }
+{
+    if found.get_one::<u32>("schedule").is_some() || found.get_flag("broken") {
+        return Err(conflict(
+            "--diff is of two outcomes: it has no place beside --broken or --schedule",
+        ));
+    }
+    if pair.first == pair.second {
+        return Err(conflict("--diff compares two outcomes: give two numbers"));
+    }
+    if let Some(path) = found.get_str("from") {
+        return saved_pair(found, path, pair);
+    }
+    Ok(Question::Difference(searched(found), pair))
 }
 
 // What is asked of one schedule.

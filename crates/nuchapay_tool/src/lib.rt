@@ -58,8 +58,8 @@ pub use page::{Page, ScriptPair, explain};
 pub use pages::page_of;
 pub use printed::print;
 pub use requests::{
-    PictureFormat, Question, Request, RunForm, SavedPlace, SavedWord, ScheduleChoice, SearchFormat,
-    Source,
+    OutcomePair, PictureFormat, Question, Request, RunForm, SavedPlace, SavedWord, ScheduleChoice,
+    SearchFormat, Source,
 };
 pub use topic::{RunRefusal, Topic, TurnFault, find_topic};
 pub use turn_names::{TurnName, TurnWord, turn_name, turn_word};

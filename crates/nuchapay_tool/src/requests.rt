@@ -52,6 +52,13 @@ pub struct SavedPlace<'a> {
     pub word: SavedWord,
 }
 
+/// Two outcomes of a list, by their numbers, from 1 (our own).
+#[derive(Clone, Copy)]
+pub struct OutcomePair {
+    pub first: u32,
+    pub second: u32,
+}
+
 /// By which schedule a run is made (our own).
 #[derive(Clone, Copy)]
 pub enum ScheduleChoice<'a> {
@@ -125,4 +132,8 @@ pub enum Question<'a> {
     },
     /// The schedule to a turn that is undone by an invariant, by a search that keeps at most so many histories.
     ExploreBroken(u32),
+    /// In what two outcomes differ, of those that a search finds which keeps at most so many histories.
+    Difference(u32, OutcomePair),
+    /// In what two outcomes differ that stand in a file of this path.
+    SavedDifference(&'a str, OutcomePair),
 }

@@ -3,7 +3,7 @@
 ghost use Rattle.std.specs.Prelude.{IfOk};
 ghost use Rattle.nuchapay_tool.specs.Requests.{IsOnCrew};
 
-use crate::requests::{Question, RunForm, SavedPlace, SavedWord, ScheduleChoice};
+use crate::requests::{OutcomePair, Question, RunForm, SavedPlace, SavedWord, ScheduleChoice};
 use crate::words::Refused;
 use clap::ArgMatches;
 use clap::error::ErrorKind;
@@ -128,9 +128,23 @@ pub(crate) fn saved_by<'a>(
             Ok(Question::Saved(SavedPlace { path, word }, RunForm::Line))
         }
         _ => Err(conflict(
-            "--from names a file of schedules: --schedule K or --broken says which of them",
+            "--from names a file of schedules: --schedule K, --broken or --diff K L says which of them",
         )),
     }
+}
+
+/// Which two outcomes of a file `explore` is to compare.
+pub(crate) fn saved_pair<'a>(
+    matches: &ArgMatches<'a>,
+    path: &'a str,
+    pair: OutcomePair,
+) -> Result<Question<'a>, Refused>
+    ensures { IfOk result IsOnCrew }
+{
+    if is_given(matches, "limit") {
+        return Err(NO_SEARCH);
+    }
+    Ok(Question::SavedDifference(path, pair))
 }
 
 // Whether a schedule is to be searched for.
