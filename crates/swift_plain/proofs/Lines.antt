@@ -1,5 +1,5 @@
 -- Bytes behind others.
-use Rattle.std.proofs.Common.{◌≡◌, ◌∙◌, ap, ℕ, List, ◌++◌, append_assoc}
+use Rattle.std.proofs.Common.{◌∙◌, ap, ℕ, List, ◌++◌, append_assoc}
 use Rattle.plain_parts.specs.declared.page.Page.{Page}
 use Rattle.plain_parts.specs.Pages.{GoesOn}
 

@@ -1,5 +1,5 @@
 -- Why there is no plain Swift.
-use Rattle.std.proofs.Common.{◌≡◌, ℕ, List, sym}
+use Rattle.std.proofs.Common.{ℕ, List, sym}
 use Rattle.std.proofs.lemmas.Bool.{false≢true}
 use Rattle.script_grammar.specs.Tree.{DeclTree}
 use Rattle.script_parser.specs.declared.limits.TheConstants.{NESTING}

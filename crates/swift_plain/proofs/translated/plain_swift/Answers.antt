@@ -1,6 +1,5 @@
 use Rattle.std.proofs.Common.{map}
 use Rattle.script_grammar.specs.Tree.{view_decl}
-use Rattle.swift_plain.specs.Translations.{IsPlainOf}
 use Rattle.swift_plain.proofs.translated.plain_swift.Goals as goal
 
 pub returns-clause-translated : goal.returns-clause-translated

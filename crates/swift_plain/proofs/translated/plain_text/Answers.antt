@@ -1,6 +1,5 @@
 use Rattle.std.proofs.Common.{map}
 use Rattle.swift_plain.specs.Signatures.{view_thrower}
-use Rattle.swift_plain.specs.Translations.{IsFileOf}
 use Rattle.swift_plain.proofs.translated.plain_text.Goals as goal
 
 pub returns : goal.returns
