@@ -55,7 +55,7 @@ _nuchapay() {
                 print:*:0) files='*.actors' ;;
                 show:-*) words='--workers --format --outcome --schedule --broken --limit --from --help' ;;
                 show:*:0) files='*.actors' ;;
-                swift:-*) words='--help' ;;
+                swift:-*) words='--plain --help' ;;
                 swift:*:0) files='*.actors' ;;
                 explore:-*) words='--limit --broken --schedule --diff --expect --no-fault --format --save --from --help' ;;
                 explore:*:0) files='*.actors' ;;

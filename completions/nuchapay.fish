@@ -48,6 +48,7 @@ complete -c nuchapay -n '__fish_seen_subcommand_from show' -l limit -x -d 'Keeps
 complete -c nuchapay -n '__fish_seen_subcommand_from show' -l from -r -F -d 'Takes the schedule from FILE, which explore --save has written, without a search'
 complete -c nuchapay -n '__fish_seen_subcommand_from show' -l help -d 'Print help'
 complete -c nuchapay -n '__fish_seen_subcommand_from show' -k -a '(__fish_complete_suffix .actors)'
+complete -c nuchapay -n '__fish_seen_subcommand_from swift' -l plain -d 'Prints it as somebody would write it, without a runtime'
 complete -c nuchapay -n '__fish_seen_subcommand_from swift' -l help -d 'Print help'
 complete -c nuchapay -n '__fish_seen_subcommand_from swift' -k -a '(__fish_complete_suffix .actors)'
 complete -c nuchapay -n '__fish_seen_subcommand_from explore' -l limit -x -d 'Keeps at most N states, from 1 to 10000000'

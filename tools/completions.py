@@ -87,7 +87,10 @@ NUCHAPAY = (
         "show", "Runs a script, and shows the run as a picture", ("[FILE]",),
         (WORKERS, Option("format", "A picture, a page for a browser, or a trace for Perfetto and chrome://tracing", "FORMAT", ("svg", "html", "trace")), *SCHEDULES),
     ),
-    Command("swift", "Prints a script as a Swift program, for Swift's own runtime", ("[FILE]",)),
+    Command(
+        "swift", "Prints a script as a Swift program, for Swift's own runtime", ("[FILE]",),
+        (Option("plain", "Prints it as somebody would write it, without a runtime"),),
+    ),
     Command(
         "explore",
         "Lists outcomes that some order of turns leads to, each with its schedule, and says whether each is as expected", ("[FILE]",),

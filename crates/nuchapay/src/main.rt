@@ -60,6 +60,7 @@ use std::process::ExitCode;
 use std::random::RandomSource;
 use std::sync::Wait;
 use std::thread::Threads;
+use swift_plain::{Form, PlainError, plain_swift};
 use swift_programs::translate;
 use swift_report::write_all;
 use swift_tool::{ToolFault, run_json, run_text};
@@ -134,6 +135,7 @@ where
         Question::Scheduled(schedule, form) => say_scheduled(host, name, text, schedule, form),
         Question::Saved(place, form) => say_saved(host, name, text, place, form),
         Question::Swift => tell(host, write_swift(host, text)),
+        Question::PlainSwift => say_plain(host, text),
         Question::Explore {
             limit,
             expected,
@@ -208,6 +210,28 @@ fn write_printed(rt: &HostRuntime, text: &[u8], is_pretty: bool) -> Result<bool,
 fn write_swift(rt: &HostRuntime, text: &[u8]) -> Result<bool, ToolFault> {
     let said = translate(rt.alloc(), text)?;
     write_out(rt, &said)
+}
+
+// Writes a script as plain Swift, or says which form has none. The status to end with.
+fn say_plain(rt: &HostRuntime, text: &[u8]) -> u8 {
+    match plain_swift(rt.alloc(), text) {
+        Ok(said) => tell(rt, write_out(rt, &said)),
+        Err(PlainError::Form(line, form)) => say_form(rt, line, form),
+        Err(PlainError::Script(fault)) => tell(rt, Err(ToolFault::from(fault))),
+        Err(PlainError::Memory) => tell(rt, Err(ToolFault::from(AllocError))),
+    }
+}
+
+// Says that a form has no plain Swift. The status to end with.
+fn say_form(rt: &HostRuntime, line: u32, form: Form) -> u8 {
+    let words = form.words();
+    match format!(in rt.alloc(); "nuchapay: line {line}: {words}\n") {
+        Ok(said) => match write_all(&mut rt.stderr(), said.as_bytes()) {
+            Ok(()) => 3,
+            Err(_) => 4,
+        },
+        Err(_) => tell(rt, Err(ToolFault::from(AllocError))),
+    }
 }
 
 fn write_page(rt: &HostRuntime, topic: Topic) -> Result<bool, ToolFault> {

@@ -2,7 +2,7 @@
 use Rattle.std.specs.Prelude.{◌≤◌}
 use Rattle.swift_types.specs.declared.limits.TheConstants.{WORKERS}
 use Rattle.nuchapay_tool.specs.declared.requests.Question.{Question}
-use Rattle.nuchapay_tool.specs.declared.requests.Question.TheVariants.{Run, RunJson, Values, Why, Check, CheckJson, Print, Show, Scheduled, Saved, Swift, Explore, ExploreBroken, Difference, SavedDifference}
+use Rattle.nuchapay_tool.specs.declared.requests.Question.TheVariants.{Run, RunJson, Values, Why, Check, CheckJson, Print, Show, Scheduled, Saved, Swift, PlainSwift, Explore, ExploreBroken, Difference, SavedDifference}
 use Rattle.nuchapay_tool.specs.declared.requests.Request.{Request}
 use Rattle.nuchapay_tool.specs.declared.requests.Request.TheVariants.{Explain, Ask}
 
@@ -19,6 +19,7 @@ IsOnCrew (Show workers format) = (1 ≤ workers) × (workers ≤ WORKERS)
 IsOnCrew (Scheduled schedule form) = Unit {0}
 IsOnCrew (Saved place form) = Unit {0}
 IsOnCrew Swift = Unit {0}
+IsOnCrew PlainSwift = Unit {0}
 IsOnCrew (Explore limit expected without_fault format save) = Unit {0}
 IsOnCrew (ExploreBroken limit) = Unit {0}
 IsOnCrew (Difference limit pair) = Unit {0}

@@ -121,6 +121,8 @@ pub enum Question<'a> {
     Saved(SavedPlace<'a>, RunForm<'a>),
     /// Its Swift program.
     Swift,
+    /// Its plain Swift, without a runtime.
+    PlainSwift,
     /// The outcomes of its histories, of which at most so many are kept; and whether each of them is as these expectations say, and perhaps
     /// without a root that ends with a fault; in this format. As JSON it is kept in a file too, where one is named.
     Explore {

@@ -2,7 +2,7 @@
 
 ghost use Rattle.std.specs.Prelude.{◌≡◌, ◌≢◌, ◌≤◌, codes, IfOk};
 ghost use Rattle.swift_types.specs.declared.limits.TheConstants.{WORKERS};
-ghost use Rattle.nuchapay_tool.specs.Requests.{HasCrew};
+ghost use Rattle.nuchapay_tool.specs.Requests.{HasCrew, IsOnCrew};
 ghost use Rattle.nuchapay_tool.specs.declared.requests.Source.TheVariants.{File, Stdin};
 
 use crate::explore_words::{explore_command, explore_request};
@@ -219,7 +219,9 @@ fn swift_command<'a>(alloc: Global) -> Result<Command<'a>, AllocError> {
         "Prints a script as a Swift program, for Swift's own runtime",
         "Example: nuchapay swift examples/account.actors",
     );
-    with_arg(Ok(words), file(alloc))
+    let words = with_arg(Ok(words), file(alloc));
+    let plain = "Prints it as somebody would write it, without a runtime";
+    with_arg(words, flag(alloc, "plain", plain))
 }
 
 /// A number from 1 to 10,000,000.
@@ -443,7 +445,7 @@ fn requested<'a>(alloc: Global, matches: &ArgMatches<'a>) -> Result<Request<'a>,
         return why_request(found);
     }
     if let Some(found) = matches.subcommand_matches("swift") {
-        return Ok(Request::Ask(source(found), Question::Swift));
+        return Ok(Request::Ask(source(found), swift_question(found)));
     }
     if let Some(found) = matches.subcommand_matches("explore") {
         return explore_request(alloc, found);
@@ -451,6 +453,17 @@ fn requested<'a>(alloc: Global, matches: &ArgMatches<'a>) -> Result<Request<'a>,
     match matches.subcommand_matches("explain") {
         Some(found) => explain_request(found.get_str("topic")),
         None => explain_request(None),
+    }
+}
+
+// Which Swift is asked for.
+fn swift_question<'a>(found: &ArgMatches<'_>) -> Question<'a>
+    ensures { IsOnCrew result }
+{
+    if found.get_flag("plain") {
+        Question::PlainSwift
+    } else {
+        Question::Swift
     }
 }
 
@@ -471,7 +484,7 @@ fn is_second(matches: &ArgMatches<'_>, argument: &str, first: &str, second: &str
 /// - `why`, with a file, the name of a turn, and `--workers N`; the turn may be missing beside `--broken`;
 /// - `run`, `why` and `show` with one of `--outcome K`, `--schedule TURNS` and `--broken`, and beside the first and the last of these with
 ///   `--limit N` as for `explore`, or with `--from FILE`; `--workers` is refused beside them;
-/// - `swift`, with a file;
+/// - `swift`, with a file and `--plain`;
 /// - `explore`, with a file, `--limit N` from 1 to 10,000,000, 100,000 where it is not given, and either one of `--schedule K`, from 1 to
 ///   10,000,000, and `--broken`, or `--expect EXPR`, also more than once, `--no-fault`, `--save FILE`,
 ///   and `--format` with `text`, `json` or `html`, `text` where it is not given; with `--from FILE` beside `--schedule` and `--broken`, in

@@ -1,0 +1,4 @@
+pub mod Expressions
+pub mod Flow
+pub mod Names
+pub mod Pages

@@ -1,0 +1,5 @@
+use Rattle.std.proofs.Common.{length}
+use Rattle.swift_plain.proofs.call.+say_more_task_arguments.Given as goal
+
+abbrev pub decreases-say_more_task_arguments : goal.decreases-say_more_task_arguments
+decreases-say_more_task_arguments l = length l.args.now

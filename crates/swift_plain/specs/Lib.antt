@@ -1,0 +1,9 @@
+pub mod Actors
+pub mod Calls
+pub mod Failures
+pub mod Files
+pub mod Places
+pub mod Signatures
+pub mod Statements
+pub mod Throwers
+pub mod Translations
