@@ -1,23 +1,25 @@
 use Rattle.std.proofs.Common.{List, rules, sym, subst}
 use Rattle.std.specs.Arc.{arc_value}
 use Rattle.swift_script.specs.Accepted.{IsAccepted}
+use Rattle.swift_explorer.specs.declared.moves.Move.{Move}
 use Rattle.explorer_files.specs.declared.saved.SavedSchedule.{SavedSchedule}
 use Rattle.explorer_files.specs.Saved.{IsSavedAs}
-use Rattle.nuchapay.specs.Scheduled.{IsCompleted}
+use Rattle.nuchapay.specs.Scheduled.{IsAsMeant, IsCompleted}
 use Rattle.nuchapay.proofs.scheduled.saved_run.Goals as goal
 
 pub returns-in_ok-meant-in-Steps : goal.returns-in_ok-meant-in-Steps
 returns-in_ok-meant-in-Steps c =
     let script = arc_value c.in_ok-script.script in
-    let run : IsCompleted script c.in-Steps.schedule.items c.in_ok-run-in-Steps.run = search rules in
-    let meant = c.in_ok-meant-in-Steps.ensures script run in
+    let meant = c.in_ok-meant-in-Steps.meant in
+    let run : IsCompleted script c.deref-in-Steps.result.now c.in_ok-run-in-Steps.run' = search rules in
+    let told = subst (λ (s : List Move). IsCompleted script s meant × IsAsMeant c.args.choice script s meant) c.deref-in-Steps.ensures.value (c.in_ok-meant-in-Steps.ensures script run) in
     record {
       script = script;
       accepted = subst (IsAccepted c.args.text.now) (sym c.in_ok-script.ensures.ok) c.in_ok-read.ensures.found;
       is = record {
         steps = c.in-Steps.schedule;
         saved = subst (λ (s : SavedSchedule). IsSavedAs c.args.file.now c.args.text.now c.args.choice s) c.in-Steps.is c.in_ok-found.ensures;
-        run = meant.0;
-        meant = meant.1;
+        run = told.0;
+        meant = told.1;
       };
     }
