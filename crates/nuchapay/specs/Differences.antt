@@ -1,5 +1,5 @@
 -- In what two outcomes differ.
-use Rattle.std.specs.Prelude.{◌≡◌, ◌⊎◌, ℕ, ◌+◌, Some, List, length, slice_get}
+use Rattle.std.specs.Prelude.{◌≡◌, ◌⊎◌, ℕ, ◌+◌, Some, List, slice_get}
 use Rattle.explorer_answers.specs.Found.{IsFoundOf}
 use Rattle.explorer_differences.specs.Difference.{difference_text}
 use Rattle.nuchapay.specs.Scheduled.{HasNoOutcome}
