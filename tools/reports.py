@@ -121,7 +121,7 @@ def searches():
     """The examples of `explore` that list outcomes."""
     for name in examples.names():
         words = examples.arguments(name) if examples.is_second(name) else []
-        if words[:1] == [b"explore"] and os.path.exists(name + ".out") and not {b"--broken", b"--schedule", b"--format", b"--save"} & {*words}:
+        if words[:1] == [b"explore"] and os.path.exists(name + ".out") and not {b"--broken", b"--schedule", b"--diff", b"--format", b"--save"} & {*words}:
             yield name
 
 
