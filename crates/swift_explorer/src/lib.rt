@@ -33,8 +33,6 @@ mod search;
 mod silent;
 // What a search has found, as a text.
 mod text;
-// What the next turn of each task begins with.
-mod waiting;
 
 pub use completion::{Completion, StepFault, complete_schedule};
 pub use exploration::{Exploration, FoundOutcomes};
