@@ -1,76 +1,55 @@
 //! The names of a script.
 //!
-//! A name of the file keeps its bytes, but for a keyword of scripts and a name that ends in `_` or begins as those of printed values, which
-//! get one `_` more. All other names of variables and of fields of instances end in one `_`, so they are none of these. A method that reads
-//! a field has the name of the field, which no method of its actor has. Closures are methods of the actor `Task`, a name that no file may
-//! give, and printed values are fields of that of `main`; both have their lines in their names.
+//! A name of the file keeps its bytes, but for a keyword of scripts and a name that ends in `_`, which get one `_` more. All other names of
+//! variables and of fields of instances end in one `_`, so they are none of these; so is that of a variable that begins as those of printed
+//! values. A method that reads a field has the name of the field, which no method of its actor has. Closures are methods of the actor
+//! `Task`, a name that no file may give, and printed values are fields of that of `main`; both have their lines in their names.
 
-use crate::word::is_kept;
+use crate::spelling::{
+    spell_caught, spell_closure, spell_made, spell_main_closure, spell_name, spell_spot,
+    spell_temporary, spell_variable,
+};
 use crate::writing::Writing;
-use swift_expressions::{NONE, Spot, Variable};
-
-// How the names of fields begin that hold printed values.
-const PRINTED: &[u8] = b"print_line";
+use swift_expressions::{NONE, Spot};
 
 /// The name of a token.
 pub(crate) fn write_name(writing: &mut Writing<'_>, token: usize) {
     let bytes = writing.bytes(token);
-    writing.out.bytes(bytes);
-    if is_kept(bytes) || bytes.ends_with(b"_") || bytes.starts_with(PRINTED) {
-        writing.say("_");
-    }
+    spell_name(&mut writing.out, bytes)
+}
+
+/// The name of a field.
+pub(crate) fn write_field_name(writing: &mut Writing<'_>, token: usize) {
+    let alloc = writing.alloc;
+    let bytes = writing.bytes(token);
+    spell_variable(&mut writing.out, alloc, bytes, 0, 0)
 }
 
 /// A word, a number and `_`.
 pub(crate) fn write_made(writing: &mut Writing<'_>, word: &str, number: usize) {
     let alloc = writing.alloc;
-    writing.say(word);
-    writing.out.place(alloc, number);
-    writing.say("_");
-}
-
-// What tells a variable from others of its name: which one it is, and of which method that was put in.
-fn write_suffix(writing: &mut Writing<'_>, duplicate: usize, serial: usize) {
-    if duplicate > 0 {
-        write_made(writing, "_d", duplicate);
-        if serial > 0 {
-            write_made(writing, "", serial);
-        }
-    } else if serial > 0 {
-        write_made(writing, "_", serial);
-    }
-}
-
-// A variable without a name.
-fn write_temporary(writing: &mut Writing<'_>, place: usize, serial: usize) {
-    write_made(writing, "m", place);
-    if serial > 0 {
-        write_made(writing, "", serial);
-    }
-}
-
-fn write_named(writing: &mut Writing<'_>, variable: Variable, serial: usize) {
-    if variable.duplicate == 0 && serial == 0 {
-        write_name(writing, variable.token);
-        return;
-    }
-    let bytes = writing.bytes(variable.token);
-    writing.out.bytes(bytes);
-    write_suffix(writing, variable.duplicate, serial);
+    spell_made(&mut writing.out, alloc, word, number)
 }
 
 /// The name of a variable of a method that was put in.
 pub(crate) fn write_variable(writing: &mut Writing<'_>, place: usize, serial: usize) {
-    match writing.variable_at(place) {
-        Some(variable) => {
-            if variable.token == 0 {
-                write_temporary(writing, place, serial);
-            } else {
-                write_named(writing, variable, serial);
-            }
-        }
-        None => writing.say("_"),
+    let alloc = writing.alloc;
+    let Some(variable) = writing.variable_at(place) else {
+        writing.say("_");
+        return;
+    };
+    if variable.token == 0 {
+        spell_temporary(&mut writing.out, alloc, place, serial);
+        return;
     }
+    let bytes = writing.bytes(variable.token);
+    spell_variable(&mut writing.out, alloc, bytes, variable.duplicate, serial)
+}
+
+/// The name of the task for a call whose error is caught, by the place of its instruction.
+pub(crate) fn write_caught(writing: &mut Writing<'_>, place: usize, serial: usize) {
+    let alloc = writing.alloc;
+    spell_caught(&mut writing.out, alloc, place, serial)
 }
 
 /// The name of an instance.
@@ -81,21 +60,26 @@ pub(crate) fn write_instance(writing: &mut Writing<'_>, instance: usize) {
     }
 }
 
-// The number of a line, and which of its kind it is there where others come before it.
-fn write_spot(writing: &mut Writing<'_>, spot: Spot) {
-    let alloc = writing.alloc;
-    writing.out.place(alloc, spot.line);
-    if spot.before > 0 {
-        writing.say("_");
-        writing.out.place(alloc, spot.before.saturating_add(1));
+/// Which of its kind something is on its line, from 2 on; 0 is the first.
+pub(crate) fn which_of(spot: Spot) -> usize {
+    if spot.before == 0 {
+        0
+    } else {
+        spot.before.saturating_add(1)
     }
 }
 
 /// The name of the field that holds a value that `main` prints.
 pub(crate) fn write_printed(writing: &mut Writing<'_>, place: usize) {
-    writing.out.bytes(PRINTED);
+    let alloc = writing.alloc;
     if let Some(spot) = writing.code.printed.get(place).copied() {
-        write_spot(writing, spot);
+        spell_spot(
+            &mut writing.out,
+            alloc,
+            "print_line",
+            spot.line,
+            which_of(spot),
+        );
     }
 }
 
@@ -107,17 +91,14 @@ pub(crate) fn write_unit(writing: &mut Writing<'_>, unit: usize) {
     let Some(found) = writing.unit_at(unit) else {
         return;
     };
+    let alloc = writing.alloc;
+    let line = found.spot.line;
+    let which = which_of(found.spot);
     if found.method == NONE {
-        writing.say("main");
-    } else {
-        if let Some(declared) = writing.tree.instances.get(writing.instance).copied() {
-            let instance = writing.bytes(declared.name);
-            writing.out.bytes(instance);
-            writing.say("_");
-        }
+        spell_main_closure(&mut writing.out, alloc, line, which);
+    } else if let Some(declared) = writing.tree.instances.get(writing.instance).copied() {
+        let instance = writing.bytes(declared.name);
         let method = writing.bytes(found.method);
-        writing.out.bytes(method);
+        spell_closure(&mut writing.out, alloc, instance, method, line, which);
     }
-    writing.say("_line");
-    write_spot(writing, found.spot);
 }

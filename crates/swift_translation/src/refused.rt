@@ -6,7 +6,7 @@ ghost use Rattle.swift_translation.specs.Refusals.{IsSaidOf, arrow_text, bar_tex
 
 use crate::line::{Line, SHOWN, line_at, shown_line};
 use std::alloc::{AllocError, Global};
-use swift_syntax::Refusal;
+use swift_syntax::{Refusal, Rule};
 
 /// What is said of a refusal: its number and its rule, where it is, that line of the file with a mark under the bytes to blame, and what to
 /// do. Linear in the text.
@@ -28,10 +28,30 @@ pub fn refusal_text(
     let many = refusal.to.saturating_sub(refusal.from);
     let head = head(alloc, refusal.rule.name(), refusal.rule.title())?;
     let place = place(alloc, file, gutter.as_str(), number.as_str(), line, many)?;
-    let help = help(alloc, gutter.as_str(), refusal.rule.help())?;
+    let help = help(alloc, gutter.as_str(), help_of(text, refusal))?;
     let parts = [head.as_str(), place.as_str(), help.as_str()];
     Ok(parts.as_slice().concat(alloc)?.into_bytes())
 }
+
+// What to do.
+fn help_of(text: &[u8], refusal: Refusal) -> &'static str {
+    match refusal.rule {
+        Rule::NotYet if is_do(text, refusal) => DO_HELP,
+        rule => rule.help(),
+    }
+}
+
+// Whether a `do` is to blame.
+fn is_do(text: &[u8], refusal: Refusal) -> bool {
+    match text.get(refusal.from..refusal.to) {
+        Some([b'd', b'o']) => true,
+        _ => false,
+    }
+}
+
+// What to do about a `do` that is not taken.
+const DO_HELP: &str =
+    "a `do` has one statement, with one `try await` behind `=`, `return` or nothing: put what else is done before it, or behind its `catch`, or into a method that throws";
 
 // The number of a rule, and what is wrong.
 fn head<'a>(alloc: Global, name: &'a str, title: &'a str) -> Result<String, AllocError>
@@ -121,7 +141,7 @@ fn mark(alloc: Global, gutter: &str, before: usize, many: usize) -> Result<Strin
     parts.as_slice().concat(alloc)
 }
 
-// What to do.
+// The line on what to do.
 fn help<'a>(alloc: Global, gutter: &'a str, help: &'a str) -> Result<String, AllocError>
     ensures { IfOk result (λ said. string_bytes said ≡ help_text gutter.now help.now) }
 {

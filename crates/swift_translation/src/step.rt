@@ -2,11 +2,12 @@
 
 use crate::frame::{Frame, ResultPlace, put_in, skip_to};
 use crate::naming::{
-    PRECONDITION, write_instance, write_made, write_name, write_printed, write_unit, write_variable,
+    PRECONDITION, write_field_name, write_made, write_name, write_printed, write_variable,
 };
-use crate::value::{write_operands, write_value};
+use crate::value::write_value;
+use crate::wait::{begin_set, wait, write_callee};
 use crate::writing::Writing;
-use swift_expressions::{Callee, Instruction, NONE, Target, Wait};
+use swift_expressions::{Callee, Instruction, NONE};
 use swift_syntax::Rule;
 use swift_types::Priority;
 
@@ -33,14 +34,6 @@ fn turn_over(writing: &mut Writing<'_>) {
     open(writing, true);
 }
 
-// `let` or nothing, a variable, and `=`.
-fn begin_set(writing: &mut Writing<'_>, word: &str, variable: usize, serial: usize) {
-    writing.line();
-    writing.say(word);
-    write_variable(writing, variable, serial);
-    writing.say(" = ");
-}
-
 fn write_set(writing: &mut Writing<'_>, word: &str, variable: usize, value: usize, serial: usize) {
     begin_set(writing, word, variable, serial);
     write_value(writing, value, serial);
@@ -51,7 +44,7 @@ fn write_set(writing: &mut Writing<'_>, word: &str, variable: usize, value: usiz
 fn write_field_set(writing: &mut Writing<'_>, field: usize, value: usize, serial: usize) {
     writing.line();
     if let Some(declared) = writing.tree.fields.get(field).copied() {
-        write_name(writing, declared.name);
+        write_field_name(writing, declared.name);
     }
     writing.say(" = ");
     write_value(writing, value, serial);
@@ -82,110 +75,6 @@ fn write_require(writing: &mut Writing<'_>, value: usize, line: usize, serial: u
     writing.out.place(alloc, line);
     writing.say(";");
     close(writing);
-}
-
-// A method of an instance. One of the own instance would end the turn where Swift does not: it is refused, and so are its fields.
-fn write_method(writing: &mut Writing<'_>, instance: usize, method: usize) {
-    write_instance(writing, instance);
-    writing.say(".");
-    if let Some(declared) = writing.tree.methods.get(method).copied() {
-        if instance == writing.instance && !is_closure(writing) {
-            writing.refuse(Rule::NotYet, declared.name);
-        }
-        write_name(writing, declared.name);
-    }
-}
-
-// Whether what is written is a closure.
-fn is_closure(writing: &Writing<'_>) -> bool {
-    match writing.frames.first() {
-        Some(frame) => match writing.unit_at(frame.unit) {
-            Some(unit) => matches!(unit.kind, swift_expressions::UnitKind::Closure),
-            None => false,
-        },
-        None => false,
-    }
-}
-
-// What is waited for.
-fn write_wait(writing: &mut Writing<'_>, what: Wait, serial: usize) {
-    match what {
-        Wait::Method(instance, method, first) => {
-            write_method(writing, instance, method);
-            write_arguments(writing, first, serial);
-        }
-        Wait::Getter(instance, field) => {
-            write_instance(writing, instance);
-            writing.say(".");
-            if let Some(declared) = writing.tree.fields.get(field).copied() {
-                if instance == writing.instance && !is_closure(writing) {
-                    writing.refuse(Rule::NotYet, declared.name);
-                }
-                write_name(writing, declared.name);
-            }
-            writing.say("()");
-        }
-        Wait::Own(method, first) => {
-            let instance = writing.instance;
-            write_instance(writing, instance);
-            writing.say(".");
-            if let Some(declared) = writing.tree.methods.get(method).copied() {
-                write_name(writing, declared.name);
-            }
-            write_arguments(writing, first, serial);
-        }
-        Wait::Unit(unit, first) => {
-            writing.say("Task.");
-            write_unit(writing, unit);
-            write_arguments(writing, first, serial);
-        }
-        Wait::Task(variable) => {
-            writing.say("task ");
-            write_variable(writing, variable, serial);
-        }
-        Wait::Next(variable) => {
-            writing.say("next ");
-            write_variable(writing, variable, serial);
-        }
-    }
-}
-
-fn write_arguments(writing: &mut Writing<'_>, first: usize, serial: usize) {
-    writing.say("(");
-    write_operands(writing, first, serial);
-    writing.say(")");
-}
-
-fn wait(writing: &mut Writing<'_>, target: Target, what: Wait, otherwise: usize, serial: usize) {
-    match target {
-        Target::Nothing => writing.line(),
-        Target::Declare(variable) => begin_set(writing, "let ", variable, serial),
-    }
-    writing.say("await ");
-    write_wait(writing, what, serial);
-    if otherwise != NONE {
-        writing.say(" else ");
-        write_value(writing, otherwise, serial);
-    }
-    writing.say(";");
-}
-
-fn write_callee(writing: &mut Writing<'_>, callee: Callee, serial: usize) {
-    match callee {
-        Callee::Method(instance, method, first) => {
-            write_instance(writing, instance);
-            writing.say(".");
-            if let Some(declared) = writing.tree.methods.get(method).copied() {
-                write_name(writing, declared.name);
-            }
-            write_arguments(writing, first, serial);
-        }
-        Callee::Unit(unit, first) => {
-            writing.say("Task.");
-            write_unit(writing, unit);
-            write_arguments(writing, first, serial);
-        }
-    }
 }
 
 // `at` with a priority, if there is one.
@@ -379,7 +268,7 @@ pub(crate) fn step(writing: &mut Writing<'_>, frame: Frame, instruction: Instruc
         | Instruction::Print(..)
         | Instruction::Require(..) => step_set(writing, serial, instruction),
         Instruction::Wait(target, what, otherwise) => {
-            wait(writing, target, what, otherwise, serial);
+            wait(writing, frame, target, what, otherwise);
         }
         Instruction::Inline(target, method, first, token) => {
             put_in(writing, frame, target, method, first, token);

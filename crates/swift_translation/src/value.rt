@@ -1,7 +1,7 @@
 //! Values as expressions.
 
 use crate::actor::start_value;
-use crate::naming::{write_instance, write_name, write_variable};
+use crate::naming::{write_field_name, write_instance, write_name, write_variable};
 use crate::writing::Writing;
 use swift_expressions::{NONE, Value};
 use swift_types::Operator;
@@ -28,7 +28,7 @@ fn write_field(writing: &mut Writing<'_>, field: usize) {
         return;
     };
     if declared.is_var {
-        write_name(writing, declared.name);
+        write_field_name(writing, declared.name);
     } else {
         let number = start_value(writing, writing.instance, declared);
         let alloc = writing.alloc;
@@ -44,7 +44,7 @@ fn write_member(writing: &mut Writing<'_>, instance: usize, field: usize) {
     if declared.is_var {
         write_instance(writing, instance);
         writing.say(".");
-        write_name(writing, declared.name);
+        write_field_name(writing, declared.name);
     } else {
         let number = start_value(writing, instance, declared);
         let alloc = writing.alloc;

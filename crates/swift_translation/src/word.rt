@@ -1,59 +1,58 @@
 //! Words that a script keeps.
 
-struct Kept {
-    spelling: &'static str,
-}
+ghost use Rattle.std.specs.Prelude.{◌≡◌, bytes_eq};
+ghost use Rattle.std.specs.List.{list_any};
+ghost use Rattle.swift_translation.specs.Names.{is_kept};
 
-static WORDS: [Kept; 36] = [
-    Kept { spelling: "actor" },
-    Kept { spelling: "add" },
-    Kept { spelling: "assume" },
-    Kept { spelling: "at" },
-    Kept { spelling: "await" },
-    Kept {
-        spelling: "background",
-    },
-    Kept { spelling: "bind" },
-    Kept { spelling: "cancel" },
-    Kept {
-        spelling: "cancelled",
-    },
-    Kept { spelling: "check" },
-    Kept { spelling: "detach" },
-    Kept { spelling: "else" },
-    Kept {
-        spelling: "executor",
-    },
-    Kept { spelling: "fifo" },
-    Kept { spelling: "func" },
-    Kept { spelling: "group" },
-    Kept { spelling: "high" },
-    Kept { spelling: "if" },
-    Kept {
-        spelling: "invariant",
-    },
-    Kept { spelling: "let" },
-    Kept { spelling: "local" },
-    Kept { spelling: "low" },
-    Kept { spelling: "medium" },
-    Kept { spelling: "next" },
-    Kept { spelling: "on" },
-    Kept { spelling: "pinned" },
-    Kept {
-        spelling: "priority",
-    },
-    Kept { spelling: "return" },
-    Kept { spelling: "root" },
-    Kept { spelling: "spawn" },
-    Kept { spelling: "task" },
-    Kept { spelling: "throw" },
-    Kept { spelling: "unless" },
-    Kept { spelling: "var" },
-    Kept { spelling: "while" },
-    Kept { spelling: "yield" },
+/// The keywords of scripts.
+pub const WORDS: [&[u8]; 36] = [
+    b"actor",
+    b"add",
+    b"assume",
+    b"at",
+    b"await",
+    b"background",
+    b"bind",
+    b"cancel",
+    b"cancelled",
+    b"check",
+    b"detach",
+    b"else",
+    b"executor",
+    b"fifo",
+    b"func",
+    b"group",
+    b"high",
+    b"if",
+    b"invariant",
+    b"let",
+    b"local",
+    b"low",
+    b"medium",
+    b"next",
+    b"on",
+    b"pinned",
+    b"priority",
+    b"return",
+    b"root",
+    b"spawn",
+    b"task",
+    b"throw",
+    b"unless",
+    b"var",
+    b"while",
+    b"yield",
 ];
 
 /// Whether a name is a keyword of scripts.
-pub(crate) fn is_kept(name: &[u8]) -> bool {
-    WORDS.iter().any(|w| w.spelling.as_bytes() == name)
+pub(crate) fn is_kept(name: &[u8]) -> bool
+    ensures { result ≡ is_kept name.now }
+{
+    is_among(&WORDS, name)
+}
+
+fn is_among(words: &[&[u8]], name: &[u8]) -> bool
+    ensures { result ≡ list_any (λ word. bytes_eq word.now name.now) words.now }
+{
+    words.iter().any(|word| *word == name)
 }

@@ -6,6 +6,20 @@ use std::alloc::Global;
 use swift_expressions::{Code, Instruction, Unit, Value, Variable};
 use swift_syntax::{Breach, Rule, Token, Tree};
 
+// Whether some task asks whether it is cancelled.
+fn asks_cancelled(code: &Code) -> bool {
+    code.values.iter().any(|v| matches!(v, Value::Cancelled))
+        || code
+            .instructions
+            .iter()
+            .any(|i| matches!(i, Instruction::Check))
+}
+
+// Whether some task may be cancelled, by itself or with its group.
+fn may_cancel(code: &Code) -> bool {
+    code.instructions.iter().any(|i| matches!(i, Instruction::Cancel(_) | Instruction::Group(_)))
+}
+
 /// A script that is written, and from what.
 #[derive(Drop)]
 pub(crate) struct Writing<'a> {
@@ -24,6 +38,8 @@ pub(crate) struct Writing<'a> {
     pub serial: usize,
     /// The instance whose actor is written.
     pub instance: usize,
+    /// Whether a task may ask whether it is cancelled, and be so.
+    pub may_ask_cancelled: bool,
     /// The first rule that is broken.
     pub refused: Option<Breach>,
 }
@@ -47,6 +63,7 @@ impl<'a> Writing<'a> {
             blocks: Vec::new(alloc),
             serial: 0,
             instance: usize::MAX,
+            may_ask_cancelled: asks_cancelled(code) && may_cancel(code),
             refused: None,
         }
     }

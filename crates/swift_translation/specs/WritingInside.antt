@@ -1,0 +1,7 @@
+-- What is written. No public clause names it. (Own.)
+use Rattle.std.specs.Prelude.{◌≡◌, ◌++◌, ℕ, List, IsFalse}
+use Rattle.swift_translation.specs.declared.writer.Writer.{Writer}
+
+-- These bytes are put after what is written, unless memory runs out; then the writer says so from there on.
+abbrev pub GoesOn : Writer → Writer → List ℕ → Type 0
+GoesOn before after bytes = IsFalse after.lacks_memory → IsFalse before.lacks_memory × (after.text.items ≡ before.text.items ++ bytes)
