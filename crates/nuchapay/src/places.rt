@@ -35,7 +35,11 @@ fn say_under(rt: &HostRuntime, title: &str, said: Result<Vec<u8>, AllocError>) -
 
 /// Says from which lines of a Swift file each method is; nothing of a script. The status to end with: this one, unless that fails.
 pub fn say_places(rt: &HostRuntime, file: ScriptFile<'_>, status: u8) -> u8 {
-    match say_under(rt, "\nmethods\n", places_text(rt.alloc(), file.name, file.places)) {
+    match say_under(
+        rt,
+        "\nmethods\n",
+        places_text(rt.alloc(), file.name, file.places),
+    ) {
         0 => status,
         failed => failed,
     }
@@ -61,7 +65,11 @@ fn method_in(said: &[u8]) -> &str {
 /// unless that fails.
 pub fn say_method(rt: &HostRuntime, file: ScriptFile<'_>, said: &[u8], status: u8) -> u8 {
     let name = method_in(said).as_bytes();
-    match say_under(rt, "file\n", method_line(rt.alloc(), file.name, name, file.places)) {
+    match say_under(
+        rt,
+        "file\n",
+        method_line(rt.alloc(), file.name, name, file.places),
+    ) {
         0 => status,
         failed => failed,
     }

@@ -5,7 +5,7 @@ use crate::naming::{
     PRECONDITION, write_field_name, write_instance, write_name, write_printed, write_unit,
     write_variable,
 };
-use crate::places::{lines, place_of_token};
+use crate::places::{lines_between, place_of_token};
 use crate::value::write_value;
 use crate::writing::Writing;
 use swift_expressions::{Instruction, NONE, Unit, UnitKind};
@@ -94,7 +94,7 @@ fn actor_of(writing: &Writing<'_>, instance: usize) -> Option<usize> {
 fn write_lines(writing: &mut Writing<'_>, unit: Unit) {
     let from = place_of_token(writing.text, writing.tokens, unit.token);
     let end = place_of_token(writing.text, writing.tokens, unit.end);
-    let found = lines(writing.text, from, end);
+    let found = lines_between(writing.text, from, end);
     let alloc = writing.alloc;
     writing.say("\n    // lines ");
     writing.out.place(alloc, found.first);

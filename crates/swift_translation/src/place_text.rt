@@ -34,13 +34,7 @@ fn say_places(out: &mut Writer, alloc: Global, file: &str, places: &[MethodPlace
 }
 
 // The line of the first method of a name, if there is one.
-fn say_method(
-    out: &mut Writer,
-    alloc: Global,
-    file: &str,
-    name: &[u8],
-    places: &[MethodPlace],
-)
+fn say_method(out: &mut Writer, alloc: Global, file: &str, name: &[u8], places: &[MethodPlace])
     ensures { GoesOn out.old out.new (line_of_method file.now name.now places.now) }
 {
     if let [place, rest @ ..] = places {
@@ -58,11 +52,7 @@ fn say_method(
 /// # Errors
 ///
 /// `AllocError` where there is no memory for them.
-pub fn places_text(
-    alloc: Global,
-    file: &str,
-    places: &[MethodPlace],
-) -> Result<Vec<u8>, AllocError>
+pub fn places_text(alloc: Global, file: &str, places: &[MethodPlace]) -> Result<Vec<u8>, AllocError>
     ensures { IfOk result (λ said. said.items ≡ place_lines file.now places.now) }
 {
     let mut out = Writer::new(alloc);

@@ -34,7 +34,7 @@ pub(crate) struct Lines {
 }
 
 /// The lines from one place of a text to another; the first one alone, where the other place stands above it.
-pub(crate) fn lines(text: &[u8], from: usize, end: usize) -> Lines
+pub(crate) fn lines_between(text: &[u8], from: usize, end: usize) -> Lines
     ensures first { result.first ≡ line_of text.now from }
     ensures least { 1 ≤ result.first }
     ensures order { result.first ≤ result.last }
@@ -61,7 +61,10 @@ fn token_at(text: &[u8], tokens: &[Token], place: usize) -> Option<Token>
     requires { All (IsTokenOf text.now) tokens.now }
     ensures { IfSome result (IsTokenOf text.now) }
 {
-    tokens.get(place).copied()
+    match tokens.get(place) {
+        Some(token) => Some(*token),
+        None => None,
+    }
 }
 
 // The bytes of a token.
@@ -78,7 +81,11 @@ pub(crate) fn finished(out: Writer) -> Result<Vec<u8>, AllocError>
     ensures text { IfOk result (λ bytes. bytes.items ≡ out.text.items) }
 {
     let Writer { text, lacks_memory } = out;
-    if lacks_memory { Err(AllocError) } else { Ok(text) }
+    if lacks_memory {
+        Err(AllocError)
+    } else {
+        Ok(text)
+    }
 }
 
 // What a method of an actor is called.
@@ -131,7 +138,7 @@ fn method_place(
     ensures { IfOk result (IsPlaceIn text.now) }
 {
     let name = method_name(alloc, bytes_of(text, instance), bytes_of(text, method))?;
-    let Lines { first, last } = lines(text, method.from, end);
+    let Lines { first, last } = lines_between(text, method.from, end);
     Ok(MethodPlace { name, first, last })
 }
 
@@ -189,7 +196,7 @@ fn main_place(
     requires { IsTokenOf text.now name }
     ensures { IfOk result (IsPlaceIn text.now) }
 {
-    let Lines { first, last } = lines(text, name.from, end);
+    let Lines { first, last } = lines_between(text, name.from, end);
     let name = method_name(alloc, bytes_of(text, name), b"main")?;
     Ok(MethodPlace { name, first, last })
 }
@@ -214,11 +221,11 @@ fn unit_place(
             Some(method_place(alloc, text, instance, method, end)?)
         }
         (UnitKind::Closure, Some(instance), Some(method)) => {
-            let found = lines(text, from, end);
+            let found = lines_between(text, from, end);
             Some(closure_place(alloc, text, instance, method, found, which)?)
         }
         (UnitKind::Closure, None, _) => {
-            let found = lines(text, from, end);
+            let found = lines_between(text, from, end);
             Some(main_closure_place(alloc, text, found, which)?)
         }
         (UnitKind::Main, None, _) => match token_at(text, tokens, unit.token) {
@@ -292,7 +299,15 @@ pub(crate) fn places(
     for declared in tree.instances.iter() {
         let instance = token_at(text, tokens, declared.name);
         if let (Some(_), Some(actor)) = (instance, actor_named(text, tokens, tree, declared.of)) {
-            add_places(alloc, text, tokens, &code.units, actor, instance, &mut found)?;
+            add_places(
+                alloc,
+                text,
+                tokens,
+                &code.units,
+                actor,
+                instance,
+                &mut found,
+            )?;
         }
     }
     add_places(alloc, text, tokens, &code.units, NONE, None, &mut found)?;

@@ -98,7 +98,13 @@ fn is_call(what: Wait) -> bool {
 }
 
 /// A wait, with the value that stands for its result where it ends with a fault, if there is one.
-pub(crate) fn wait(writing: &mut Writing<'_>, frame: Frame, target: Target, what: Wait, otherwise: usize) {
+pub(crate) fn wait(
+    writing: &mut Writing<'_>,
+    frame: Frame,
+    target: Target,
+    what: Wait,
+    otherwise: usize,
+) {
     let is_apart = otherwise != NONE && (is_call(what) && !writing.may_ask_cancelled);
     if is_apart {
         make_caught(writing, frame, what);

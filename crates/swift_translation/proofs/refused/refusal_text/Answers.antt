@@ -5,6 +5,6 @@ pub returns : goal.returns
 returns c = record {
   name = c.name.result.now;
   title = c.title.result.now;
-  help = c.help.result.now;
+  help = c.help_of.result.now;
   is = search rules;
 }
