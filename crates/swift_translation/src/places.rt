@@ -237,7 +237,34 @@ fn unit_place(
     Ok(found)
 }
 
-// Puts the methods that the units of an actor become, for an instance of it, behind others; for no instance those of `main`.
+// Puts the method that a unit becomes behind others, where it stands in the text of this actor.
+fn add_place(
+    alloc: Global,
+    text: &[u8],
+    tokens: &[Token],
+    unit: Unit,
+    actor: usize,
+    instance: Option<Token>,
+    found: &mut Vec<MethodPlace>,
+) -> Result<(), AllocError>
+    requires tokens { All (IsTokenOf text.now) tokens.now }
+    requires instance { IfSome instance (IsTokenOf text.now) }
+    requires found { All (IsPlaceIn text.now) found.old.items }
+    ensures { All (IsPlaceIn text.now) found.new.items }
+{
+    if unit.actor != actor {
+        return Ok(());
+    }
+    match unit_place(alloc, text, tokens, instance, unit)? {
+        Some(place) => {
+            found.push(place)?;
+            Ok(())
+        }
+        None => Ok(()),
+    }
+}
+
+// Puts the methods that the units of an actor become behind others, for an instance of it; for none those of `main`.
 fn add_places(
     alloc: Global,
     text: &[u8],
@@ -252,14 +279,13 @@ fn add_places(
     requires found { All (IsPlaceIn text.now) found.old.items }
     ensures { All (IsPlaceIn text.now) found.new.items }
 {
-    for unit in units {
-        if unit.actor == actor {
-            if let Some(place) = unit_place(alloc, text, tokens, instance, *unit)? {
-                found.push(place)?;
-            }
+    match units {
+        [] => Ok(()),
+        [unit, rest @ ..] => {
+            add_place(alloc, text, tokens, *unit, actor, instance, found)?;
+            add_places(alloc, text, tokens, rest, actor, instance, found)
         }
     }
-    Ok(())
 }
 
 // The place of the actor that a token names.
