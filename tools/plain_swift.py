@@ -42,7 +42,7 @@ from script_tree import Actor, Call, Expr, NoScript, Reader, Script, Statement
 TOP = os.path.dirname(os.path.dirname(os.path.abspath(__file__)))
 TESTS = frozenset(["!", "&&", "||", "==", "!=", "<", "<=", ">", ">=", "cancelled"])
 # A variable that the reader of Swift, or the printer, made.
-MADE = re.compile(r"m\d+_|g_\d+")
+MADE = re.compile(r"m\d+_|g_\d+(_0d\d+_)?")
 # The task of a call whose error is caught.
 CAUGHT = re.compile(r"caught\d+_")
 SECONDS = 120
