@@ -1,0 +1,11 @@
+pub mod Told
+pub mod Alike
+pub mod Ends
+pub mod LocalEnds
+pub mod Shared
+pub mod Out
+pub mod Merged
+pub mod Publishing
+pub mod Room
+pub mod Goers
+pub mod Open

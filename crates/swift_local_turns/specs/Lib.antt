@@ -1,0 +1,6 @@
+pub mod LocalTurns
+pub mod Answers
+pub mod Tickets
+pub mod Merges
+pub mod Publishing
+pub mod Room
