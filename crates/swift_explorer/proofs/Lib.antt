@@ -1,12 +1,8 @@
 mod Copies
-mod Given
-mod Led
 mod Followed
 mod First
 mod Ended
 mod Orderly
-mod Rows
-mod Ran
 mod Used
 mod Past
 mod Paths

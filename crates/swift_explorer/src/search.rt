@@ -135,9 +135,9 @@ fn key_of(alloc: Global, history: SearchedHistory) -> Result<Vec<u8>, AllocError
 
 // Follows these steps.
 pub(crate) fn follow(history: &mut SearchedHistory, path: &[Move]) -> Result<Followed, AllocError>
-    requires { IsPath (arc_value history.old.script) [] history.old }
-    ensures script { history.new.script ≡ history.old.script }
-    ensures path { IfOk result (λ f. WasDone f → IsPath (arc_value history.old.script) path.now history.new) }
+    requires { IsPath (arc_value history.old.steps.script) [] history.old }
+    ensures script { history.new.steps.script ≡ history.old.steps.script }
+    ensures path { IfOk result (λ f. WasDone f → IsPath (arc_value history.old.steps.script) path.now history.new) }
 {
     for step in path {
         if let Followed::No = history.step(*step)? {
@@ -153,10 +153,10 @@ fn follow_one(
     path: &[Move],
     step: Move,
 ) -> Result<Followed, AllocError>
-    requires { IsPath (arc_value history.old.script) path.now history.old }
-    ensures broken { IfOk result (λ f. f ≡ Followed.Broken → IsBrokenAfter (arc_value history.old.script) (path.now ++ step ∷ [])) }
-    ensures path { IfOk result (λ f. WasDone f → IsPath (arc_value history.old.script) (path.now ++ step ∷ []) history.new) }
-    ensures last { IfOk result (λ f. WasDone f → IsFollowedBy (arc_value history.old.script) path.now step history.new f) }
+    requires { IsPath (arc_value history.old.steps.script) path.now history.old }
+    ensures broken { IfOk result (λ f. f ≡ Followed.Broken → IsBrokenAfter (arc_value history.old.steps.script) (path.now ++ step ∷ [])) }
+    ensures path { IfOk result (λ f. WasDone f → IsPath (arc_value history.old.steps.script) (path.now ++ step ∷ []) history.new) }
+    ensures last { IfOk result (λ f. WasDone f → IsFollowedBy (arc_value history.old.steps.script) path.now step history.new f) }
 {
     let _ = path;
     history.step(step)
@@ -168,8 +168,8 @@ fn begun(
     path: &[Move],
     task: TaskId,
 ) -> Result<Option<SearchedHistory>, AllocError>
-    requires { IsPath (arc_value history.script) path.now history }
-    ensures { IfOk result (λ o. IfSome o (IsPath (arc_value history.script) (path.now ++ Move.Begin task ∷ []))) }
+    requires { IsPath (arc_value history.steps.script) path.now history }
+    ensures { IfOk result (λ o. IfSome o (IsPath (arc_value history.steps.script) (path.now ++ Move.Begin task ∷ []))) }
 {
     let mut next = history;
     match follow_one(&mut next, path, Move::Begin(task)) {
@@ -192,8 +192,8 @@ fn first_followed(
     path: &[Move],
     step: Step,
 ) -> Result<Option<SearchedHistory>, AllocError>
-    requires { IsPath (arc_value history.now.script) path.now history.now }
-    ensures { IfOk result (λ o. IfSome o (IsPath (arc_value history.now.script) (path.now ++ first_half step))) }
+    requires { IsPath (arc_value history.now.steps.script) path.now history.now }
+    ensures { IfOk result (λ o. IfSome o (IsPath (arc_value history.now.steps.script) (path.now ++ first_half step))) }
 {
     let next = history.copy()?;
     match step {
@@ -233,12 +233,12 @@ fn follow_ahead(
     last: Move,
     moves: &mut Vec<Move>,
 ) -> Result<Followed, AllocError>
-    requires path { IsPath (arc_value history.old.script) path.now history.old }
-    requires told { AreTold (arc_value history.old.script) away.now }
-    requires marked { HaveMarks (arc_value history.old.script) marks.now }
-    requires hold { StartsHold (arc_value history.old.script) }
-    ensures broken { IfOk result (λ f. f ≡ Followed.Broken → IsBrokenAfter (arc_value history.old.script) (path.now ++ last ∷ [])) }
-    ensures ahead { IfOk result (λ f. WasDone f → IsFollowedAhead (arc_value history.old.script) path.now last history.new f moves.old.items moves.new.items) }
+    requires path { IsPath (arc_value history.old.steps.script) path.now history.old }
+    requires told { AreTold (arc_value history.old.steps.script) away.now }
+    requires marked { HaveMarks (arc_value history.old.steps.script) marks.now }
+    requires hold { StartsHold (arc_value history.old.steps.script) }
+    ensures broken { IfOk result (λ f. f ≡ Followed.Broken → IsBrokenAfter (arc_value history.old.steps.script) (path.now ++ last ∷ [])) }
+    ensures ahead { IfOk result (λ f. WasDone f → IsFollowedAhead (arc_value history.old.steps.script) path.now last history.new f moves.old.items moves.new.items) }
 {
     let done = follow_one(history, path, last)?;
     if let Followed::No = done {
@@ -267,9 +267,9 @@ fn look_ahead(
     away: &[bool],
     path: &[Move],
 ) -> Result<Option<Ahead>, AllocError>
-    requires path { IsPath (arc_value history.now.script) path.now history.now }
-    requires told { AreTold (arc_value history.now.script) away.now }
-    ensures { IfOk result (λ o. IfSome o (λ ahead. IsAhead (arc_value history.now.script) path.now ahead)) }
+    requires path { IsPath (arc_value history.now.steps.script) path.now history.now }
+    requires told { AreTold (arc_value history.now.steps.script) away.now }
+    ensures { IfOk result (λ o. IfSome o (λ ahead. IsAhead (arc_value history.now.steps.script) path.now ahead)) }
 {
     let Some(steps) = history.next_fused(away)? else {
         return Ok(None);

@@ -16,10 +16,10 @@ try_last-requires c =
     let moves = c.in_ok-push.ensures.items ∙ ap (λ (ms : List Move). ms ++ last ∷ []) (c.in_ok-put_first.ensures ∙ ap (λ (ms : List Move). ms ++ first) c.new-moves.ensures.items) in
     let front = c.deref.ensures.value ∙ c.in_ok-put_first-2.ensures ∙ ap (λ (ms : List Move). ms ++ first) c.in_ok-front.ensures.items in
     let script = arc_value c.args.self.now.script in
-    let led : IsPath (arc_value c.args.history.now.script) (path ++ first) c.in-Some.next = search rules in
+    let led : IsPath (arc_value c.args.history.now.steps.script) (path ++ first) c.in-Some.next = search rules in
     record {
       sound = c.requires.sound;
-      followed = subst (λ (ms : List Move). IsPath script ms c.in-Some.next) (sym front) (subst (λ (s : ScriptView). IsPath s (path ++ first) c.in-Some.next) c.requires.followed.is.script_is led);
+      followed = subst (λ (ms : List Move). IsPath script ms c.in-Some.next) (sym front) (subst (λ (s : ScriptView). IsPath s (path ++ first) c.in-Some.next) c.requires.followed.is.followed.script_is led);
       path = (path, c.requires.path, ap (λ (ms : List Move). path ++ ms) moves ∙ sym (append_assoc path first (last ∷ [])) ∙ ap (λ (ms : List Move). ms ++ last ∷ []) (sym front));
     }
 
