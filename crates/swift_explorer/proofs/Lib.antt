@@ -29,6 +29,7 @@ pub mod DigestCodes
 pub mod Within
 pub mod Steps
 pub mod CardSteps
+mod CardsNoted
 mod Marks
 mod LooksAway
 mod InvariantsOfActors
