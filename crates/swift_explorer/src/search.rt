@@ -17,7 +17,7 @@ ghost use Rattle.swift_explorer.specs.Numbers.{list_numbers};
 use crate::away::methods_look_away;
 use crate::fused::Step;
 use crate::history::{Followed, SearchedHistory};
-use crate::key_set::KeySet;
+use crate::key_set::{Key, KeySet};
 use crate::keys::{pack, put_ending, put_fields, put_origin};
 use crate::moves::Move;
 use crate::outcome::{End, RunOutcome};
@@ -116,21 +116,25 @@ fn put_endings(key: &mut Vec<i64>, endings: &[(Origin, Ending)]) -> Result<(), A
 }
 
 // An outcome, as bytes.
-fn outcome_key(alloc: Global, outcome: &RunOutcome) -> Result<Vec<u8>, AllocError>
-    ensures { IfOk result (λ key. key.items ≡ outcome_bytes outcome.now) }
+fn outcome_key(alloc: Global, outcome: &RunOutcome) -> Result<Key, AllocError>
+    ensures { IfOk result (λ key. key.bytes.items ≡ outcome_bytes outcome.now) }
 {
     let mut key = Vec::new(alloc);
     put_endings(&mut key, &outcome.endings)?;
     put_fields(&mut key, &outcome.fields)?;
-    pack(alloc, &key)
+    Ok(Key {
+        bytes: pack(alloc, &key)?,
+    })
 }
 
 // What decides how a history may go on, as bytes.
-fn key_of(alloc: Global, history: SearchedHistory) -> Result<Vec<u8>, AllocError>
-    ensures { IfOk result (λ key. IsKeyOf history key.items) }
+fn key_of(alloc: Global, history: SearchedHistory) -> Result<Key, AllocError>
+    ensures { IfOk result (λ key. IsKeyOf history key.bytes.items) }
 {
     let numbers = history.into_key()?;
-    pack(alloc, &numbers)
+    Ok(Key {
+        bytes: pack(alloc, &numbers)?,
+    })
 }
 
 // Follows these steps.
