@@ -35,6 +35,9 @@ use swift_script::Script;
 use swift_steps::{OpenHistory, PlayedTurn, copy_all_fields};
 use swift_types::{Ending, ExecId, Fault, TaskId};
 
+// Room for so many numbers of a key is made at once: most have some hundred.
+const NUMBERS: usize = 1_024;
+
 /// Whether a step could be done.
 #[derive(Clone, Copy, PartialEq, Eq)]
 pub enum Followed {
@@ -411,6 +414,7 @@ impl SearchedHistory {
         let put = put_jobs(&mut key, &mut waiting);
         spend_all(waiting);
         put?;
+        key.reserve(NUMBERS)?;
         put_flags(&mut key, &used)?;
         put_fields(&mut key, &fields)?;
         put_ready(&mut key, tasks)?;

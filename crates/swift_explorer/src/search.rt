@@ -190,19 +190,18 @@ fn begun(
     }
 }
 
-// A copy of a history to which these steps have led, after the first half of a step. Nothing where that may not follow.
+// A history to which these steps have led, after the first half of a step. Nothing where that may not follow.
 fn first_followed(
-    history: &SearchedHistory,
+    history: SearchedHistory,
     path: &[Move],
     step: Step,
 ) -> Result<Option<SearchedHistory>, AllocError>
-    requires { IsPath (arc_value history.now.steps.script) path.now history.now }
-    ensures { IfOk result (λ o. IfSome o (IsPath (arc_value history.now.steps.script) (path.now ++ first_half step))) }
+    requires { IsPath (arc_value history.steps.script) path.now history }
+    ensures { IfOk result (λ o. IfSome o (IsPath (arc_value history.steps.script) (path.now ++ first_half step))) }
 {
-    let next = history.copy()?;
     match step {
-        Step::One(_) => Ok(Some(next)),
-        Step::Turn(task) => begun(next, path, task),
+        Step::One(_) => Ok(Some(history)),
+        Step::Turn(task) => begun(history, path, task),
     }
 }
 
@@ -398,16 +397,16 @@ impl Search {
         }
     }
 
-    // Follows one more step than these, which were followed, in a copy of the history, and keeps where it leads.
+    // Follows one more step than these, which were followed, and keeps where it leads.
     fn try_step(
         &mut self,
-        history: &SearchedHistory,
+        history: KeptHistory,
         path: &[Move],
         before: usize,
         step: Step,
     ) -> Result<(), AllocError>
         requires sound { IsSound (arc_value self.old.script) self.old }
-        requires followed { IsPath (arc_value self.old.script) path.now history.now }
+        requires followed { IsPath (arc_value self.old.script) path.now history.history }
         requires path { slice_get (paths_of self.old.nodes.items) before ≡ Some path.now }
         ensures grown { OnOk result (HasGrown self.old self.new) }
         ensures sound { OnOk result (IsSound (arc_value self.old.script) self.new) }
@@ -419,7 +418,7 @@ impl Search {
         let mut front = Vec::from_slice(self.alloc, path)?;
         step.put_first(&mut front)?;
         moves.push(last)?;
-        let Some(next) = first_followed(history, path, step)? else {
+        let Some(next) = first_followed(history.into_history(), path, step)? else {
             self.is_complete = false;
             return Ok(());
         };
@@ -469,8 +468,8 @@ impl Search {
         }
     }
 
-    // Follows each of these steps after a history to which the path has led, and keeps where it leads.
-    fn try_all(
+    // Follows each of these steps in a copy of a history to which the path has led, and keeps where it leads.
+    fn try_each(
         &mut self,
         history: &SearchedHistory,
         path: &[Move],
@@ -485,8 +484,33 @@ impl Search {
         ensures tried { OnOk result (IsTrue self.new.is_complete → All (StepWasTried (arc_value self.old.script) self.new path.now) steps.now) }
     {
         for step in steps {
-            self.try_step(history, path, place, *step)?;
+            let again = history.copy()?;
+            self.try_step(KeptHistory { history: again }, path, place, *step)?;
         }
+        Ok(())
+    }
+
+    // Follows each of these steps after a history to which the path has led, the last one in the history itself, and keeps where it leads.
+    fn try_all(
+        &mut self,
+        history: KeptHistory,
+        path: &[Move],
+        place: usize,
+        steps: &[Step],
+    ) -> Result<(), AllocError>
+        requires sound { IsSound (arc_value self.old.script) self.old }
+        requires followed { IsPath (arc_value self.old.script) path.now history.history }
+        requires path { slice_get (paths_of self.old.nodes.items) place ≡ Some path.now }
+        ensures grown { OnOk result (HasGrown self.old self.new) }
+        ensures sound { OnOk result (IsSound (arc_value self.old.script) self.new) }
+        ensures tried { OnOk result (IsTrue self.new.is_complete → All (StepWasTried (arc_value self.old.script) self.new path.now) steps.now) }
+    {
+        let Some(parts) = steps.split_last() else {
+            return Ok(());
+        };
+        let (last, front) = parts;
+        self.try_each(&history.history, path, place, front)?;
+        self.try_step(history, path, place, *last)?;
         Ok(())
     }
 
@@ -507,13 +531,13 @@ impl Search {
     // Goes on from a history to which these steps have led, where this is known of what comes after it.
     fn go_on(
         &mut self,
-        history: &SearchedHistory,
+        history: KeptHistory,
         path: &[Move],
         place: usize,
         ahead: Ahead,
     ) -> Result<(), AllocError>
         requires sound { IsSound (arc_value self.old.script) self.old }
-        requires followed { IsPath (arc_value self.old.script) path.now history.now }
+        requires followed { IsPath (arc_value self.old.script) path.now history.history }
         requires path { slice_get (paths_of self.old.nodes.items) place ≡ Some path.now }
         requires ahead { IsAhead (arc_value self.old.script) path.now ahead }
         ensures grown { OnOk result (HasGrown self.old self.new) }
@@ -551,18 +575,18 @@ impl Search {
     // Goes on from a history to which these steps have led.
     fn go_on_from(
         &mut self,
-        history: &SearchedHistory,
+        history: KeptHistory,
         path: &[Move],
         place: usize,
     ) -> Result<(), AllocError>
         requires sound { IsSound (arc_value self.old.script) self.old }
-        requires followed { IsPath (arc_value self.old.script) path.now history.now }
+        requires followed { IsPath (arc_value self.old.script) path.now history.history }
         requires path { slice_get (paths_of self.old.nodes.items) place ≡ Some path.now }
         ensures grown { OnOk result (HasGrown self.old self.new) }
         ensures sound { OnOk result (IsSound (arc_value self.old.script) self.new) }
         ensures expanded { OnOk result (IsTrue self.new.is_complete → IsExpandedAt (arc_value self.old.script) self.new place) }
     {
-        match look_ahead(history, &self.away, path)? {
+        match look_ahead(&history.history, &self.away, path)? {
             Some(ahead) => self.go_on(history, path, place, ahead),
             None => {
                 self.is_complete = false;
@@ -584,9 +608,7 @@ impl Search {
             self.is_complete = false;
             return Ok(());
         };
-        let done = self.go_on_from(&history, &path, place);
-        history.close();
-        done
+        self.go_on_from(KeptHistory { history }, &path, place)
     }
 
     // Goes on from the history at a place and from those after it, from `more` at most. The place after the last of these.

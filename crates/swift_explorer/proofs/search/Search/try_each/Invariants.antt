@@ -2,7 +2,7 @@ use Rattle.std.proofs.Common.{take}
 use Rattle.std.specs.Prelude.{All, IsTrue}
 use Rattle.std.specs.Arc.{arc_value}
 use Rattle.swift_explorer.specs.SearchInside.{HasGrown, IsSound, StepWasTried}
-use Rattle.swift_explorer.proofs.search.Search.try_all.Given as goal
+use Rattle.swift_explorer.proofs.search.Search.try_each.Given as goal
 
 abbrev pub invariant-loop-step : goal.invariant-loop-step
 invariant-loop-step l = record {
