@@ -1,5 +1,5 @@
 -- A history of which nothing was followed.
-use Rattle.std.proofs.Common.{Bool, false, ◌≡◌, ◌<◌, ◌≤◌, ℕ, zero, suc, ◌+◌, List, [], length, refl, sym, ap, ◌∙◌, ℤ, arith}
+use Rattle.std.proofs.Common.{Bool, false, ◌≡◌, ◌<◌, ◌≤◌, ℕ, zero, suc, ◌+◌, List, length, refl, sym, ap, ◌∙◌, ℤ, arith}
 use Rattle.std.specs.Prelude.{Option, Some, None, slice_get, slice_index_or, replicate}
 use Rattle.std.specs.Option.{option_map}
 use Rattle.std.specs.List.{range_with_len}

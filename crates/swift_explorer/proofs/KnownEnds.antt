@@ -1,5 +1,5 @@
 -- What a report says of the end of a history is what is known of it.
-use Rattle.std.proofs.Common.{◌≡◌, ◌<◌, ℕ, suc, List, [], ◌∷◌, length, refl, sym, subst, ap, ap₂, ◌∙◌, ℤ, arith, inl, inr}
+use Rattle.std.proofs.Common.{◌≡◌, ◌<◌, ℕ, suc, List, [], ◌∷◌, length, refl, sym, subst, ap, ap₂, ◌∙◌, arith, inl, inr}
 use Rattle.std.specs.Prelude.{None, Option, Some, slice_get, unwrap_or}
 use Rattle.std.proofs.lemmas.Option.{slice_get_cases}
 use Rattle.swift_types.specs.declared.outcome.Ending.{Ending}
@@ -10,7 +10,6 @@ use Rattle.swift_events.specs.declared.life.Origin.{Origin}
 use Rattle.swift_events.specs.Events.{tasks_of}
 use Rattle.swift_events.specs.Lives.{life_of}
 use Rattle.swift_history.specs.Histories.{Block, ReportView}
-use Rattle.swift_history.specs.TurnEnds.{WaitingTaskView}
 use Rattle.swift_course.specs.Course.{standing}
 use Rattle.swift_digest.proofs.Answers.{life_of_is, tasks_of_is}
 use Rattle.swift_explorer.specs.declared.history.SearchedHistory.{SearchedHistory}

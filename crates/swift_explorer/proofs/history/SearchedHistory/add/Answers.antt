@@ -1,4 +1,4 @@
-use Rattle.std.proofs.Common.{rules, refl, [], ◌∷◌, ◌++◌}
+use Rattle.std.proofs.Common.{rules, refl}
 use Rattle.std.specs.Arc.{arc_value}
 use Rattle.swift_history.specs.Histories.{added}
 use Rattle.swift_steps.proofs.Steps.{at_rest}

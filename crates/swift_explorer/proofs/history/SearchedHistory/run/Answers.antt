@@ -1,7 +1,6 @@
-use Rattle.std.proofs.Common.{◌≡◌, ◌<◌, ◌∙◌, List, length, refl, subst, sym, ap, arith}
+use Rattle.std.proofs.Common.{◌≡◌, ◌<◌, length, refl, subst, sym, ap, arith}
 use Rattle.std.specs.Arc.{arc_value}
 use Rattle.swift_types.specs.declared.id.TaskId.{TaskId}
-use Rattle.swift_interpreter.specs.Frames.{FrameView}
 use Rattle.swift_history.specs.Histories.{ran}
 use Rattle.swift_turn.specs.Body.{HasFrames}
 use Rattle.swift_steps.specs.declared.played.PlayedTurn.{PlayedTurn}

@@ -1,4 +1,4 @@
-use Rattle.std.proofs.Common.{◌≡◌, ◌<◌, ◌≤◌, ◌^◌, ◌-◌, List, length, refl, subst, arith, rules}
+use Rattle.std.proofs.Common.{◌^◌, ◌-◌, List, refl, subst, arith}
 use Rattle.std.proofs.lemmas.List.{take_all}
 use Rattle.swift_events.specs.declared.event.Event.{Event}
 use Rattle.swift_digest.specs.Digests.{digest_of}

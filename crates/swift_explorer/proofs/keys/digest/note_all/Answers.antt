@@ -1,7 +1,5 @@
-use Rattle.std.proofs.Common.{◌≡◌, ℕ, ◌^◌, ◌-◌, refl, sym, subst, ◌∙◌, arith, rules}
-use Rattle.swift_events.specs.Events.{task_of}
-use Rattle.swift_explorer.specs.DigestNumbers.{other_of}
-use Rattle.swift_explorer.specs.CardsInside.{IsNotedAt, OpenAtMost}
+use Rattle.std.proofs.Common.{ℕ, ◌^◌, ◌-◌, subst, arith}
+use Rattle.swift_explorer.specs.CardsInside.{IsNotedAt}
 use Rattle.swift_explorer.proofs.CardsNoted.{one_noted, open_at, open_fewer, two_noted}
 use Rattle.swift_explorer.proofs.keys.digest.note_all.Goals as goal
 

@@ -25,7 +25,7 @@ loop-card-preserved c =
     record {
       key = each_step card_numbers d.cards i _ _ _ c.loop-card.invariant.key
           (c.in_ok-put_card.ensures
-              ∙ ap (λ l. c.loop-card.key.items ++ l) (ap (λ (y : KeyCard). card_of_parts y.life y.links.items y.own.items y.waiters.items y.named y.opened) c.card-item.is ∙ card_written x (d.cards i) is));
+          ∙ ap (λ l. c.loop-card.key.items ++ l) (ap (λ (y : KeyCard). card_of_parts y.life y.links.items y.own.items y.waiters.items y.named y.opened) c.card-item.is ∙ card_written x (d.cards i) is));
       few = omega (arith, lt, count);
     }
 
