@@ -1,40 +1,8 @@
--- One block more.
-use Rattle.std.proofs.Common.{◌≡◌, ℕ, ℤ, ◌+◌, List, [], ◌∷◌, ◌++◌, refl, sym, subst, ap, ◌∙◌, append_assoc, zero, suc, add-zero, arith}
-use Rattle.std.specs.Prelude.{Option, Some, None, slice_get, take, unwrap_or}
-use Rattle.std.specs.List.{filter_map, cons_option, range_with_len}
+-- The first elements of a list, and one more.
+use Rattle.std.proofs.Common.{◌≡◌, ℕ, ◌+◌, List, [], ◌∷◌, ◌++◌, ap, ◌∙◌, zero, suc, arith}
+use Rattle.std.specs.Prelude.{Some, slice_get, take}
 use Rattle.std.proofs.lemmas.Option.{none-some}
-use Rattle.std.proofs.lemmas.List.{append-nil}
-use Rattle.std.proofs.lemmas.List.Elements.{filter_map-append}
-use Rattle.swift_script.specs.Scripts.{ScriptView}
-use Rattle.swift_journal.specs.Records.{RecordView}
-use Rattle.swift_journal.specs.Replay.{replay, fields_after}
-use Rattle.swift_journal.specs.Checkpoints.{CheckpointView}
-use Rattle.swift_history.specs.Histories.{AllStand, Block, Standing, Stands, after_block, after_blocks}
-
-pub after_push : (script : ScriptView) (s : Standing) (bs : List Block) (b : Block) → after_blocks script s (bs ++ b ∷ []) ≡ after_block script (after_blocks script s bs) b
-after_push script s [] b = refl
-after_push script s (c ∷ bs) b = after_push script (after_block script s c) bs b
-
-stand_from : (script : ScriptView) (cps : List CheckpointView) (before bs : List Block) (b : Block) → AllStand script cps before bs → Stands script cps (before ++ bs) b → AllStand script cps before (bs ++ b ∷ [])
-stand_from script cps before [] b all is = (subst (λ xs. Stands script cps xs b) (append-nil before) is, tt)
-stand_from script cps before (c ∷ bs) b all is =
-    (all.0, stand_from script cps (before ++ c ∷ []) bs b all.1 (subst (λ xs. Stands script cps xs b) (sym (append_assoc before (c ∷ []) bs)) is))
-
-pub stand_push : (script : ScriptView) (cps : List CheckpointView) (bs : List Block) (b : Block) → AllStand script cps [] bs → Stands script cps bs b → AllStand script cps [] (bs ++ b ∷ [])
-stand_push script cps bs b all is = stand_from script cps [] bs b all is
-
-pub filter_none : {A B : Type 0} (f : A → Option B) (xs : List A) (x : A) → f x ≡ None → filter_map f (xs ++ x ∷ []) ≡ filter_map f xs
-filter_none f xs x is = filter_map-append f xs (x ∷ []) ∙ ap (λ y. filter_map f xs ++ cons_option y []) is ∙ append-nil (filter_map f xs)
-
-pub filter_some : {A B : Type 0} (f : A → Option B) (xs : List A) (x : A) (y : B) → f x ≡ Some y → filter_map f (xs ++ x ∷ []) ≡ filter_map f xs ++ y ∷ []
-filter_some f xs x y is = filter_map-append f xs (x ∷ []) ∙ ap (λ z. filter_map f xs ++ cons_option z []) is
-
-pub replay_push : (script : ScriptView) (fields : List (List ℤ)) (rs : List RecordView) (r : RecordView) → replay script fields (rs ++ r ∷ []) ≡ fields_after script (replay script fields rs) r
-replay_push script fields [] r = refl
-replay_push script fields (q ∷ rs) r = replay_push script (fields_after script fields q) rs r
-
-pub same_one : {A : Type 0} (x y : A) → Some x ≡ Some y → x ≡ y
-same_one x y is = ap (λ o. unwrap_or o x) is
+use Rattle.swift_steps.proofs.Given.{same_one}
 
 take_suc : {A : Type 0} (xs : List A) (n : ℕ) (x : A) → slice_get xs n ≡ Some x → take (suc n) xs ≡ take n xs ++ x ∷ []
 take_suc [] n x is = absurd (none-some x is)
@@ -46,17 +14,3 @@ one_more n = omega arith
 
 pub take_next : {A : Type 0} (xs : List A) (n : ℕ) (x : A) → slice_get xs n ≡ Some x → take (n + 1) xs ≡ take n xs ++ x ∷ []
 take_next xs n x is = ap (λ k. take k xs) (one_more n) ∙ take_suc xs n x is
-
-next : (a n : ℕ) → a + suc n ≡ a + 1 + n
-next a n = omega arith
-
-range_suc : (a n : ℕ) → range_with_len a n ++ (a + n) ∷ [] ≡ range_with_len a (suc n)
-range_suc a zero = ap (λ k. k ∷ []) (add-zero a)
-range_suc a (suc n) = ap (λ ks. a ∷ ks) (ap (λ k. range_with_len (a + 1) n ++ k ∷ []) (next a n) ∙ range_suc (a + 1) n)
-
-from_zero : (n : ℕ) → 0 + n ≡ n
-from_zero n = omega arith
-
--- the numbers from 0 on, and one more
-pub range_next : (n : ℕ) → range_with_len 0 n ++ n ∷ [] ≡ range_with_len 0 (n + 1)
-range_next n = ap (λ k. range_with_len 0 n ++ k ∷ []) (sym (from_zero n)) ∙ range_suc 0 n ∙ ap (λ k. range_with_len 0 k) (sym (one_more n))

@@ -1,8 +1,6 @@
 pub mod Blocks
 pub mod Counted
 pub mod Ended
-pub mod First
-pub mod Given
 pub mod Places
 pub mod Played
 pub mod Replays

@@ -3,64 +3,39 @@ use Rattle.std.proofs.Common.{◌≡◌, ◌≢◌, ℕ, zero, suc, ◌+◌, Lis
 use Rattle.std.specs.Prelude.{Some, None, if◌then◌else◌, slice_get, slice_set, take}
 use Rattle.std.proofs.lemmas.Bool.{cases_eq}
 use Rattle.std.proofs.lemmas.Option.{none-some}
-use Rattle.script_code.specs.Seen.{rows_of}
-use Rattle.swift_script.specs.Scripts.{ScriptView}
 use Rattle.swift_journal.specs.Records.{RecordView}
 use Rattle.swift_journal.specs.Checkpoints.{FoldedView}
-use Rattle.swift_journal.specs.Replay.{fields_after, replay}
-use Rattle.swift_history.specs.Histories.{Block, ran, folded, ReportView, checkpoint_at, folded_in, record_in, records_of}
+use Rattle.swift_history.specs.Histories.{Block, ran, folded, ReportView, checkpoint_at, folded_in, record_in}
+use Rattle.swift_course.proofs.Blocks.{filter_none, filter_some}
+use Rattle.swift_steps.proofs.Given.{equal, same_one, unequal}
 use Rattle.swift_certificate.specs.declared.playing.ExecutorProgress.{ExecutorProgress}
 use Rattle.swift_certificate.specs.ReplayInside.{IsProgress, journal_at}
-use Rattle.swift_certificate.proofs.Blocks.{filter_none, filter_some, replay_push, same_one, take_next}
-use Rattle.swift_certificate.proofs.Given.{equal, unequal}
+use Rattle.swift_certificate.proofs.Blocks.{take_next}
 
 -- a block that is no turn of an executor leaves it where it was
-pub place_stays : (script : ScriptView) (report : ReportView) (bs : List Block) (b : Block) (e : ℕ) (row : ExecutorProgress) → record_in e b ≡ None → folded_in e b ≡ None → IsProgress script report bs e row → IsProgress script report (bs ++ b ∷ []) e row
-place_stays script report bs b e row none none' is =
-    let same = filter_none (record_in e) bs b none in
-    record {
-      fields = is.fields ∙ ap (replay script (checkpoint_at report.checkpoints e).fields) (sym same);
-      folded = filter_none (folded_in e) bs b none' ∙ is.folded;
-      played = same ∙ is.played;
-    }
-
-own_record : (e : ℕ) (r : RecordView) → record_in e (ran e r) ≡ Some r
-own_record e r = ap (λ b. if b then Some r else None) (equal e e refl)
-
-own_folded : (e : ℕ) (f : FoldedView) → folded_in e (folded e f) ≡ Some f
-own_folded e f = ap (λ b. if b then Some f else None) (equal e e refl)
-
-other_record : (e k : ℕ) (r : RecordView) → k ≢ e → record_in e (ran k r) ≡ None
-other_record e k r ne = ap (λ b. if b then Some r else None) (unequal k e ne)
-
-other_folded : (e k : ℕ) (f : FoldedView) → k ≢ e → folded_in e (folded k f) ≡ None
-other_folded e k f ne = ap (λ b. if b then Some f else None) (unequal k e ne)
+pub place_stays : (report : ReportView) (bs : List Block) (b : Block) (e : ℕ) (row : ExecutorProgress) → record_in e b ≡ None → folded_in e b ≡ None → IsProgress report bs e row → IsProgress report (bs ++ b ∷ []) e row
+place_stays report bs b e row none none' is = record { folded = filter_none (folded_in e) bs b none' ∙ is.folded; played = filter_none (record_in e) bs b none ∙ is.played }
 
 -- a turn that was played again
-pub place_played : (script : ScriptView) (report : ReportView) (bs : List Block) (e : ℕ) (row row' : ExecutorProgress) (r : RecordView) → IsProgress script report bs e row
-    → slice_get (journal_at report.journals e) row.played ≡ Some r → rows_of row'.fields.items ≡ fields_after script (rows_of row.fields.items) r → row'.played ≡ row.played + 1 → row'.folded ≡ row.folded
-    → IsProgress script report (bs ++ ran e r ∷ []) e row'
-place_played script report bs e row row' r is there fields played kept =
+pub place_played : (report : ReportView) (bs : List Block) (e : ℕ) (row row' : ExecutorProgress) (r : RecordView) → IsProgress report bs e row
+    → slice_get (journal_at report.journals e) row.played ≡ Some r → row'.played ≡ row.played + 1 → row'.folded ≡ row.folded → IsProgress report (bs ++ ran e r ∷ []) e row'
+place_played report bs e row row' r is there played kept =
     let journal = journal_at report.journals e in
-    let more = filter_some (record_in e) bs (ran e r) r (own_record e r) in
     record {
-      fields = fields ∙ ap (λ rows. fields_after script rows r) is.fields ∙ sym (replay_push script (checkpoint_at report.checkpoints e).fields (records_of e bs) r)
-          ∙ ap (replay script (checkpoint_at report.checkpoints e).fields) (sym more);
       folded = filter_none (folded_in e) bs (ran e r) refl ∙ is.folded ∙ ap (λ n. take n (checkpoint_at report.checkpoints e).folded) (sym kept);
-      played = more ∙ ap (λ rs. rs ++ r ∷ []) is.played ∙ sym (take_next journal row.played r there) ∙ ap (λ n. take n journal) (sym played);
+      played = filter_some (record_in e) bs (ran e r) r (ap (λ b. if b then Some r else None) (equal e e refl)) ∙ ap (λ rs. rs ++ r ∷ []) is.played
+          ∙ sym (take_next journal row.played r there) ∙ ap (λ n. take n journal) (sym played);
     }
 
 -- a turn of a checkpoint
-pub place_folded : (script : ScriptView) (report : ReportView) (bs : List Block) (e : ℕ) (row row' : ExecutorProgress) (f : FoldedView) → IsProgress script report bs e row
-    → slice_get (checkpoint_at report.checkpoints e).folded row.folded ≡ Some f → rows_of row'.fields.items ≡ rows_of row.fields.items → row'.played ≡ row.played → row'.folded ≡ row.folded + 1
-    → IsProgress script report (bs ++ folded e f ∷ []) e row'
-place_folded script report bs e row row' f is there fields played is_folded =
+pub place_folded : (report : ReportView) (bs : List Block) (e : ℕ) (row row' : ExecutorProgress) (f : FoldedView) → IsProgress report bs e row
+    → slice_get (checkpoint_at report.checkpoints e).folded row.folded ≡ Some f → row'.played ≡ row.played → row'.folded ≡ row.folded + 1 → IsProgress report (bs ++ folded e f ∷ []) e row'
+place_folded report bs e row row' f is there played is_folded =
     let all = (checkpoint_at report.checkpoints e).folded in
-    let same = filter_none (record_in e) bs (folded e f) refl in
     record {
-      fields = fields ∙ is.fields ∙ ap (replay script (checkpoint_at report.checkpoints e).fields) (sym same);
-      folded = filter_some (folded_in e) bs (folded e f) f (own_folded e f) ∙ ap (λ fs. fs ++ f ∷ []) is.folded ∙ sym (take_next all row.folded f there) ∙ ap (λ n. take n all) (sym is_folded);
-      played = same ∙ is.played ∙ ap (λ n. take n (journal_at report.journals e)) (sym played);
+      folded = filter_some (folded_in e) bs (folded e f) f (ap (λ b. if b then Some f else None) (equal e e refl)) ∙ ap (λ fs. fs ++ f ∷ []) is.folded
+          ∙ sym (take_next all row.folded f there) ∙ ap (λ n. take n all) (sym is_folded);
+      played = filter_none (record_in e) bs (folded e f) refl ∙ is.played ∙ ap (λ n. take n (journal_at report.journals e)) (sym played);
     }
 
 set_same : (rows : List ExecutorProgress) (k : ℕ) (row row' x : ExecutorProgress) → slice_get rows k ≡ Some row → slice_get (slice_set rows k row') k ≡ Some x → x ≡ row'
@@ -85,8 +60,8 @@ places_set P Q rows k row row' at own stay all e x is = elim (cases_eq k e) [
 ]
 
 -- the turn of an executor leaves each other one where it was
-pub others_played : (script : ScriptView) (report : ReportView) (bs : List Block) (k : ℕ) (r : RecordView) (e : ℕ) (x : ExecutorProgress) → k ≢ e → IsProgress script report bs e x → IsProgress script report (bs ++ ran k r ∷ []) e x
-others_played script report bs k r e x ne is = place_stays script report bs (ran k r) e x (other_record e k r ne) refl is
+pub others_played : (report : ReportView) (bs : List Block) (k : ℕ) (r : RecordView) (e : ℕ) (x : ExecutorProgress) → k ≢ e → IsProgress report bs e x → IsProgress report (bs ++ ran k r ∷ []) e x
+others_played report bs k r e x ne is = place_stays report bs (ran k r) e x (ap (λ b. if b then Some r else None) (unequal k e ne)) refl is
 
-pub others_folded : (script : ScriptView) (report : ReportView) (bs : List Block) (k : ℕ) (f : FoldedView) (e : ℕ) (x : ExecutorProgress) → k ≢ e → IsProgress script report bs e x → IsProgress script report (bs ++ folded k f ∷ []) e x
-others_folded script report bs k f e x ne is = place_stays script report bs (folded k f) e x refl (other_folded e k f ne) is
+pub others_folded : (report : ReportView) (bs : List Block) (k : ℕ) (f : FoldedView) (e : ℕ) (x : ExecutorProgress) → k ≢ e → IsProgress report bs e x → IsProgress report (bs ++ folded k f ∷ []) e x
+others_folded report bs k f e x ne is = place_stays report bs (folded k f) e x refl (ap (λ b. if b then Some f else None) (unequal k e ne)) is

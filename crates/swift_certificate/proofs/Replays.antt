@@ -9,8 +9,8 @@ use Rattle.swift_journal.specs.Checkpoints.{CheckpointView}
 use Rattle.swift_journal.specs.Replay.{AreLawful, IsLawfulRecord, LawfulGrows, RunOn, replay}
 use Rattle.swift_history.specs.Histories.{AllStand, Block, added, begun, ran, folded, IsLegal, ReportView, RecordStands, Stands, after_blocks, at_first, checkpoint_at, no_checkpoint, record_in, records_of}
 use Rattle.swift_certificate.specs.Laws.{HasExecutor, IsReplayed}
-use Rattle.swift_certificate.proofs.Blocks.{filter_none, filter_some}
-use Rattle.swift_certificate.proofs.Given.{equal, unequal}
+use Rattle.swift_course.proofs.Blocks.{filter_none, filter_some}
+use Rattle.swift_steps.proofs.Given.{equal, unequal}
 
 abbrev Grows : Type 0
 Grows = (script : ScriptView) (fields : List (List ℤ)) (rs : List RecordView) (r : RecordView) → LawfulGrows script fields rs r

@@ -1,320 +1,181 @@
 -- Each step of a replay follows one block more.
-use Rattle.std.proofs.Common.{◌≡◌, ℕ, ◌+◌, List, [], ◌∷◌, ◌++◌, length, refl, sym, subst, ap, ◌∙◌, Bool, true, false, ℤ, ◌<◌, get_or, map}
-use Rattle.std.specs.Prelude.{Option, Some, None, if◌then◌else◌, is_none, ◌&&◌, slice_get, slice_set, take, unwrap_or, Result, Ok, Err, IfOk}
-use Rattle.std.proofs.lemmas.Option.{slice_get_read}
-use Rattle.swift_journal.specs.Checkpoints.{CheckpointRoomView}
+use Rattle.std.proofs.Common.{◌≡◌, ℕ, ℤ, ◌+◌, List, [], ◌∷◌, ◌++◌, length, get_or, map, replicate, refl, sym, subst, ap, ◌∙◌, ◌<◌, zero, suc}
+use Rattle.std.specs.Prelude.{Option, Some, None, slice_get, slice_set, take, unwrap_or, Result, Ok, Err, IfOk, IfSome}
 use Rattle.std.specs.Arc.{arc_value}
-use Rattle.std.specs.List.{range_with_len}
-use Rattle.std.proofs.lemmas.Bool.{false≢true}
-use Rattle.std.proofs.lemmas.Option.{none-some}
+use Rattle.std.proofs.lemmas.Option.{none-some, slice_get_read, slice_get-map}
+use Rattle.std.specs.Option.{option_map}
 use Rattle.swift_types.specs.declared.env.Env.{Env}
-use Rattle.script_code.specs.Seen.{rows_of}
 use Rattle.swift_types.specs.declared.id.TaskId.{TaskId}
 use Rattle.swift_types.specs.declared.outcome.Resume.{Resume}
-use Rattle.swift_script.specs.Scripts.{ScriptView, actor_executor, method_actor, root_count}
+use Rattle.swift_script.specs.Scripts.{ScriptView, actor_executor, method_actor}
 use Rattle.swift_interpreter.specs.Frames.{FrameView, effect_views}
-use Rattle.swift_interpreter.specs.TurnStates.{exit_view}
 use Rattle.swift_interpreter.specs.Turn.{EffectView, ExitView}
-use Rattle.swift_events.specs.declared.event.Event.{Event}
-use Rattle.swift_events.specs.declared.event.Event.TheVariants.{Begin}
-use Rattle.swift_events.specs.declared.life.JobStage.{JobStage}
+use Rattle.swift_interpreter.specs.TurnStates.{exit_view}
 use Rattle.swift_events.specs.declared.life.JobStage.TheVariants.{Begun}
 use Rattle.swift_events.specs.Lives.{life_of}
-use Rattle.swift_events.specs.Room.{IsEnv}
+use Rattle.swift_journal.specs.Checkpoints.{CheckpointRoomView, CheckpointView, FoldedView}
 use Rattle.swift_journal.specs.Records.{RecordView}
-use Rattle.swift_journal.specs.Replay.{IsLawfulRecord, fields_after}
-use Rattle.swift_turn.specs.Body.{BodyView, IfRunning, TaskView, advanced}
 use Rattle.swift_job.specs.Job.{JobView}
-use Rattle.swift_history.specs.Checks.{counters, fits_turn, is_current}
-use Rattle.swift_history.specs.Histories.{AllStand, Block, added, begun, ran, folded, ReportView, Standing, TurnStands, after_block, after_blocks, at_first, begun_priority, checkpoint_at, frames_applied, job_applied, left_as, root_in, taken, turn_applied, with_jobs}
-use Rattle.swift_history.specs.TurnEnds.{WaitingTaskView, JobFacts, TurnEnd, root_events, root_job, turn_end}
-use Rattle.swift_tasks.specs.declared.fault.BookFault.{BookFault}
-use Rattle.swift_tasks.specs.Books.{BookView, IsJobOf, end_of_frames, end_of_turn}
-use Rattle.swift_history.specs.Jobs.{job_facts}
-use Rattle.swift_tasks.specs.Refusals.{fits_begun, refusal_of_apply, refusal_of_begin, refusal_of_root, refused_unless}
-use Rattle.swift_certificate.specs.declared.waiting.NextTurn.{NextTurn}
-use Rattle.swift_certificate.specs.declared.playing.FollowedTurn.{FollowedTurn}
+use Rattle.swift_turn.specs.Body.{BodyView, IfRunning, TaskView}
+use Rattle.swift_history.specs.Histories.{Block, ran, folded, FoldedStands, ReportView, checkpoint_at, folded_in, no_checkpoint, record_in, records_of}
+use Rattle.swift_tasks.specs.Books.{BookView, IsEndOf, end_of_frames}
+use Rattle.swift_tasks.specs.Refusals.{refusal_of_apply}
+use Rattle.swift_course.specs.Course.{standing}
+use Rattle.swift_steps.specs.declared.next_turn.NextTurn.{NextTurn}
+use Rattle.swift_steps.specs.declared.history.OpenHistory.{OpenHistory}
+use Rattle.swift_steps.specs.declared.played.PlayedTurn.{PlayedTurn}
+use Rattle.swift_steps.specs.NextTurns.{given_view, job_of}
+use Rattle.swift_steps.specs.OpenHistories.{Applies, Follows, IsAtRest, IsFollowed, RunsAt, StartsFrom, Takes, record_of, rows_at}
+use Rattle.swift_steps.proofs.Led.{Turned, fields_stay, led_turn, turn_stands}
+use Rattle.swift_steps.proofs.Steps.{at_rest, followed_is, own_led, rest_after, same_rows}
+use Rattle.swift_steps.proofs.Given.{same_one}
 use Rattle.swift_certificate.specs.declared.playing.ExecutorProgress.{ExecutorProgress}
+use Rattle.swift_certificate.specs.declared.playing.FoldedTurn.{FoldedTurn}
 use Rattle.swift_certificate.specs.declared.replay.Replay.{Replay}
-use Rattle.swift_certificate.specs.ReplayInside.{AreGiven, AreOf, AppliesFollowed, Folds, FollowsRecord, GoesOn, IsFollowed, IsProgress, IsReplay, folded_turn, given_at, given_view, job_of, journal_at, turn_of, with_given}
-use Rattle.swift_certificate.proofs.Blocks.{range_next, after_push, filter_none, filter_some, stand_push}
-use Rattle.swift_certificate.proofs.First.{checkpoint_view}
-use Rattle.swift_certificate.proofs.Given.{given_back, given_put, given_taken, of_put, of_taken}
+use Rattle.swift_certificate.specs.ReplayInside.{Folds, IsProgress, IsReplay, at_the_start, folded_turn, journal_at}
 use Rattle.swift_certificate.proofs.Places.{others_folded, others_played, place_folded, place_played, place_stays, places_set}
 
--- what stands where there is no refusal
+-- before any turn was followed
 
-if_none : (b : Bool) (x : BookFault) → (if b then None else Some x) ≡ None → b ≡ true
-if_none true x is = refl
-if_none false x is = absurd (none-some x (sym is))
+pub checkpoint_view : (cs : List CheckpointRoomView) (e : ℕ) (c : CheckpointRoomView) → slice_get cs e ≡ Some c → checkpoint_at (map (λ (x : CheckpointRoomView). x.view) cs) e ≡ c.view
+checkpoint_view cs e c at = ap (λ (o : Option CheckpointView). unwrap_or o no_checkpoint) (slice_get-map (λ (x : CheckpointRoomView). x.view) cs e ∙ ap (option_map (λ (x : CheckpointRoomView). x.view)) at)
 
-first_of_both : (a b : Bool) → (a && b) ≡ true → a ≡ true
-first_of_both true b is = refl
-first_of_both false b is = absurd (false≢true is)
+fields_of_some : (o : Option CheckpointRoomView) (rows : List (List ℤ)) → option_map (λ (x : CheckpointRoomView). x.view.fields) o ≡ Some rows → rows ≡ (unwrap_or (option_map (λ (x : CheckpointRoomView). x.view) o) no_checkpoint).fields
+fields_of_some None rows is = absurd (none-some rows is)
+fields_of_some (Some c) rows is = sym (same_one c.view.fields rows is)
 
-second_of_both : (a b : Bool) → (a && b) ≡ true → b ≡ true
-second_of_both true b is = is
-second_of_both false b is = absurd (false≢true is)
+-- the fields of the checkpoints are there
+pub starts_from : (cs : List CheckpointRoomView) (fields : List (List (List ℤ))) → fields ≡ map (λ (x : CheckpointRoomView). x.view.fields) cs → StartsFrom (map (λ (x : CheckpointRoomView). x.view) cs) fields
+starts_from cs fields are e rows at =
+    fields_of_some (slice_get cs e) rows (sym (slice_get-map (λ (x : CheckpointRoomView). x.view.fields) cs e) ∙ ap (λ (fs : List (List (List ℤ))). slice_get fs e) (sym are) ∙ at)
+    ∙ ap (λ (o : Option CheckpointView). (unwrap_or o no_checkpoint).fields) (sym (slice_get-map (λ (x : CheckpointRoomView). x.view) cs e))
 
-no_one : {A : Type 0} (o : Option A) → is_none o ≡ true → o ≡ None
-no_one None is = refl
-no_one (Some x) is = absurd (false≢true is)
+start_at : (n e : ℕ) (row : ExecutorProgress) → slice_get (replicate n at_the_start) e ≡ Some row → at_the_start ≡ row
+start_at zero e row at = absurd (none-some row at)
+start_at (suc n) zero row at = same_one at_the_start row at
+start_at (suc n) (suc e) row at = start_at n e row at
 
-none_before : (o : Option BookFault) (b : Bool) → refused_unless o b ≡ None → o ≡ None
-none_before None b is = refl
-none_before (Some x) b is = absurd (none-some x (sym is))
+pub places_first : (report : ReportView) (rows : List ExecutorProgress) (n : ℕ) → rows ≡ replicate n at_the_start → (e : ℕ) (row : ExecutorProgress) → slice_get rows e ≡ Some row → IsProgress report [] e row
+places_first report rows n are e row at =
+    let first = start_at n e row (ap (λ (rs : List ExecutorProgress). slice_get rs e) (sym are) ∙ at) in
+    subst (IsProgress report [] e) first (record { folded = refl; played = refl })
 
-holds_then : (o : Option BookFault) (b : Bool) → refused_unless o b ≡ None → b ≡ true
-holds_then None true is = refl
-holds_then None false is = absurd (none-some _ (sym is))
-holds_then (Some x) b is = absurd (none-some x (sym is))
+-- a step that runs no turn
+pub replay_stays : (report : ReportView) (x y : Replay) (b : Block) → IsReplay report x → Follows x.history y.history b → y.rows ≡ x.rows → ((e : ℕ) → record_in e b ≡ None) → ((e : ℕ) → folded_in e b ≡ None) → IsReplay report y
+replay_stays report x y b is follows same none none' = record {
+  blocks = is.blocks ++ b ∷ [];
+  is = subst (λ (s : ScriptView). IsFollowed s report.checkpoints (is.blocks ++ b ∷ []) y.history) (sym (ap arc_value follows.script_is)) (follows.leads _ report.checkpoints is.blocks is.is);
+  places = λ e row at. place_stays report is.blocks b e row (none e) (none' e) (is.places e row (subst (λ (rs : _). slice_get rs.items e ≡ Some row) same at));
+}
 
--- a root more
-
-pub followed_root : (script : ScriptView) (report : ReportView) (log : List Event) (held : List (Option WaitingTaskView)) (tasks tasks' : List (Option NextTurn)) (rows : List ExecutorProgress) (r : ℕ) (t : TaskId) (g : NextTurn)
-    → IsFollowed script report log held tasks rows r → refusal_of_root script log r ≡ None → given_view t.0 g ≡ root_job script r → t.0 ≡ (root_job script r).task
-    → ((u : ℕ) → given_at tasks' u ≡ with_given t.0 (Some g) (given_at tasks) u)
-    → IsFollowed script report (log ++ root_events script r) held tasks' rows (r + 1)
-followed_root script report log held tasks tasks' rows r t g f may is at put =
-    let bs = f.blocks in
-    let s = after_blocks script (at_first script) bs in
-    let after = after_push script (at_first script) bs (added r) in
-    let both = if_none _ _ may in
-    let unmade = no_one (life_of r log).origin (second_of_both _ _ both) in
+-- a turn that was played
+pub replay_ran : (report : ReportView) (x y : Replay) (turn : PlayedTurn) (worker : ℕ) (frame : FrameView) (k : ℕ) (row row' : ExecutorProgress)
+    → IsReplay report x → Follows x.history y.history (ran turn.place (record_of turn worker frame)) → turn.place ≡ k → slice_get x.rows.items k ≡ Some row → y.rows.items ≡ slice_set x.rows.items k row'
+    → slice_get (journal_at report.journals k) row.played ≡ Some (record_of turn worker frame) → row'.played ≡ row.played + 1 → row'.folded ≡ row.folded → IsReplay report y
+replay_ran report x y turn worker frame k row row' is follows here at set there played kept =
+    let bs = is.blocks in
+    let r = record_of turn worker frame in
+    let own = place_played report bs k row row' r (is.places k row at) there played kept in
     record {
-      blocks = bs ++ added r ∷ [];
-      stand = stand_push script report.checkpoints bs (added r) f.stand (first_of_both _ _ both, subst (λ (l : List Event). (life_of r l).origin ≡ None) f.log_is unmade);
-      log_is = ap (λ (l : List Event). l ++ root_events script r) f.log_is ∙ ap (λ (x : Standing). x.log) (sym after);
-      held_is = f.held_is ∙ ap (λ (x : Standing). x.held) (sym after);
-      given = subst (λ (x : Standing). AreGiven x.jobs tasks') (sym after)
-          (subst (λ (j : JobFacts). AreGiven (with_jobs (j ∷ []) s.jobs) tasks') is (given_put s.jobs tasks tasks' t.0 g f.given put));
-      places = λ e row here. place_stays script report bs (added r) e row refl refl (f.places e row here);
-      roots_are = filter_some root_in bs (added r) r refl ∙ ap (λ (xs : List ℕ). xs ++ r ∷ []) f.roots_are ∙ range_next r;
+      blocks = bs ++ ran k r ∷ [];
+      is = subst (λ (s : ScriptView). IsFollowed s report.checkpoints (bs ++ ran k r ∷ []) y.history) (sym (ap arc_value follows.script_is))
+          (subst (λ (n : ℕ). IsFollowed (arc_value x.history.script) report.checkpoints (bs ++ ran n r ∷ []) y.history) here (follows.leads (arc_value x.history.script) report.checkpoints bs is.is));
+      places = λ e q is_at. places_set (IsProgress report bs) (IsProgress report (bs ++ ran k r ∷ [])) x.rows.items k row row' at own (others_played report bs k r) is.places e q
+          (ap (λ (rs : List ExecutorProgress). slice_get rs e) (sym set) ∙ is_at);
     }
 
--- a turn begins
+-- a turn of a checkpoint
+module _ (report : ReportView) (x : Replay) (m : OpenHistory) (y : Replay) (k : ℕ) (t : TaskId) (g : NextTurn) (env : Env) (row row' : ExecutorProgress) (done : FoldedTurn)
+    (is : IsReplay report x) (takes : Takes x.history m t g) (same : m.fields ≡ x.history.fields) (has_begun : (life_of t.0 x.history.book.log).stage ≡ Some (Begun env)) (at : RunsAt (arc_value x.history.script) x.history.tasks.items t k)
+    (folds : Folds (checkpoint_at report.checkpoints k) row row' t g done) (none : row.played ≡ 0) (here : slice_get x.rows.items k ≡ Some row) (set : y.rows.items ≡ slice_set x.rows.items k row')
+    (a : Applies m y.history t done.ready (effect_views done.effects.items) (exit_view done.exit)) where
+  abbrev b : BookView
+  b = x.history.book
 
-pub followed_begin : (script : ScriptView) (report : ReportView) (log : List Event) (held : List (Option WaitingTaskView)) (tasks between tasks' : List (Option NextTurn)) (rows : List ExecutorProgress) (r : ℕ) (t : TaskId) (g : NextTurn) (env : Env)
-    → IsFollowed script report log held tasks rows r → given_at tasks t.0 ≡ Some g → refusal_of_begin script log (job_of t g) ≡ None → IsEnv (root_count script) t log env
-    → ((u : ℕ) → given_at between u ≡ with_given t.0 None (given_at tasks) u) → ((u : ℕ) → given_at tasks' u ≡ with_given t.0 (Some g) (given_at between) u)
-    → IsFollowed script report (log ++ Begin t g.number env ∷ []) held tasks' rows r
-followed_begin script report log held tasks between tasks' rows r t g env f was may is took put =
-    let bs = f.blocks in
-    let s = after_blocks script (at_first script) bs in
-    let b = begun t.0 g.number env in
-    let after = after_push script (at_first script) bs b in
-    let current : is_current (life_of t.0 log) g.number g.resume ≡ true = holds_then _ _ (none_before _ _ may) in
-    record {
-      blocks = bs ++ b ∷ [];
-      stand = stand_push script report.checkpoints bs b f.stand
-          (given_view t.0 g, f.given t.0 g was, subst (λ (l : List Event). is_current (life_of t.0 l) g.number g.resume ≡ true) f.log_is current, subst (λ (l : List Event). IsEnv (root_count script) t l env) f.log_is is);
-      log_is = ap (λ (l : List Event). l ++ Begin t g.number env ∷ []) f.log_is ∙ ap (λ (x : Standing). x.log) (sym after);
-      held_is = f.held_is ∙ ap (λ (x : Standing). x.held) (sym after);
-      given = subst (λ (x : Standing). AreGiven x.jobs tasks') (sym after) (given_back s.jobs tasks between tasks' t.0 g f.given was took put);
-      places = λ e row here. place_stays script report bs b e row refl refl (f.places e row here);
-      roots_are = filter_none root_in bs b refl ∙ f.roots_are;
-    }
+  abbrev body : BodyView
+  body = done.ready.body
 
--- a turn runs
+  abbrev effects : List EffectView
+  effects = effect_views done.effects.items
 
--- a turn of a task that is applied to a history: what it leaves
-applied_is : (script : ScriptView) (s : Standing) (t n : ℕ) (j : JobFacts) (p : FrameView) (callers : List FrameView) (effects : List EffectView) (exit : ExitView) (after : Option FrameView)
-    → s.jobs t ≡ Some j → j.frames.frames ≡ p ∷ callers
-    → turn_applied script s t n effects exit after ≡ frames_applied script s t n (p ∷ callers) j.frames.outer effects exit after
-applied_is script s t n j p callers effects exit after given frames =
-    ap (λ (o : Option JobFacts). job_applied script s t n o effects exit after) given
-    ∙ ap (λ (fs : List FrameView). frames_applied script s t n fs j.frames.outer effects exit after) frames
+  abbrev exit : ExitView
+  exit = exit_view done.exit
 
--- and what it leaves of a book
-end_is : (b : BookView) (j : JobView BodyView) (q : FrameView) (callers : List FrameView) (outer : List (ℕ × ℤ)) (effects : List EffectView) (exit : ExitView) → j.body.task ≡ record { frames = q ∷ callers; outer = outer }
-    → end_of_turn b j effects exit ≡ turn_end b.script b.log b.held j.task.0 j.number (begun_priority (life_of j.task.0 b.log).stage) effects exit (advanced b.script q callers outer exit)
-end_is b j q callers outer effects exit is =
-    ap (λ (x : TaskView). end_of_frames b (record j { body = record j.body { task = x } }) effects exit x.frames) is
+  abbrev p : FrameView
+  p = folds.frame
 
--- a turn of a task that has begun, where the second book has taken it
-record Taken (script : ScriptView) (s : Standing) (k : ℕ) (t : TaskId) (g : NextTurn) (env : Env) (p : FrameView) (effects : List EffectView) (exit : ExitView) (after : Option FrameView) (log : List Event) (held : List (Option WaitingTaskView)) (tasks : List (Option NextTurn)) : Type 0 where
-  stands : TurnStands script s k t.0 g.number effects exit (given_view t.0 g) env p
-  log_is : log ≡ (turn_applied script s t.0 g.number effects exit after).log
-  held_is : held ≡ (turn_applied script s t.0 g.number effects exit after).held
-  given : AreGiven (turn_applied script s t.0 g.number effects exit after).jobs tasks
-  same : g.body.script ≡ script
+  abbrev turn : FoldedView
+  turn = folded_turn t g effects exit folds.after
 
--- A replay between the turn and its end: the task's job is taken, and one place has changed.
-pub record Between (x m : Replay) (t : TaskId) (g : NextTurn) (k : ℕ) (row row' : ExecutorProgress) : Type 0 where
-  pub script_is : m.script ≡ x.script
-  pub book_is : m.book ≡ x.book
-  pub roots_are : m.roots ≡ x.roots
-  pub rows_are : m.rows.items ≡ slice_set x.rows.items k row'
-  pub at : slice_get x.rows.items k ≡ Some row
-  pub was : given_at x.tasks.items t.0 ≡ Some g
-  pub taken_out : (u : ℕ) → given_at m.tasks.items u ≡ with_given t.0 None (given_at x.tasks.items) u
+  abbrev bs : List Block
+  bs = is.blocks
 
-same_ends : (b b' : BookView) (script : ScriptView) (log : List Event) (held : List (Option WaitingTaskView)) (t n n' : ℕ) (q : FrameView) (callers : List FrameView) (outer : List (ℕ × ℤ)) (effects : List EffectView) (exit : ExitView)
-    → b ≡ b' → b'.script ≡ script → b'.log ≡ log → b'.held ≡ held → n ≡ n'
-    → turn_end b.script b.log b.held t n (begun_priority (life_of t b.log).stage) effects exit (advanced b.script q callers outer exit)
-    ≡ turn_end script log held t n' (begun_priority (life_of t log).stage) effects exit (advanced script q callers outer exit)
-same_ends b b' script log held t n n' q callers outer effects exit book is_script is_log is_held is_number =
-    ap (λ (c : BookView). turn_end c.script c.log c.held t n (begun_priority (life_of t c.log).stage) effects exit (advanced c.script q callers outer exit)) book
-    ∙ ap (λ (sc : ScriptView). turn_end sc b'.log b'.held t n (begun_priority (life_of t b'.log).stage) effects exit (advanced sc q callers outer exit)) is_script
-    ∙ ap (λ (l : List Event). turn_end script l b'.held t n (begun_priority (life_of t l).stage) effects exit (advanced script q callers outer exit)) is_log
-    ∙ ap (λ (h : List (Option WaitingTaskView)). turn_end script log h t n (begun_priority (life_of t log).stage) effects exit (advanced script q callers outer exit)) is_held
-    ∙ ap (λ (i : ℕ). turn_end script log held t i (begun_priority (life_of t log).stage) effects exit (advanced script q callers outer exit)) is_number
+  abbrev rest : IsAtRest x.history
+  rest = at_rest _ report.checkpoints is.blocks x.history is.is
 
-took : (script : ScriptView) (report : ReportView) (x m y : Replay) (k : ℕ) (t : TaskId) (g : NextTurn) (env : Env) (p : FrameView) (after : Option FrameView) (row row' : ExecutorProgress) (done : FollowedTurn) (f : IsFollowed script report x.book.log x.book.held x.tasks.items x.rows.items x.roots)
-    → x.book.script ≡ script → Between x m t g k row row'
-    → (life_of t.0 x.book.log).stage ≡ Some (Begun env) → IfRunning g.body.task.frames (λ q. actor_executor script (method_actor g.body.script q.method) ≡ k)
-    → GoesOn g done.ready p (effect_views done.effects.items) after → AppliesFollowed m y t done
-    → Taken script (after_blocks script (at_first script) f.blocks) k t g env p (effect_views done.effects.items) (exit_view done.exit) after y.book.log y.book.held y.tasks.items
-took script report x m y k t g env p after row row' done f book_is between begun_is on goes a =
-    let s = after_blocks script (at_first script) f.blocks in
-    let effects = effect_views done.effects.items in
-    let exit = exit_view done.exit in
-    let same : g.body.script ≡ script = sym goes.script ∙ a.same ∙ ap (λ (b : BookView). b.script) between.book_is ∙ book_is in
-    let fits : refusal_of_apply script x.book.log (job_of t done.ready) effects exit ≡ None =
-    subst (λ (sc : ScriptView). refusal_of_apply sc x.book.log (job_of t done.ready) effects exit ≡ None) book_is
-    (subst (λ (b : BookView). refusal_of_apply b.script b.log (job_of t done.ready) effects exit ≡ None) between.book_is a.fits) in
-    let current : is_current (life_of t.0 x.book.log) done.ready.number done.ready.resume ≡ true = holds_then _ _ (none_before _ _ fits) in
-    let fit : fits_begun script x.book.log t.0 done.ready.body.script effects exit (Some (Begun env)) ≡ true =
-    subst (λ (o : Option JobStage). fits_begun script x.book.log t.0 done.ready.body.script effects exit o ≡ true) begun_is (holds_then _ _ fits) in
-    let ends = end_is m.book (job_of t done.ready) (left_as p effects after) goes.callers g.body.task.outer effects exit goes.is
-    ∙ same_ends m.book x.book script s.log s.held t.0 done.ready.number g.number (left_as p effects after) goes.callers g.body.task.outer effects exit between.book_is book_is f.log_is f.held_is goes.number in
-    let applied = applied_is script s t.0 g.number (given_view t.0 g) p goes.callers effects exit after (f.given t.0 g between.was) goes.was in
-    let jobs = a.ends.jobs_are ∙ ap (λ (z : TurnEnd). z.jobs) ends in
-    record {
-      stands = record {
-        given = f.given t.0 g between.was;
-        number = refl;
-        current = subst (λ (l : List Event). is_current (life_of t.0 l) g.number g.resume ≡ true) f.log_is
-            (subst (λ (n : ℕ). is_current (life_of t.0 x.book.log) n g.resume ≡ true) goes.number
-            (subst (λ (r : Resume). is_current (life_of t.0 x.book.log) done.ready.number r ≡ true) goes.resume current));
-        has_begun = subst (λ (l : List Event). (life_of t.0 l).stage ≡ Some (Begun env)) f.log_is begun_is;
-        fits = subst (λ (l : List Event). fits_turn script t.0 l (counters t.0 l env.room) effects exit ≡ true) f.log_is (first_of_both _ _ fit);
-        runs = (goes.callers, goes.was);
-        on = subst (λ (sc : ScriptView). actor_executor script (method_actor sc p.method) ≡ k) same
-            (subst (λ (fs : List FrameView). IfRunning fs (λ q. actor_executor script (method_actor g.body.script q.method) ≡ k)) goes.was on);
-      };
-      log_is = a.ends.log_is ∙ ap (λ (z : TurnEnd). z.log) ends ∙ ap (λ (z : Standing). z.log) (sym applied);
-      held_is = a.ends.held_is ∙ ap (λ (z : TurnEnd). z.held) ends ∙ ap (λ (z : Standing). z.held) (sym applied);
-      given = subst (λ (z : Standing). AreGiven z.jobs y.tasks.items) (sym applied)
-          (subst (λ (js : List JobFacts). AreGiven (with_jobs js (taken t.0 s.jobs)) y.tasks.items) jobs
-          (a.given (taken t.0 s.jobs) (given_taken s.jobs x.tasks.items m.tasks.items t.0 f.given between.taken_out)));
-      same = same;
-    }
+  abbrev j : JobView BodyView
+  j = record (job_of t g) { body = body }
 
--- a replay whose history has one block more
-replay_more : (script : ScriptView) (report : ReportView) (x m y : Replay) (t : TaskId) (g : NextTurn) (k : ℕ) (row row' : ExecutorProgress) (done : FollowedTurn) (f : IsFollowed script report x.book.log x.book.held x.tasks.items x.rows.items x.roots) (b : Block) (z : Standing)
-    → IsReplay script report x → Between x m t g k row row' → AppliesFollowed m y t done → after_block script (after_blocks script (at_first script) f.blocks) b ≡ z
-    → AllStand script report.checkpoints [] (f.blocks ++ b ∷ []) → root_in b ≡ None → y.book.log ≡ z.log → y.book.held ≡ z.held → AreGiven z.jobs y.tasks.items
-    → ((e : ℕ) (q : ExecutorProgress) → slice_get (slice_set x.rows.items k row') e ≡ Some q → IsProgress script report (f.blocks ++ b ∷ []) e q)
-    → IsReplay script report y
-replay_more script report x m y t g k row row' done f b z is between a here stand no_root log held given places =
-    let after = after_push script (at_first script) f.blocks b ∙ here in
-    let rows = a.rows_are ∙ between.rows_are in
-    let own : m.book.script ≡ script = ap (λ (c : BookView). c.script) between.book_is ∙ is.book_is in
-    record {
-      script_is = ap arc_value (a.script_is ∙ between.script_is) ∙ is.script_is;
-      book_is = a.book_is ∙ ap (λ (c : BookView). c.script) between.book_is ∙ is.book_is;
-      none = a.none;
-      scripts = subst (λ (sc : ScriptView). AreOf sc y.tasks.items) own (a.scripts (subst (λ (sc : ScriptView). AreOf sc m.tasks.items) (sym own) (of_taken script x.tasks.items m.tasks.items t.0 is.scripts between.taken_out)));
-      followed = record {
-        blocks = f.blocks ++ b ∷ [];
-        stand = stand;
-        log_is = log ∙ ap (λ (c : Standing). c.log) (sym after);
-        held_is = held ∙ ap (λ (c : Standing). c.held) (sym after);
-        given = subst (λ (c : Standing). AreGiven c.jobs y.tasks.items) (sym after) given;
-        places = λ e q at. places e q (ap (λ (qs : List ExecutorProgress). slice_get qs e) (sym rows) ∙ at);
-        roots_are = filter_none root_in f.blocks b no_root ∙ f.roots_are ∙ ap (range_with_len 0) (sym (a.roots_are ∙ between.roots_are));
-      };
-    }
+  job_is : job_of t done.ready ≡ j
+  job_is =
+      ap (λ (n : ℕ). record { task = t; number = n; resume = done.ready.resume; body = body }) folds.goes_on.number
+      ∙ ap (λ (r : Resume). record { task = t; number = g.number; resume = r; body = body }) folds.goes_on.resume
 
-pub followed_ran : (script : ScriptView) (report : ReportView) (x m y : Replay) (k : ℕ) (t : TaskId) (g : NextTurn) (env : Env) (row row' : ExecutorProgress) (done : FollowedTurn)
-    → IsReplay script report x → Between x m t g k row row'
-    → (life_of t.0 x.book.log).stage ≡ Some (Begun env) → IfRunning g.body.task.frames (λ q. actor_executor script (method_actor g.body.script q.method) ≡ k)
-    → FollowsRecord (journal_at report.journals k) row row' t g env done → AppliesFollowed m y t done → IsReplay script report y
-followed_ran script report x m y k t g env row row' done is between begun_is on follows a =
-    let f = is.followed in
-    let bs = f.blocks in
-    let r = turn_of t g follows.worker follows.frame env (effect_views done.effects.items) (exit_view done.exit) follows.after in
-    let turn = took script report x m y k t g env follows.frame follows.after row row' done f is.book_is between begun_is on follows.goes_on a in
-    let place = f.places k row between.at in
-    let fields = subst (λ (sc : ScriptView). rows_of row'.fields.items ≡ fields_after sc (rows_of row.fields.items) r) turn.same follows.fields in
-    let lawful = subst (λ (rows : List (List ℤ)). IsLawfulRecord script rows r) place.fields (subst (λ (sc : ScriptView). IsLawfulRecord sc (rows_of row.fields.items) r) turn.same follows.lawful) in
-    let own = place_played script report bs k row row' r place follows.there fields follows.played follows.folded in
-    replay_more script report x m y t g k row row' done f (ran k r) _ is between a refl
-    (stand_push script report.checkpoints bs (ran k r) f.stand (record { job = given_view t.0 g; stands = turn.stands; resume = refl; outer = refl; lawful = lawful }))
-    refl turn.log_is turn.held_is turn.given
-    (places_set (IsProgress script report bs) (IsProgress script report (bs ++ ran k r ∷ [])) x.rows.items k row row' between.at own (others_played script report bs k r) f.places)
+  of_book : g.body.script ≡ b.script
+  of_book = (rest.scripts t.0 g takes.was).script_is ∙ sym rest.book_is
 
-pub followed_folded : (script : ScriptView) (report : ReportView) (x m y : Replay) (k : ℕ) (t : TaskId) (g : NextTurn) (env : Env) (row row' : ExecutorProgress) (done : FollowedTurn)
-    → IsReplay script report x → Between x m t g k row row' → row.played ≡ 0
-    → (life_of t.0 x.book.log).stage ≡ Some (Begun env) → IfRunning g.body.task.frames (λ q. actor_executor script (method_actor g.body.script q.method) ≡ k)
-    → Folds (checkpoint_at report.checkpoints k) row row' t g done → AppliesFollowed m y t done → IsReplay script report y
-followed_folded script report x m y k t g env row row' done is between none begun_is on folds a =
-    let f = is.followed in
-    let bs = f.blocks in
-    let turn = folded_turn t g (effect_views done.effects.items) (exit_view done.exit) folds.after in
-    let taken = took script report x m y k t g env folds.frame folds.after row row' done f is.book_is between begun_is on folds.goes_on a in
-    let place = f.places k row between.at in
-    let own = place_folded script report bs k row row' turn place folds.there folds.fields folds.played folds.folded in
-    let before = place.played ∙ ap (λ n. take n (journal_at report.journals k)) none in
-    replay_more script report x m y t g k row row' done f (folded k turn) _ is between a refl
-    (stand_push script report.checkpoints bs (folded k turn) f.stand (record { job = given_view t.0 g; env = env; frame = folds.frame; stands = taken.stands; leaves = folds.leaves }, before))
-    refl taken.log_is taken.held_is taken.given
-    (places_set (IsProgress script report bs) (IsProgress script report (bs ++ folded k turn ∷ [])) x.rows.items k row row' between.at own (others_folded script report bs k turn) f.places)
+  on : actor_executor b.script (method_actor b.script p.method) ≡ k
+  on =
+      let runs = subst (λ (fs : List FrameView). IfRunning fs (λ q. actor_executor (arc_value x.history.script) (method_actor g.body.script q.method) ≡ k)) folds.goes_on.was (at.on g takes.was) in
+      subst (λ (sc : ScriptView). actor_executor sc (method_actor b.script p.method) ≡ k) (sym rest.book_is)
+      (subst (λ (sc : ScriptView). actor_executor (arc_value x.history.script) (method_actor sc p.method) ≡ k) of_book runs)
 
--- a job whose task and rest stand apart
-view_is : (j : JobView BodyView) (t : TaskId) (g : NextTurn) → t ≡ j.task → g ≡ record { number = j.number; resume = j.resume; body = j.body } → given_view t.0 g ≡ job_facts j
-view_is j t g at is = ap (λ (x : TaskId). given_view x.0 g) at ∙ ap (λ (h : NextTurn). given_view j.task.0 h) is
+  turned : Turned b y.history.book x.history.tasks.items m.tasks.items y.history.tasks.items t g k env body p folds.goes_on.callers effects exit folds.after a.jobs
+  turned = record {
+    was = takes.was;
+    took = takes.rest;
+    has_begun = has_begun;
+    first = folds.goes_on.was;
+    on = on;
+    fits = subst (λ (i : JobView BodyView). refusal_of_apply b.script b.log i effects exit ≡ None) job_is
+        (subst (λ (c : BookView). refusal_of_apply c.script c.log (job_of t done.ready) effects exit ≡ None) takes.book_is a.fits);
+    leads = ap (λ (v : TaskView). end_of_frames b (record j { body = record body { task = v } }) effects exit v.frames) folds.goes_on.is;
+    ends = subst (λ (i : JobView BodyView). IsEndOf b [] i effects exit y.history.book.log y.history.book.held a.jobs) job_is
+        (subst (λ (c : BookView). IsEndOf c [] (job_of t done.ready) effects exit y.history.book.log y.history.book.held a.jobs) takes.book_is a.ends);
+    given = a.given;
+  }
 
--- what a step that runs no turn leaves
-pub record Leaves (script : ScriptView) (report : ReportView) (x : Replay) (b : BookView) (tasks : List (Option NextTurn)) (roots : ℕ) : Type 0 where
-  pub book_is : b.script ≡ script
-  pub scripts : AreOf script tasks
-  pub followed : IsFollowed script report b.log b.held tasks x.rows.items roots
+  followed : IsFollowed (arc_value y.history.script) report.checkpoints (bs ++ folded k turn ∷ []) y.history
+  followed =
+      let led = own_led _ report.checkpoints bs x.history is.is in
+      let stand : FoldedStands b.script (standing b.script bs) k turn = record {
+        job = given_view t.0 g;
+        env = env;
+        frame = p;
+        stands = turn_stands b y.history.book report.checkpoints bs x.history.tasks.items m.tasks.items y.history.tasks.items (rows_at x.history) x.history.roots t g k env body p folds.goes_on.callers effects exit folds.after a.jobs led turned;
+        leaves = folds.leaves;
+      } in
+      let no_record : records_of k bs ≡ [] = (is.places k row here).played ∙ ap (λ n. take n (journal_at report.journals k)) none in
+      followed_is _ report.checkpoints (bs ++ folded k turn ∷ []) y.history (record y.history.book { script = b.script }) (rows_at x.history) x.history.roots refl
+      (rest_after x.history m y.history t g done.ready effects exit rest takes a)
+      (ap (λ (sc : ScriptView). record y.history.book { script = sc }) (a.book_is ∙ ap (λ (c : BookView). c.script) takes.book_is))
+      (same_rows x.history y.history (a.fields_are ∙ same)) (a.roots_are ∙ takes.roots_are)
+      (led_turn b y.history.book report.checkpoints bs x.history.tasks.items m.tasks.items y.history.tasks.items (rows_at x.history) x.history.roots t g k env body p folds.goes_on.callers effects exit folds.after a.jobs led turned
+      (folded k turn) (rows_at x.history) refl refl (stand, no_record) (λ e rows seen. led.fields_are e rows seen ∙ sym (fields_stay b.script report.checkpoints bs (folded k turn) e refl)))
 
--- a root is added to the second book
-pub root_step : (script : ScriptView) (report : ReportView) (x : Replay) (b : BookView) (tasks : List (Option NextTurn)) (j : JobView BodyView) (t : TaskId) (g : NextTurn)
-    → IsReplay script report x → b ≡ record x.book { log = x.book.log ++ root_events x.book.script x.roots } → refusal_of_root x.book.script x.book.log x.roots ≡ None → job_facts j ≡ root_job x.book.script x.roots
-    → IsJobOf x.book.script j → t ≡ j.task → g ≡ record { number = j.number; resume = j.resume; body = j.body } → ((u : ℕ) → given_at tasks u ≡ with_given t.0 (Some g) (given_at x.tasks.items) u)
-    → Leaves script report x b tasks (x.roots + 1)
-root_step script report x b tasks j t g is ok may job of at made put =
-    let own = x.book.script in
-    let before : IsFollowed own report x.book.log x.book.held x.tasks.items x.rows.items x.roots =
-    subst (λ (sc : ScriptView). IsFollowed sc report x.book.log x.book.held x.tasks.items x.rows.items x.roots) (sym is.book_is) is.followed in
-    let view = view_is j t g at made ∙ job in
-    let more = followed_root own report x.book.log x.book.held x.tasks.items tasks x.rows.items x.roots t g before may view (ap (λ (v : JobFacts). v.task) view) put in
-    record {
-      book_is = ap (λ (c : BookView). c.script) ok ∙ is.book_is;
-      scripts = of_put script x.tasks.items tasks t.0 g is.scripts put (ap (λ (h : NextTurn). h.body.script) made ∙ of.script_is ∙ is.book_is);
-      followed = subst (λ (c : BookView). IsFollowed script report c.log c.held tasks x.rows.items (x.roots + 1)) (sym ok)
-          (subst (λ (sc : ScriptView). IsFollowed sc report (x.book.log ++ root_events own x.roots) x.book.held tasks x.rows.items (x.roots + 1)) is.book_is more);
-    }
+  pub replay_folded : IsReplay report y
+  replay_folded =
+      let own = place_folded report bs k row row' turn (is.places k row here) folds.there folds.played folds.folded in
+      record {
+        blocks = bs ++ folded k turn ∷ [];
+        is = followed;
+        places = λ e q is_at. places_set (IsProgress report bs) (IsProgress report (bs ++ folded k turn ∷ [])) x.rows.items k row row' here own (others_folded report bs k turn) is.places e q
+            (ap (λ (rs : List ExecutorProgress). slice_get rs e) (sym set) ∙ is_at);
+      }
 
--- a turn begins in the second book
-pub begin_step : (script : ScriptView) (report : ReportView) (x : Replay) (b : BookView) (between tasks : List (Option NextTurn)) (j : JobView BodyView) (t t' : TaskId) (g h : NextTurn) (env : Env)
-    → IsReplay script report x → given_at x.tasks.items t.0 ≡ Some g → j ≡ job_of t g
-    → b ≡ record x.book { log = x.book.log ++ Begin j.task j.number env ∷ [] } → refusal_of_begin x.book.script x.book.log j ≡ None → IsEnv (root_count x.book.script) j.task x.book.log env
-    → t' ≡ j.task → h ≡ record { number = j.number; resume = j.resume; body = j.body }
-    → ((u : ℕ) → given_at between u ≡ with_given t.0 None (given_at x.tasks.items) u) → ((u : ℕ) → given_at tasks u ≡ with_given t'.0 (Some h) (given_at between) u)
-    → Leaves script report x b tasks x.roots
-begin_step script report x b between tasks j t t' g h env is was job ok may given at made took put =
-    let own = x.book.script in
-    let before : IsFollowed own report x.book.log x.book.held x.tasks.items x.rows.items x.roots =
-    subst (λ (sc : ScriptView). IsFollowed sc report x.book.log x.book.held x.tasks.items x.rows.items x.roots) (sym is.book_is) is.followed in
-    let task = at ∙ ap (λ (k : JobView BodyView). k.task) job in
-    let same : h ≡ g = made ∙ ap (λ (k : JobView BodyView). record { number = k.number; resume = k.resume; body = k.body }) job in
-    let back : (u : ℕ) → given_at tasks u ≡ with_given t.0 (Some g) (given_at between) u =
-    λ u. put u ∙ ap (λ (v : TaskId). with_given v.0 (Some h) (given_at between) u) task ∙ ap (λ (v : NextTurn). with_given t.0 (Some v) (given_at between) u) same in
-    let may' = subst (λ (k : JobView BodyView). refusal_of_begin own x.book.log k ≡ None) job may in
-    let given' = subst (λ (k : JobView BodyView). IsEnv (root_count own) k.task x.book.log env) job given in
-    let more = followed_begin own report x.book.log x.book.held x.tasks.items between tasks x.rows.items x.roots t g env before was may' given' took back in
-    let ok' = ok ∙ ap (λ (k : JobView BodyView). record x.book { log = x.book.log ++ Begin k.task k.number env ∷ [] }) job in
-    record {
-      book_is = ap (λ (c : BookView). c.script) ok ∙ is.book_is;
-      scripts = of_put script between tasks t.0 g (of_taken script x.tasks.items between t.0 is.scripts took) back (is.scripts t.0 g was);
-      followed = subst (λ (c : BookView). IsFollowed script report c.log c.held tasks x.rows.items x.roots) (sym ok')
-          (subst (λ (sc : ScriptView). IsFollowed sc report (x.book.log ++ Begin t g.number env ∷ []) x.book.held tasks x.rows.items x.roots) is.book_is more);
-    }
+-- what holds of what is there
+pub some_of : {A : Type 0} (o : Option A) (x : A) (P : A → Type 0) → o ≡ Some x → IfSome o P → P x
+some_of o x P is holds = subst (λ (v : Option _). IfSome v P) is holds
 
 -- an answer that holds so holds otherwise too
 pub map_ok : {A E : Type 0} (r : Result A E) (P Q : A → Type 0) → ((x : A) → P x → Q x) → IfOk r P → IfOk r Q

@@ -1,6 +1,6 @@
 //! What a report says at its end.
 
-ghost use Rattle.std.specs.Prelude.{◌≡◌, ◌<◌, ℕ, IfOk, IsTrue, Some, true, length, slice_get};
+ghost use Rattle.std.specs.Prelude.{◌≡◌, ◌<◌, ℕ, IfOk, IsTrue, Some, true, length, map, slice_get};
 ghost use Rattle.std.specs.Arc.{arc_value};
 ghost use Rattle.script_code.specs.Seen.{rows_of};
 ghost use Rattle.swift_types.specs.declared.outcome.Ending.{Ending as Ends};
@@ -89,12 +89,13 @@ fn is_ended(
     script: &Script,
     executor: usize,
     row: &ExecutorProgress,
+    own: &[Vec<i64>],
     journal: &Journal,
     checkpoint: &Checkpoint,
     fields: &[Vec<i64>],
 ) -> Result<bool, AllocError>
     requires { executor < executor_count script.now }
-    ensures { IfOk result (λ yes. IsTrue yes → EndsAt script.now executor row.now journal.now checkpoint.now.view (rows_of fields.now)) }
+    ensures { IfOk result (λ yes. IsTrue yes → EndsAt script.now executor row.now (rows_of own.now) journal.now checkpoint.now.view (rows_of fields.now)) }
 {
     if row.played != journal.len() || row.folded != checkpoint.len() {
         return Ok(false);
@@ -102,7 +103,7 @@ fn is_ended(
     if checkpoint.len() == 0 && !are_first_fields(alloc, script, executor, checkpoint.fields())? {
         return Ok(false);
     }
-    Ok(are_same_fields(&row.fields, fields))
+    Ok(are_same_fields(own, fields))
 }
 
 // Whether each executor was.
@@ -110,12 +111,14 @@ fn are_ended(
     alloc: Global,
     script: &Script,
     rows: &[ExecutorProgress],
+    own: &[Vec<Vec<i64>>],
     report: &Report,
 ) -> Result<bool, AllocError>
-    ensures { IfOk result (λ yes. IsTrue yes → AreEndedAt script.now rows.now (report_view report.now)) }
+    ensures { IfOk result (λ yes. IsTrue yes → AreEndedAt script.now rows.now (map (λ fields. rows_of fields.items) own.now) (report_view report.now)) }
 {
     let count = script.executor_count();
     if rows.len() != count
+        || own.len() != count
         || report.journals.len() != count
         || report.checkpoints.len() != count
         || report.fields.len() != count
@@ -128,6 +131,7 @@ fn are_ended(
             script,
             place,
             &rows[place],
+            &own[place],
             &report.journals[place],
             &report.checkpoints[place],
             &report.fields[place],
@@ -186,16 +190,23 @@ fn have_closed(book: &Book, tasks: usize) -> bool
 impl Replay {
     /// Whether a report ends where its history does.
     pub fn agrees(&self, report: &Report) -> Result<bool, AllocError>
-        requires { IsReplay (arc_value self.now.script) (report_view report.now) self.now }
-        ensures { IfOk result (λ yes. IsTrue yes → IsLegal (arc_value self.now.script) (report_view report.now)) }
+        requires { IsReplay (report_view report.now) self.now }
+        ensures { IfOk result (λ yes. IsTrue yes → IsLegal (arc_value self.now.history.script) (report_view report.now)) }
     {
-        if self.roots as usize != self.script.root_count()
-            || !is_same_log(&report.log, self.book.log())
-            || !have_ended(&self.book, &report.endings)
-            || !have_closed(&self.book, report.endings.len())
+        let history = &self.history;
+        if history.roots as usize != history.script.root_count()
+            || !is_same_log(&report.log, history.book.log())
+            || !have_ended(&history.book, &report.endings)
+            || !have_closed(&history.book, report.endings.len())
         {
             return Ok(false);
         }
-        are_ended(self.alloc, &self.script, &self.rows, report)
+        are_ended(
+            history.alloc,
+            &history.script,
+            &self.rows,
+            &history.fields,
+            report,
+        )
     }
 }

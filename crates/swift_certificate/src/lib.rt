@@ -5,12 +5,10 @@
 mod ends;
 // What holds of each legal report.
 pub mod laws;
-// One turn, played again or taken from a checkpoint.
+// One turn, compared with the journal or taken from a checkpoint.
 mod playing;
 // A run that is followed along its log.
 mod replay;
-// What the next turn of each task begins with.
-mod waiting;
 // Whether a whole report is legal.
 mod whole;
 

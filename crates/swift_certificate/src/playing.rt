@@ -1,34 +1,31 @@
-//! One turn, played again or taken from a checkpoint.
+//! One turn, compared with the journal or taken from a checkpoint.
 
-ghost use Rattle.std.specs.Prelude.{◌≡◌, ◌<◌, ◌↔◌, ◌+◌, count_by, IfOk, IfSome, IsTrue, None, ◌∷◌};
+ghost use Rattle.std.specs.Prelude.{◌≡◌, ◌<◌, ◌↔◌, ◌+◌, count_by, IfOk, IfSome, IsTrue, None};
 ghost use Rattle.swift_interpreter.specs.Frames.{effect_view, effect_views, frame_view, frame_if};
 ghost use Rattle.swift_interpreter.specs.TurnStates.{exit_view};
 ghost use Rattle.swift_journal.specs.Records.{frame_if_lent};
 ghost use Rattle.swift_history.specs.Histories.{IsLeft, LeavesFrame, left_as, makes_own, opens_group};
 ghost use Rattle.swift_script.specs.Scripts.{method_count};
-ghost use Rattle.swift_turn.specs.Body.{HasFirst, IsRunning, callers_of};
-ghost use Rattle.swift_certificate.specs.ReplayInside.{Folds, FollowsRecord, IsAfterFrame, TakesFollowed};
+ghost use Rattle.swift_turn.specs.Body.{HasFirst, IsRunning};
+ghost use Rattle.swift_certificate.specs.ReplayInside.{Folds, IsNext, TakesFolded};
 
-use crate::waiting::NextTurn;
 use std::alloc::{AllocError, Global};
-use std::mem;
 use swift_interpreter::{Effect, Exit, Frame};
-use swift_journal::{Checkpoint, Folded, Journal, Record};
-use swift_turn::{Body, TurnOutcome, replay_turn};
-use swift_types::{Env, TaskId};
+use swift_journal::{Checkpoint, Folded, Journal};
+use swift_steps::{NextTurn, PlayedTurn};
+use swift_turn::Body;
+use swift_types::TaskId;
 
-/// How far an executor was followed: the fields of its actors, a list for each; and how many of its checkpoint's turns and of its
-/// journal's there were.
+/// How far an executor was followed: how many of its checkpoint's turns and of its journal's there were.
 #[derive(Drop)]
 pub struct ExecutorProgress {
-    pub fields: Vec<Vec<i64>>,
     pub folded: usize,
     pub played: usize,
 }
 
-/// A turn that was followed, and is to be applied.
+/// A turn of a checkpoint, which is to be applied.
 #[derive(Drop)]
-pub struct FollowedTurn {
+pub struct FoldedTurn {
     pub ready: NextTurn,
     pub exit: Exit,
     pub effects: Vec<Effect>,
@@ -92,100 +89,26 @@ fn is_left(exit: &Exit) -> bool
     matches!(exit, Exit::Return(_) | Exit::Fault(_))
 }
 
-// The frame after a turn that ended so, where one goes on.
-fn after<'a>(body: &'a Body, exit: &Exit) -> Option<&'a Frame>
-    requires { IsRunning body.now }
-    ensures { IsAfterFrame body.now.task.frames (exit_view exit.now) (frame_if_lent result) }
-{
-    if is_left(exit) {
-        None
-    } else {
-        Some(body.top())
-    }
-}
-
-// Sets the frame that runs, where such an exit leaves it, to what it was before the turn with its task's counts after it:
-// these alone matter from then on. Whether the counts fit.
-fn settle(body: &mut Body, before: Frame, exit: &Exit, effects: &[Effect]) -> bool
-    requires running { IsRunning body.old }
-    requires method { before.method.0 < method_count body.old.script }
-    ensures left { IsTrue result → IsLeft (exit_view exit.now) → body.new.task.frames ≡ left_as (frame_view before) (effect_views effects.now) None ∷ callers_of body.old.task.frames }
-    ensures stays { (IsLeft (exit_view exit.now) → ⊥) → body.new.task.frames ≡ body.old.task.frames }
-    ensures rest { body.new ≡ record body.old { task = record body.old.task { frames = body.new.task.frames } } }
-{
-    if is_left(exit) {
-        let Some(frame) = count_effects(before, effects) else {
-            return false;
-        };
-        body.put_back(frame);
-    }
-    true
-}
-
-/// Plays the next turn of an executor's journal again, from what its task's job gives. Nothing where the journal has another
-/// turn there, or none.
-pub fn play(
-    alloc: Global,
+/// Whether a turn that was played, of a frame like this, is the next one of an executor's journal. It counts as played then.
+pub fn is_next(
     row: &mut ExecutorProgress,
     journal: &Journal,
     scratch: &mut Journal,
-    task: TaskId,
-    ready: NextTurn,
-    env: Env,
-) -> Result<Option<FollowedTurn>, AllocError>
-    requires running { IsRunning ready.body }
-    ensures { IfOk result (λ answer. IfSome answer (λ done. FollowsRecord journal.now row.old row.new task ready env done)) }
+    turn: &PlayedTurn,
+    frame: &Frame,
+) -> Result<bool, AllocError>
+    requires { IsRunning turn.now.ready.body }
+    ensures { IfOk result (λ yes. IsTrue yes → IsNext journal.now row.old row.new turn.now (frame_view frame.now)) }
 {
     let place = row.played;
     if place >= journal.len() {
-        return Ok(None);
+        return Ok(false);
     }
-    let NextTurn {
-        number,
-        resume,
-        mut body,
-    } = ready;
-    let frame = body.frame()?;
-    let fields = mem::replace(&mut row.fields, Vec::new(alloc));
-    let Ok(
-        TurnOutcome {
-            fields,
-            effects,
-            exit,
-        },
-    ) = replay_turn(&mut body, fields, resume, env)
-    else {
-        return Err(AllocError);
-    };
-    row.fields = fields;
-    let record = Record {
-        task,
-        number,
-        worker: journal.worker(place),
-        frame: &frame,
-        outer: body.outer(),
-        resume,
-        env,
-        exit: &exit,
-        effects: &effects,
-        after: after(&body, &exit),
-    };
-    if !journal.has(place, &record, scratch)? {
-        return Ok(None);
+    if !journal.has(place, &turn.record(frame, journal.worker(place)), scratch)? {
+        return Ok(false);
     }
     row.played += 1;
-    if !settle(&mut body, frame, &exit, &effects) {
-        return Ok(None);
-    }
-    Ok(Some(FollowedTurn {
-        ready: NextTurn {
-            number,
-            resume,
-            body,
-        },
-        exit,
-        effects,
-    }))
+    Ok(true)
 }
 
 // The frame with which a task goes on after a turn that is not played.
@@ -211,16 +134,16 @@ fn go_on(
     exit: Exit,
     effects: Vec<Effect>,
     after: Option<Frame>,
-) -> Result<Option<FollowedTurn>, AllocError>
+) -> Result<Option<FoldedTurn>, AllocError>
     requires running { IsRunning ready.body }
-    ensures { IfOk result (λ answer. IfSome answer (λ done. TakesFollowed ready (effect_views effects.items) (exit_view exit) (frame_if after) done)) }
+    ensures { IfOk result (λ answer. IfSome answer (λ done. TakesFolded ready (effect_views effects.items) (exit_view exit) (frame_if after) done)) }
 {
     let Some(frame) = frame_after(&ready.body, &effects, after)? else {
         return Ok(None);
     };
     let mut ready = ready;
     ready.body.put_back(frame);
-    Ok(Some(FollowedTurn {
+    Ok(Some(FoldedTurn {
         ready,
         exit,
         effects,
@@ -248,7 +171,7 @@ pub fn fold(
     checkpoint: &Checkpoint,
     task: TaskId,
     ready: NextTurn,
-) -> Result<Option<FollowedTurn>, AllocError>
+) -> Result<Option<FoldedTurn>, AllocError>
     requires running { IsRunning ready.body }
     ensures { IfOk result (λ answer. IfSome answer (λ done. Folds checkpoint.now.view row.old row.new task ready done)) }
 {

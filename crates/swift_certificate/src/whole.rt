@@ -31,12 +31,14 @@ pub fn legal(alloc: Global, script: &Arc<Script>, report: &Report) -> Result<boo
 
 // Follows a report along its log to its end.
 fn follow(replay: &mut Replay, report: &Report) -> Result<bool, AllocError>
-    requires { IsReplay (arc_value replay.old.script) (report_view report.now) replay.old }
-    ensures { IfOk result (λ yes. IsTrue yes → IsLegal (arc_value replay.old.script) (report_view report.now)) }
+    requires { IsReplay (report_view report.now) replay.old }
+    ensures { IfOk result (λ yes. IsTrue yes → IsLegal (arc_value replay.old.history.script) (report_view report.now)) }
 {
     for place in 0..report.log.len() {
         // The book has written the rest of a block by itself.
-        if place >= replay.book.log().len() && !replay.step(report, report.log.event(place))? {
+        if place >= replay.history.book.log().len()
+            && !replay.step(report, report.log.event(place))?
+        {
             return Ok(false);
         }
     }

@@ -29,10 +29,11 @@ use Rattle.swift_explorer.proofs.Bytes.{bytes_read}
 use Rattle.swift_explorer.proofs.Codes.{IsCode, peel, pair_code, option_code, list_code, number_code, flag_code, resume_code, origin_code, ending_code}
 use Rattle.swift_explorer.proofs.FrameCodes.{bindings_code, fields_code, frame_code}
 use Rattle.swift_explorer.proofs.DigestCodes.{digest_read}
-use Rattle.swift_explorer.specs.declared.waiting.Ready.{Ready}
+use Rattle.swift_steps.specs.declared.next_turn.NextTurn.{NextTurn}
 use Rattle.swift_explorer.specs.declared.history.SearchedHistory.{SearchedHistory}
 use Rattle.swift_explorer.specs.declared.outcome.RunOutcome.{RunOutcome}
-use Rattle.swift_explorer.specs.HistoryInside.{IsHistory, given_at, given_view, has_records, rows_at}
+use Rattle.swift_steps.specs.NextTurns.{given_at, given_view}
+use Rattle.swift_explorer.specs.HistoryInside.{IsHistory, has_records, rows_at}
 use Rattle.swift_explorer.specs.KeysInside.{IsKeyFor, IsNumbered, ReadyView, body_numbers, end_numbers, frames_left, job_left, job_numbers, outcome_bytes, ready_numbers, ready_view, rest_numbers, rest_of, task_left, with_counts}
 
 -- tasks, what they go on with, and jobs can be read again
@@ -155,11 +156,11 @@ module _ (script : ScriptView) where
   abbrev plan_by : ℕ → ReadyView → JobPlan
   plan_by t v = record { task = t; number = v.number; resume = v.resume; plan = task_plan script v.frames }
 
-  job_plan_left : (t : ℕ) (o : Option Ready) → option_map (job_plan script) (option_map (given_view t) o) ≡ option_map (plan_by t) (option_map ready_view o)
+  job_plan_left : (t : ℕ) (o : Option NextTurn) → option_map (job_plan script) (option_map (given_view t) o) ≡ option_map (plan_by t) (option_map ready_view o)
   job_plan_left t None = refl
   job_plan_left t (Some g) = ap (λ (p : TaskPlan). Some (record { task = t; number = g.number; resume = g.resume; plan = p })) (sym (plan_left g.body.task))
 
-at_map : (tasks : List (Option Ready)) (t : ℕ) → option_map ready_view (given_at tasks t) ≡ slice_index_or (map (option_map ready_view) tasks) t None
+at_map : (tasks : List (Option NextTurn)) (t : ℕ) → option_map ready_view (given_at tasks t) ≡ slice_index_or (map (option_map ready_view) tasks) t None
 at_map [] t = refl
 at_map (g ∷ gs) zero = refl
 at_map (g ∷ gs) (suc t) = at_map gs t
@@ -176,22 +177,22 @@ past (b ∷ bs) (suc e) high = past bs e (omega arith)
 
 -- two histories with the same numbers have the same parts
 record SameFacts (x y : SearchedHistory) : Type 0 where
-  digest : digest_of x.book.log ≡ digest_of y.book.log
-  waiting : map job_left (jobs_held 0 x.book.held) ≡ map job_left (jobs_held 0 y.book.held)
+  digest : digest_of x.steps.book.log ≡ digest_of y.steps.book.log
+  waiting : map job_left (jobs_held 0 x.steps.book.held) ≡ map job_left (jobs_held 0 y.steps.book.held)
   used : x.used.items ≡ y.used.items
   fields : rows_at x ≡ rows_at y
-  ready : map (option_map ready_view) x.tasks.items ≡ map (option_map ready_view) y.tasks.items
+  ready : map (option_map ready_view) x.steps.tasks.items ≡ map (option_map ready_view) y.steps.tasks.items
 
 same_facts : (x y : SearchedHistory) (numbers : List ℤ) → IsNumbered x numbers → IsNumbered y numbers → SameFacts x y
 same_facts x y numbers nx ny =
     let a = nx.written in
     let b = ny.written in
-    let da = digest_of x.book.log in
-    let db = digest_of y.book.log in
+    let da = digest_of x.steps.book.log in
+    let db = digest_of y.steps.book.log in
     let left = digest_numbers a.tasks a.groups da in
     let right = digest_numbers b.tasks b.groups db in
-    let jobs : SearchedHistory → List JobFacts = λ z. map job_left (jobs_held 0 z.book.held) in
-    let ready : SearchedHistory → List (Option ReadyView) = λ z. map (option_map ready_view) z.tasks.items in
+    let jobs : SearchedHistory → List JobFacts = λ z. map job_left (jobs_held 0 z.steps.book.held) in
+    let ready : SearchedHistory → List (Option ReadyView) = λ z. map (option_map ready_view) z.steps.tasks.items in
     let all : rest_of x ++ left ≡ rest_of y ++ right = sym a.numbers ∙ b.numbers in
     let parts = rest_read (jobs x) (jobs y) x.used.items y.used.items (rows_at x) (rows_at y) (ready x) (ready y) left right all in
     let digest = digest_read da db a.tasks a.groups b.tasks b.groups [] [] a.within b.within (ap (λ (l : List ℤ). l ++ []) parts.rest) in
@@ -202,36 +203,36 @@ start_fields : (script : ScriptView) (bs : List Block) (e : ℕ) → records_of 
 start_fields script bs e none = ap (replay script (checkpoint_at (starts script) e).fields) none
 
 -- the waiting tasks of two such histories have the same plans
-same_waiting : (script : ScriptView) (x y : SearchedHistory) → SameFacts x y → length x.book.held ≡ tasks_of (root_count script) x.book.log → length y.book.held ≡ tasks_of (root_count script) y.book.log
-    → held_plans script x.book.held ≡ held_plans script y.book.held
+same_waiting : (script : ScriptView) (x y : SearchedHistory) → SameFacts x y → length x.steps.book.held ≡ tasks_of (root_count script) x.steps.book.log → length y.steps.book.held ≡ tasks_of (root_count script) y.steps.book.log
+    → held_plans script x.steps.book.held ≡ held_plans script y.steps.book.held
 same_waiting script x y same places_x places_y =
-    let left : SearchedHistory → List (Option WaitingTaskView) = λ z. map (option_map held_left) z.book.held in
-    let many : length x.book.held ≡ length y.book.held =
-    places_x ∙ tasks_of_is (root_count script) x.book.log ∙ ap (λ (d : Digest). root_count script + d.made) same.digest ∙ sym (tasks_of_is (root_count script) y.book.log) ∙ sym places_y in
-    let also : length (left x) ≡ length (left y) = length-map x.book.held (option_map held_left) ∙ many ∙ sym (length-map y.book.held (option_map held_left)) in
-    let all : left x ≡ left y = held_read 0 (left x) (left y) also (sym (all_left 0 x.book.held) ∙ same.waiting ∙ all_left 0 y.book.held) in
-    sym (held_plans_left script x.book.held) ∙ ap (held_plans script) all ∙ held_plans_left script y.book.held
+    let left : SearchedHistory → List (Option WaitingTaskView) = λ z. map (option_map held_left) z.steps.book.held in
+    let many : length x.steps.book.held ≡ length y.steps.book.held =
+    places_x ∙ tasks_of_is (root_count script) x.steps.book.log ∙ ap (λ (d : Digest). root_count script + d.made) same.digest ∙ sym (tasks_of_is (root_count script) y.steps.book.log) ∙ sym places_y in
+    let also : length (left x) ≡ length (left y) = length-map x.steps.book.held (option_map held_left) ∙ many ∙ sym (length-map y.steps.book.held (option_map held_left)) in
+    let all : left x ≡ left y = held_read 0 (left x) (left y) also (sym (all_left 0 x.steps.book.held) ∙ same.waiting ∙ all_left 0 y.steps.book.held) in
+    sym (held_plans_left script x.steps.book.held) ∙ ap (held_plans script) all ∙ held_plans_left script y.steps.book.held
 
 lead_alike : (script : ScriptView) (bs cs : List Block) (x y : SearchedHistory) → IsHistory script bs x → IsHistory script cs y → SameFacts x y
-    → length x.book.held ≡ tasks_of (root_count script) x.book.log → length y.book.held ≡ tasks_of (root_count script) y.book.log → LeadAlike script (starts script) bs cs
+    → length x.steps.book.held ≡ tasks_of (root_count script) x.steps.book.log → length y.steps.book.held ≡ tasks_of (root_count script) y.steps.book.log → LeadAlike script (starts script) bs cs
 lead_alike script bs cs x y hx hy same places_x places_y =
     let flags : (e : ℕ) → has_records (records_of e bs) ≡ has_records (records_of e cs) = λ e. sym (hx.used e) ∙ ap (λ (l : List Bool). slice_index_or l e false) same.used ∙ hy.used e in
     let none_in : (e : ℕ) → records_of e bs ≡ [] → records_of e cs ≡ [] = λ e none. no_records (records_of e cs) (sym (flags e) ∙ ap has_records none) in
     record {
       standing = record {
-        digest = ap digest_of (sym hx.led.log_is) ∙ same.digest ∙ ap digest_of hy.led.log_is;
-        held = ap (held_plans script) (sym hx.led.held_is) ∙ same_waiting script x y same places_x places_y ∙ ap (held_plans script) hy.led.held_is;
+        digest = ap digest_of (sym hx.followed.led.log_is) ∙ same.digest ∙ ap digest_of hy.followed.led.log_is;
+        held = ap (held_plans script) (sym hx.followed.led.held_is) ∙ same_waiting script x y same places_x places_y ∙ ap (held_plans script) hy.followed.led.held_is;
         jobs = λ t.
-            ap (option_map (job_plan script)) (hx.led.given t)
-            ∙ job_plan_left script t (given_at x.tasks.items t)
-            ∙ ap (option_map (plan_by script t)) (at_map x.tasks.items t ∙ ap (λ (l : List (Option ReadyView)). slice_index_or l t None) same.ready ∙ sym (at_map y.tasks.items t))
-            ∙ sym (job_plan_left script t (given_at y.tasks.items t))
-            ∙ sym (ap (option_map (job_plan script)) (hy.led.given t));
+            ap (option_map (job_plan script)) (hx.followed.led.given t)
+            ∙ job_plan_left script t (given_at x.steps.tasks.items t)
+            ∙ ap (option_map (plan_by script t)) (at_map x.steps.tasks.items t ∙ ap (λ (l : List (Option ReadyView)). slice_index_or l t None) same.ready ∙ sym (at_map y.steps.tasks.items t))
+            ∙ sym (job_plan_left script t (given_at y.steps.tasks.items t))
+            ∙ sym (ap (option_map (job_plan script)) (hy.followed.led.given t));
       };
       fields = λ e. elim (cases_lt e (executor_count script)) [
         | inl low ↦
-            let have = there (rows_at x) e (omega (arith, low, hx.led.many)) in
-            sym (hx.led.fields_are e have.0 have.1) ∙ hy.led.fields_are e have.0 (ap (λ (l : List (List (List ℤ))). slice_get l e) (sym same.fields) ∙ have.1)
+            let have = there (rows_at x) e (omega (arith, low, hx.many)) in
+            sym (hx.followed.led.fields_are e have.0 have.1) ∙ hy.followed.led.fields_are e have.0 (ap (λ (l : List (List (List ℤ))). slice_get l e) (sym same.fields) ∙ have.1)
         | inr high ↦
             let none = no_records (records_of e bs) (sym (hx.used e) ∙ past x.used.items e (omega (arith, high, hx.short))) in
             start_fields script bs e none ∙ sym (start_fields script cs e (none_in e none))
@@ -249,9 +250,9 @@ alike_keys script bs cs key one two =
     let same : one.2.0 ≡ two.2.0 = bytes_read one.2.0 two.2.0 (sym one.2.2 ∙ two.2.2) in
     let nx : IsNumbered x two.2.0 = subst (IsNumbered x) same one.2.1 in
     let ny : IsNumbered y two.2.0 = two.2.1 in
-    let places : (z : SearchedHistory) → z.book.script ≡ script → IsNumbered z two.2.0 → length z.book.held ≡ tasks_of (root_count script) z.book.log =
-    λ z own n. subst (λ (s : ScriptView). length z.book.held ≡ tasks_of (root_count s) z.book.log) own n.places in
-    lead_alike script bs cs x y hx hy (same_facts x y two.2.0 nx ny) (places x hx.book_is nx) (places y hy.book_is ny)
+    let places : (z : SearchedHistory) → z.steps.book.script ≡ script → IsNumbered z two.2.0 → length z.steps.book.held ≡ tasks_of (root_count script) z.steps.book.log =
+    λ z own n. subst (λ (s : ScriptView). length z.steps.book.held ≡ tasks_of (root_count s) z.steps.book.log) own n.places in
+    lead_alike script bs cs x y hx hy (same_facts x y two.2.0 nx ny) (places x hx.followed.book_is nx) (places y hy.followed.book_is ny)
 
 -- outcomes of one key have the same endings and the same fields
 pub outcome_read : (a b : RunOutcome) → outcome_bytes a ≡ outcome_bytes b → (a.endings.items ≡ b.endings.items) × (map (λ rows. rows_of rows.items) a.fields.items ≡ map (λ rows. rows_of rows.items) b.fields.items)

@@ -40,7 +40,7 @@ use Rattle.swift_explorer.specs.SearchInside.{HasGoneOn, HasLike, IsExpanded, Is
 use Rattle.swift_explorer.proofs.Ended.{starts_at}
 use Rattle.swift_explorer.proofs.KnownEnds.{same_list}
 use Rattle.swift_explorer.proofs.Nodes.{paths_length}
-use Rattle.swift_explorer.proofs.Orderly.{allowed_push}
+use Rattle.swift_course.proofs.Blocks.{allowed_push}
 use Rattle.swift_explorer.proofs.Paths.{steps_push}
 
 -- fresh checkpoints are those that a run starts with
@@ -191,7 +191,7 @@ module _ (script : ScriptView) (x : Search) (hold : StartsHold script) (first : 
       let begins : LeadsTo script (path ++ step.Begin turn.task ∷ []) (h ++ b ∷ []) = record {
         steps = steps_push path 0 h (step.Begin turn.task) b leads.steps turn.does;
         stand = all_push script cps h [] b leads.stand may.stands;
-        orderly = allowed_push (IsOrderly script) h [] b leads.orderly may.orderly;
+        orderly = allowed_push (IsOrderly script) h b leads.orderly may.orderly;
       } in
       let was = turn.tried (h ++ b ∷ []) (ran e r) begins then_may (own ∙ turn.does) in
       let one = stepped_by (h ++ b ∷ []) (ran e r) was in

@@ -1,6 +1,6 @@
 -- Where each task has ended, a history has made a legal report.
 use Rattle.std.proofs.Common.{◌≡◌, ◌⊎◌, ◌<◌, ℕ, zero, suc, ◌+◌, List, [], ◌∷◌, ◌++◌, length, map, refl, sym, ap, ◌∙◌, ℤ, arith, inl, inr}
-use Rattle.std.specs.Prelude.{Option, Some, slice_get, unwrap_or}
+use Rattle.std.specs.Prelude.{Some, slice_get, unwrap_or}
 use Rattle.std.specs.List.{range_with_len}
 use Rattle.std.proofs.lemmas.List.{length-map}
 use Rattle.std.proofs.lemmas.Option.{none-some, slice_get-map}
@@ -13,14 +13,13 @@ use Rattle.swift_events.specs.Lives.{life_of}
 use Rattle.swift_journal.specs.Records.{RecordView}
 use Rattle.swift_journal.specs.Checkpoints.{CheckpointView}
 use Rattle.swift_history.specs.Histories.{Block, ReportView, records_of}
-use Rattle.swift_history.specs.TurnEnds.{WaitingTaskView}
 use Rattle.swift_course.specs.Course.{start_of, starts}
 use Rattle.swift_course.proofs.Starts.{many_starts}
-use Rattle.swift_explorer.specs.declared.waiting.Ready.{Ready}
-use Rattle.swift_history.specs.Orderly.{AllAllowed, IsOrderly, IsOrderlyLegal}
+use Rattle.swift_explorer.specs.declared.history.SearchedHistory.{SearchedHistory}
+use Rattle.swift_history.specs.Orderly.{IsOrderlyLegal}
 use Rattle.swift_explorer.specs.declared.moves.Move.{Move}
 use Rattle.swift_explorer.specs.Steps.{AreSteps}
-use Rattle.swift_explorer.specs.HistoryInside.{AreEnded, HaveClosed, IsLed}
+use Rattle.swift_explorer.specs.HistoryInside.{AreEnded, HaveClosed, IsHistory, rows_at}
 use Rattle.swift_explorer.proofs.First.{mapped, range_at, range_length}
 
 -- what stands at a place of a list with one more
@@ -81,27 +80,26 @@ report_of script bs log es fields = record {
   endings = es;
 }
 
-pub legal_is : (script : ScriptView) (bs : List Block) (log : List Event) (held : List (Option WaitingTaskView)) (tasks : List (Option Ready)) (fields : List (List (List ℤ))) (roots : ℕ) (es : List (Origin × Ending)) (ms : List Move)
-    → IsLed script bs log held tasks fields roots → AllAllowed (IsOrderly script) [] bs → AreSteps 0 ms bs
-    → roots ≡ root_count script → length es ≡ tasks_of (root_count script) log → AreEnded log es → HaveClosed log (length es)
-    → (l : IsOrderlyLegal script (report_of script bs log es fields)) × AreSteps 0 ms l.legal.blocks
-legal_is script bs log held tasks fields roots es ms f orderly steps all many are closed = (
+pub legal_is : (script : ScriptView) (bs : List Block) (x : SearchedHistory) (es : List (Origin × Ending)) (ms : List Move) → IsHistory script bs x → AreSteps 0 ms bs
+    → x.steps.roots ≡ root_count script → length es ≡ tasks_of (root_count script) x.steps.book.log → AreEnded x.steps.book.log es → HaveClosed x.steps.book.log (length es)
+    → (l : IsOrderlyLegal script (report_of script bs x.steps.book.log es (rows_at x))) × AreSteps 0 ms l.legal.blocks
+legal_is script bs x es ms h steps all many are closed = (
   record {
     legal = record {
       blocks = bs;
-      stand = f.stand;
-      roots = f.roots_are ∙ ap (range_with_len 0) all;
-      log = f.log_is;
-      executors = (length-map (range_with_len 0 (executor_count script)) (λ (k : ℕ). records_of k bs) ∙ range_length 0 (executor_count script), many_starts script, f.many);
+      stand = h.followed.led.stand;
+      roots = h.followed.led.roots_are ∙ ap (range_with_len 0) all;
+      log = h.followed.led.log_is;
+      executors = (length-map (range_with_len 0 (executor_count script)) (λ (k : ℕ). records_of k bs) ∙ range_length 0 (executor_count script), many_starts script, h.many);
       journals = journals_at script bs;
-      folded = λ e c at. ap (λ (x : CheckpointView). x.folded) (starts_at script e c at) ∙ sym (f.none_folded e);
+      folded = λ e c at. ap (λ (x : CheckpointView). x.folded) (starts_at script e c at) ∙ sym (h.none_folded e);
       start = λ e c at none. ap (λ (x : CheckpointView). x.fields) (starts_at script e c at);
-      fields = λ e rows at. f.fields_are e rows at;
+      fields = λ e rows at. h.followed.led.fields_are e rows at;
       tasks = many;
       endings = are;
       groups = closed;
     };
-    orderly = orderly;
+    orderly = h.orderly;
   },
   steps,
 )

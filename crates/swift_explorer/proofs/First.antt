@@ -1,15 +1,15 @@
 -- A history of which nothing was followed.
-use Rattle.std.proofs.Common.{Bool, false, ◌≡◌, ◌<◌, ◌≤◌, ℕ, zero, suc, ◌+◌, List, [], length, refl, sym, ap, ◌∙◌, ℤ, arith}
+use Rattle.std.proofs.Common.{Bool, false, ◌≡◌, ◌<◌, ◌≤◌, ℕ, zero, suc, ◌+◌, List, length, refl, sym, ap, ◌∙◌, ℤ, arith}
 use Rattle.std.specs.Prelude.{Option, Some, None, slice_get, slice_index_or, replicate}
 use Rattle.std.specs.Option.{option_map}
 use Rattle.std.specs.List.{range_with_len}
 use Rattle.std.proofs.lemmas.List.{length-map, length-replicate}
 use Rattle.std.proofs.lemmas.Option.{none-some, slice_get-map}
 use Rattle.swift_script.specs.Scripts.{ScriptView, executor_count, executor_start}
-use Rattle.swift_tasks.specs.Books.{BookView, empty_book}
+use Rattle.swift_course.specs.Course.{starts}
 use Rattle.swift_course.proofs.Starts.{start_fields}
-use Rattle.swift_explorer.specs.declared.waiting.Ready.{Ready}
-use Rattle.swift_explorer.specs.HistoryInside.{AreFirst, IsLed, given_at, given_view}
+use Rattle.swift_steps.specs.OpenHistories.{StartsFrom}
+use Rattle.swift_explorer.specs.HistoryInside.{AreFirst}
 
 pub range_length : (a n : ℕ) → length (range_with_len a n) ≡ n
 range_length a zero = refl
@@ -47,26 +47,20 @@ replicate_at zero e = refl
 replicate_at (suc n) zero = refl
 replicate_at (suc n) (suc e) = replicate_at n e
 
-pub first_led : (script : ScriptView) (fields : List (List (List ℤ))) (b : BookView) (tasks : List (Option Ready)) → tasks ≡ [] → AreFirst script fields → b ≡ empty_book script
-    → IsLed script [] b.log b.held tasks fields 0
-first_led script fields b tasks no_tasks first empty = record {
-  stand = tt;
-  none_folded = λ e. refl;
-  log_is = ap (λ (x : BookView). x.log) empty;
-  held_is = ap (λ (x : BookView). x.held) empty;
-  given = λ t. ap (λ (gs : List (Option Ready)). option_map (given_view t) (given_at gs t)) (sym no_tasks);
-  many = ap length first ∙ length-map (range_with_len 0 (executor_count script)) (executor_start script) ∙ range_length 0 (executor_count script);
-  fields_are = λ e rows at.
-      (let is = fields_first script fields e rows first at in
-      is.0 ∙ sym (start_fields script e is.1));
-  roots_are = refl;
-}
+-- each executor has the fields that it starts with
+pub first_fields : (script : ScriptView) (fields : List (List (List ℤ))) → AreFirst script fields → StartsFrom (starts script) fields
+first_fields script fields first e rows at =
+    let is = fields_first script fields e rows first at in
+    is.0 ∙ sym (start_fields script e is.1)
+
+pub first_many : (script : ScriptView) (fields : List (List (List ℤ))) → AreFirst script fields → length fields ≡ executor_count script
+first_many script fields first = ap length first ∙ length-map (range_with_len 0 (executor_count script)) (executor_start script) ∙ range_length 0 (executor_count script)
 
 pub none_used : (used : List Bool) (n : ℕ) → used ≡ replicate n false → (e : ℕ) → slice_index_or used e false ≡ false
 none_used used n is e = ap (λ (us : List Bool). slice_index_or us e false) is ∙ replicate_at n e
 
 pub few_used : (script : ScriptView) (used : List Bool) (fields : List (List (List ℤ))) (n : ℕ) → used ≡ replicate n false → n ≡ length fields → AreFirst script fields → length used ≤ executor_count script
 few_used script used fields n is many first =
-    let count = ap length first ∙ length-map (range_with_len 0 (executor_count script)) (executor_start script) ∙ range_length 0 (executor_count script) in
+    let count = first_many script fields first in
     let size : length used ≡ n = ap length is ∙ length-replicate n false in
     omega (arith, size, many, count)

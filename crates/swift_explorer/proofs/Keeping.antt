@@ -26,7 +26,7 @@ use Rattle.swift_explorer.proofs.Nodes.{on_push, path_here, paths_grow}
 
 -- what is followed leads to its blocks
 pub path_leads : (script : ScriptView) (path : List Move) (x : SearchedHistory) (p : IsPath script path x) → LeadsTo script path p.blocks
-path_leads script path x p = record { steps = p.steps; stand = p.is.led.stand; orderly = p.is.orderly }
+path_leads script path x p = record { steps = p.steps; stand = p.is.followed.led.stand; orderly = p.is.orderly }
 
 -- one that goes on alike was kept before
 pub keeps_known : (x : Search) (history : SearchedHistory) (key : List ℕ) → IsSound (arc_value x.script) x → IsKeyOf history key → list_any (bytes_eq key) x.keys ≡ true → Keeps x x history

@@ -2,7 +2,7 @@
 use Rattle.std.proofs.Common.{◌≡◌, ◌⊎◌, ◌↔◌, ◌<◌, ℕ, zero, suc, Bool, true, false, List, [], ◌∷◌, length, get_or, refl, sym, subst, ap, ◌∙◌, arith, inl, inr}
 use Rattle.std.specs.Prelude.{◌||◌, Contains, map, not}
 use Rattle.std.specs.List.{list_any}
-use Rattle.std.specs.Global.{Vec}
+use Rattle.swift_explorer.specs.declared.key_set.Key.{Key}
 use Rattle.std.specs.HashSet.{HashSet, PutsKey}
 use Rattle.std.specs.Str.{bytes_eq}
 use Rattle.std.proofs.lemmas.List.Folds.{Any-from_list_any, list_any_at}
@@ -10,12 +10,12 @@ use Rattle.std.proofs.lemmas.Slice.Eq.{bytes_eq-Decides}
 use Rattle.std.proofs.lemmas.List.Sorted.{Contains-permutation, IsPermutation-map, IsPermutation-sym}
 
 -- the bytes of these keys
-abbrev pub bytes_of : List (Vec ℕ) → List (List ℕ)
-bytes_of keys = map (λ v. v.items) keys
+abbrev pub bytes_of : List Key → List (List ℕ)
+bytes_of keys = map (λ v. v.bytes.items) keys
 
-pub any_bytes : (key : List ℕ) (keys : List (Vec ℕ)) → list_any (λ v. bytes_eq key v.items) keys ≡ list_any (bytes_eq key) (bytes_of keys)
+pub any_bytes : (key : List ℕ) (keys : List Key) → list_any (λ v. bytes_eq key v.bytes.items) keys ≡ list_any (bytes_eq key) (bytes_of keys)
 any_bytes key [] = refl
-any_bytes key (v ∷ keys) = ap (λ b. bytes_eq key v.items || b) (any_bytes key keys)
+any_bytes key (v ∷ keys) = ap (λ b. bytes_eq key v.bytes.items || b) (any_bytes key keys)
 
 pub among_there : (keys : List (List ℕ)) (key : List ℕ) → list_any (bytes_eq key) keys ≡ true → Contains keys key
 among_there keys key is =
@@ -32,16 +32,16 @@ by_place head x rest (suc k) low is = inl (k, omega arith, is)
 first_or_other : (head x : List ℕ) (rest : List (List ℕ)) → Contains (head ∷ rest) x → Contains rest x ⊎ (head ≡ x)
 first_or_other head x rest has = by_place head x rest has.0 has.1 has.2
 
-one_more : {S : Type 0} (s n : HashSet (Vec ℕ) S) (key : Vec ℕ) (added : Bool) → PutsKey s n key added → (k : List ℕ) → Contains (bytes_of n.keys) k → Contains (bytes_of s.keys) k ⊎ (key.items ≡ k)
+one_more : {S : Type 0} (s n : HashSet Key S) (key : Key) (added : Bool) → PutsKey s n key added → (k : List ℕ) → Contains (bytes_of n.keys) k → Contains (bytes_of s.keys) k ⊎ (key.bytes.items ≡ k)
 one_more s n key true put k has =
-    first_or_other key.items k (bytes_of s.keys)
+    first_or_other key.bytes.items k (bytes_of s.keys)
     (Contains-permutation (bytes_of n.keys) (bytes_of (key ∷ s.keys)) k
-    (IsPermutation-sym (bytes_of (key ∷ s.keys)) (bytes_of n.keys) (IsPermutation-map (λ (v : Vec ℕ). v.items) (key ∷ s.keys) n.keys put)) has)
+    (IsPermutation-sym (bytes_of (key ∷ s.keys)) (bytes_of n.keys) (IsPermutation-map (λ (v : Key). v.bytes.items) (key ∷ s.keys) n.keys put)) has)
 one_more s n key false put k has = inl (subst (λ keys. Contains (bytes_of keys) k) put has)
 
-still : {S : Type 0} (s n : HashSet (Vec ℕ) S) (key : Vec ℕ) (added : Bool) → PutsKey s n key added → (k : List ℕ) → Contains (bytes_of s.keys) k → Contains (bytes_of n.keys) k
+still : {S : Type 0} (s n : HashSet Key S) (key : Key) (added : Bool) → PutsKey s n key added → (k : List ℕ) → Contains (bytes_of s.keys) k → Contains (bytes_of n.keys) k
 still s n key true put k old =
-    Contains-permutation (bytes_of (key ∷ s.keys)) (bytes_of n.keys) k (IsPermutation-map (λ (v : Vec ℕ). v.items) (key ∷ s.keys) n.keys put)
+    Contains-permutation (bytes_of (key ∷ s.keys)) (bytes_of n.keys) k (IsPermutation-map (λ (v : Key). v.bytes.items) (key ∷ s.keys) n.keys put)
     (let within = old.1 in (suc old.0, omega arith, old.2))
 still s n key false put k old = subst (λ keys. Contains (bytes_of keys) k) (sym put) old
 
@@ -49,15 +49,15 @@ was : (b : Bool) → false ≡ not b → b ≡ true
 was true is = refl
 was false is = is
 
-there : {S : Type 0} (s n : HashSet (Vec ℕ) S) (key : Vec ℕ) (added : Bool) → PutsKey s n key added → added ≡ not (list_any (λ v. bytes_eq key.items v.items) s.keys) → Contains (bytes_of n.keys) key.items
+there : {S : Type 0} (s n : HashSet Key S) (key : Key) (added : Bool) → PutsKey s n key added → added ≡ not (list_any (λ v. bytes_eq key.bytes.items v.bytes.items) s.keys) → Contains (bytes_of n.keys) key.bytes.items
 there s n key true put is =
-    Contains-permutation (bytes_of (key ∷ s.keys)) (bytes_of n.keys) key.items (IsPermutation-map (λ (v : Vec ℕ). v.items) (key ∷ s.keys) n.keys put) (zero, omega arith, refl)
+    Contains-permutation (bytes_of (key ∷ s.keys)) (bytes_of n.keys) key.bytes.items (IsPermutation-map (λ (v : Key). v.bytes.items) (key ∷ s.keys) n.keys put) (zero, omega arith, refl)
 there s n key false put is =
-    subst (λ keys. Contains (bytes_of keys) key.items) (sym put) (among_there (bytes_of s.keys) key.items (sym (any_bytes key.items s.keys) ∙ was _ is))
+    subst (λ keys. Contains (bytes_of keys) key.bytes.items) (sym put) (among_there (bytes_of s.keys) key.bytes.items (sym (any_bytes key.bytes.items s.keys) ∙ was _ is))
 
 -- the keys are those of before and the one that was put in
-pub put_keys : {S : Type 0} (s n : HashSet (Vec ℕ) S) (key : Vec ℕ) (added : Bool) → PutsKey s n key added → added ≡ not (list_any (λ v. bytes_eq key.items v.items) s.keys)
-    → (k : List ℕ) → Contains (bytes_of n.keys) k ↔ (Contains (bytes_of s.keys) k ⊎ (key.items ≡ k))
+pub put_keys : {S : Type 0} (s n : HashSet Key S) (key : Key) (added : Bool) → PutsKey s n key added → added ≡ not (list_any (λ v. bytes_eq key.bytes.items v.bytes.items) s.keys)
+    → (k : List ℕ) → Contains (bytes_of n.keys) k ↔ (Contains (bytes_of s.keys) k ⊎ (key.bytes.items ≡ k))
 put_keys s n key added put is k = (
   one_more s n key added put k,
   λ has. elim has [

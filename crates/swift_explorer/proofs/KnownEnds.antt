@@ -1,5 +1,5 @@
 -- What a report says of the end of a history is what is known of it.
-use Rattle.std.proofs.Common.{◌≡◌, ◌<◌, ℕ, suc, List, [], ◌∷◌, length, refl, sym, subst, ap, ap₂, ◌∙◌, ℤ, arith, inl, inr}
+use Rattle.std.proofs.Common.{◌≡◌, ◌<◌, ℕ, suc, List, [], ◌∷◌, length, refl, sym, subst, ap, ap₂, ◌∙◌, arith, inl, inr}
 use Rattle.std.specs.Prelude.{None, Option, Some, slice_get, unwrap_or}
 use Rattle.std.proofs.lemmas.Option.{slice_get_cases}
 use Rattle.swift_types.specs.declared.outcome.Ending.{Ending}
@@ -10,12 +10,11 @@ use Rattle.swift_events.specs.declared.life.Origin.{Origin}
 use Rattle.swift_events.specs.Events.{tasks_of}
 use Rattle.swift_events.specs.Lives.{life_of}
 use Rattle.swift_history.specs.Histories.{Block, ReportView}
-use Rattle.swift_history.specs.TurnEnds.{WaitingTaskView}
 use Rattle.swift_course.specs.Course.{standing}
 use Rattle.swift_digest.proofs.Answers.{life_of_is, tasks_of_is}
-use Rattle.swift_explorer.specs.declared.waiting.Ready.{Ready}
+use Rattle.swift_explorer.specs.declared.history.SearchedHistory.{SearchedHistory}
 use Rattle.swift_explorer.specs.EndsInside.{IsEndedAs, IsReportAfter, SomeGoesOn}
-use Rattle.swift_explorer.specs.HistoryInside.{AreEnded, IsLed}
+use Rattle.swift_explorer.specs.HistoryInside.{AreEnded, IsHistory, rows_at}
 
 pub same_list : {A : Type 0} (xs ys : List A) → length xs ≡ length ys → ((i : ℕ) (x y : A) → slice_get xs i ≡ Some x → slice_get ys i ≡ Some y → x ≡ y) → xs ≡ ys
 same_list [] [] many same = refl
@@ -51,11 +50,11 @@ module _ (script : ScriptView) (bs : List Block) (log : List Event) (log_is : lo
       ]
 
   -- and where each has, it says so
-  pub reached : (held : List (Option WaitingTaskView)) (tasks : List (Option Ready)) (fields : List (List (List ℤ))) (roots : ℕ) (es : List (Origin × Ending)) → IsLed script bs log held tasks fields roots
-      → length es ≡ tasks_of (root_count script) log → AreEnded log es → (report.endings ≡ es) × (report.fields ≡ fields)
-  reached held tasks fields roots es led ended are = (
+  pub reached : (x : SearchedHistory) (es : List (Origin × Ending)) → IsHistory script bs x
+      → length es ≡ tasks_of (root_count script) log → AreEnded log es → (report.endings ≡ es) × (report.fields ≡ rows_at x)
+  reached x es h ended are = (
     same_list report.endings es (many ∙ sym ended) (λ t x y at also. one_end log t x y (says t x at) (are t y also)),
-    same_list report.fields fields (of.many ∙ sym led.many) (λ e f rows at also. of.outcome.fields e f at ∙ sym (led.fields_are e rows also)),
+    same_list report.fields (rows_at x) (of.many ∙ sym h.many) (λ e f rows at also. of.outcome.fields e f at ∙ sym (h.followed.led.fields_are e rows also)),
   )
 
 pub none_of : {A : Type 0} (o : Option A) → ((x : A) → o ≡ Some x → ⊥) → o ≡ None

@@ -1,12 +1,8 @@
 mod Copies
-mod Given
-mod Led
 mod Followed
 mod First
 mod Ended
 mod Orderly
-mod Rows
-mod Ran
 mod Used
 mod Past
 mod Paths
@@ -33,6 +29,7 @@ pub mod DigestCodes
 pub mod Within
 pub mod Steps
 pub mod CardSteps
+mod CardsNoted
 mod Marks
 mod LooksAway
 mod InvariantsOfActors

@@ -49,9 +49,9 @@ plans_push x moves more steps steps' m s one two are is k has = elim (Contains-p
 
 -- each block is what a planned step does
 
-planned : (x : SearchedHistory) (steps : List Step) (blocks : List Block) (b : Block) (m : Move) (s : Step) → IsHistory (arc_value x.script) blocks x → Contains steps s → IsPlanOf x m s → IsMoveOf m b → IsChosen (arc_value x.script) steps blocks b
+planned : (x : SearchedHistory) (steps : List Step) (blocks : List Block) (b : Block) (m : Move) (s : Step) → IsHistory (arc_value x.steps.script) blocks x → Contains steps s → IsPlanOf x m s → IsMoveOf m b → IsChosen (arc_value x.steps.script) steps blocks b
 planned x steps blocks b m (One k) h has plan does = inl (k, has, subst (λ (n : Move). IsMoveOf n b) (sym plan) does)
-planned x steps blocks b m (Turn t) h has plan does = inr (t, has, subst (λ (n : Move). IsMoveOf n b) plan.0 does, ap (job_looks_away (arc_value x.script)) (h.led.given t.0) ∙ plan.1)
+planned x steps blocks b m (Turn t) h has plan does = inr (t, has, subst (λ (n : Move). IsMoveOf n b) plan.0 does, ap (job_looks_away (arc_value x.steps.script)) (h.followed.led.given t.0) ∙ plan.1)
 
 pub each_step : (x : SearchedHistory) (moves : List Move) (steps : List Step) → HasEachMove x moves → ArePlansOf x moves steps → HasEachStep x steps
 each_step x moves steps each plans blocks b h unfolded stands orderly =

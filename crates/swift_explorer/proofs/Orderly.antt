@@ -1,5 +1,5 @@
 -- Steps that are in order.
-use Rattle.std.proofs.Common.{◌≡◌, ◌≢◌, ◌⊎◌, ◌<◌, ◌≤◌, true, false, ℕ, zero, suc, List, [], ◌∷◌, ◌++◌, length, append_assoc, append-nil, refl, sym, subst, ap, ◌∙◌, arith}
+use Rattle.std.proofs.Common.{◌≡◌, ◌≢◌, ◌⊎◌, ◌<◌, ◌≤◌, true, false, ℕ, zero, suc, List, [], ◌∷◌, length, refl, sym, subst, ap, ◌∙◌, arith}
 use Rattle.std.specs.Prelude.{Option, None, Some}
 use Rattle.std.specs.Option.{option_map}
 use Rattle.std.specs.Arc.{arc_value}
@@ -14,20 +14,17 @@ use Rattle.swift_history.specs.Checks.{is_begun}
 use Rattle.swift_history.specs.Histories.{Block, added, begun}
 use Rattle.swift_history.specs.TurnEnds.{JobFacts}
 use Rattle.swift_course.specs.Course.{standing}
-use Rattle.swift_history.specs.Orderly.{AllAllowed, IsOrderly, job_executor}
-use Rattle.swift_explorer.specs.declared.waiting.Ready.{Ready}
+use Rattle.swift_history.specs.Orderly.{IsOrderly, job_executor}
+use Rattle.swift_steps.specs.declared.next_turn.NextTurn.{NextTurn}
 use Rattle.swift_explorer.specs.declared.history.SearchedHistory.{SearchedHistory}
-use Rattle.swift_explorer.specs.HistoryInside.{AreGiven, AreThere, IsHistory, MayBegin, given_at, given_view, seat_if, seat_of}
+use Rattle.swift_steps.specs.NextTurns.{AreGiven, given_at, given_view, seat_if, seat_of}
+use Rattle.swift_explorer.specs.HistoryInside.{AreThere, IsHistory, MayBegin}
 
-pub allowed_push : (Allowed : List Block → Block → Type 0) (xs before : List Block) (b : Block) → AllAllowed Allowed before xs → Allowed (before ++ xs) b → AllAllowed Allowed before (xs ++ b ∷ [])
-allowed_push Allowed [] before b all is = (subst (λ (ys : List Block). Allowed ys b) (append-nil before) is, tt)
-allowed_push Allowed (x ∷ xs) before b all is = (all.0, allowed_push Allowed xs (before ++ x ∷ []) b all.1 (subst (λ (ys : List Block). Allowed ys b) (sym (append_assoc before (x ∷ []) xs)) is))
-
-seat_by : (script : ScriptView) (u : ℕ) (o : Option Ready) → seat_if script o ≡ job_executor script (option_map (given_view u) o)
+seat_by : (script : ScriptView) (u : ℕ) (o : Option NextTurn) → seat_if script o ≡ job_executor script (option_map (given_view u) o)
 seat_by script u None = refl
 seat_by script u (Some g) = refl
 
-pub seat_is : (script : ScriptView) (tasks : List (Option Ready)) (jobs : ℕ → Option JobFacts) (u : ℕ) → AreGiven jobs tasks → seat_of script tasks u ≡ job_executor script (jobs u)
+pub seat_is : (script : ScriptView) (tasks : List (Option NextTurn)) (jobs : ℕ → Option JobFacts) (u : ℕ) → AreGiven jobs tasks → seat_of script tasks u ≡ job_executor script (jobs u)
 seat_is script tasks jobs u given = seat_by script u (given_at tasks u) ∙ ap (job_executor script) (sym (given u))
 
 -- the first root that is missing may be added
@@ -35,23 +32,23 @@ pub add_orderly : (script : ScriptView) (blocks : List Block) (log : List Event)
 add_orderly script blocks log r is there = subst (AreThere r) is there
 
 -- a turn that may begin is in order
-pub begin_orderly : (blocks : List Block) (x : SearchedHistory) (t n : ℕ) (env : Env) → IsHistory (arc_value x.script) blocks x → MayBegin x t → IsOrderly (arc_value x.script) blocks (begun t n env)
+pub begin_orderly : (blocks : List Block) (x : SearchedHistory) (t n : ℕ) (env : Env) → IsHistory (arc_value x.steps.script) blocks x → MayBegin x t → IsOrderly (arc_value x.steps.script) blocks (begun t n env)
 begin_orderly blocks x t n env h may =
-    let script = arc_value x.script in
+    let script = arc_value x.steps.script in
     let s = standing script blocks in
-    let seat = λ (u : ℕ). seat_is script x.tasks.items s.jobs u h.led.given in (
-      subst (AreThere (root_count script)) h.led.log_is may.there,
-      λ u same. ap (λ (l : List Event). is_begun (life_of u l).stage) (sym h.led.log_is) ∙ may.free h.scripts u (seat u ∙ same ∙ sym (seat t)),
+    let seat = λ (u : ℕ). seat_is script x.steps.tasks.items s.jobs u h.followed.led.given in (
+      subst (AreThere (root_count script)) h.followed.led.log_is may.there,
+      λ u same. ap (λ (l : List Event). is_begun (life_of u l).stage) (sym h.followed.led.log_is) ∙ may.free h.followed.scripts u (seat u ∙ same ∙ sym (seat t)),
     )
 
 -- past the last task there is none
 
-given_past : (tasks : List (Option Ready)) (u : ℕ) → length tasks ≤ u → given_at tasks u ≡ None
+given_past : (tasks : List (Option NextTurn)) (u : ℕ) → length tasks ≤ u → given_at tasks u ≡ None
 given_past [] u le = refl
 given_past (x ∷ tasks) zero le = absurd (omega (arith, le))
 given_past (x ∷ tasks) (suc u) le = given_past tasks u (omega (arith, le))
 
-pub seat_past : (script : ScriptView) (tasks : List (Option Ready)) (u k : ℕ) → length tasks ≤ u → seat_of script tasks u ≡ Some k → ⊥
+pub seat_past : (script : ScriptView) (tasks : List (Option NextTurn)) (u k : ℕ) → length tasks ≤ u → seat_of script tasks u ≡ Some k → ⊥
 seat_past script tasks u k le is = none-some k (sym (ap (seat_if script) (given_past tasks u le)) ∙ is)
 
 -- whether a turn is under way

@@ -1,6 +1,7 @@
 -- Events that change no card of a task, or of a group.
 use Rattle.std.proofs.Common.{◌≡◌, ℕ, ◌+◌, ℤ, Bool, true, false, List, [], ◌++◌, refl, sym, ◌∙◌, ap, append-nil, add-zero, if◌then◌else◌}
 use Rattle.std.specs.Prelude.{◌==◌, ◌||◌, Option, Some, None}
+use Rattle.std.proofs.lemmas.Bool.{ne_eqb}
 use Rattle.std.specs.List.{cons_option}
 use Rattle.swift_events.specs.declared.event.Event.{Event}
 use Rattle.swift_events.specs.declared.event.Event.TheVariants.{Root, Begin, Apply, Free, Open, Child, Skip, CancelTask, CancelGroup, Wait, Next, Close, End, Give}
@@ -10,6 +11,9 @@ use Rattle.swift_digest.specs.Digests.{one_if}
 use Rattle.swift_explorer.specs.Numbers.{some_numbers}
 use Rattle.swift_explorer.specs.DigestNumbers.{other_of}
 use Rattle.swift_explorer.specs.CardsInside.{IsPast}
+
+pub unequal : (a b : ℕ) → (a ≡ b → ⊥) → (a == b) ≡ false
+unequal a b ne = ne_eqb a b ne
 
 none_if : {A : Type 0} (b : Bool) (x : A) → b ≡ false → (if b then Some x else None) ≡ None
 none_if true x is = cc

@@ -24,7 +24,7 @@ roots_push [] n m = refl
 roots_push (k ∷ ms) n m = roots_push ms (roots_after n k) m
 
 -- one more step
-pub path_push : (script : ScriptView) (path : List Move) (m : Move) (x y : SearchedHistory) (f : Followed) → arc_value x.script ≡ script → GoesOn m x y f → IsPath script path x → IsPath script (path ++ m ∷ []) y
+pub path_push : (script : ScriptView) (path : List Move) (m : Move) (x y : SearchedHistory) (f : Followed) → arc_value x.steps.script ≡ script → GoesOn m x y f → IsPath script path x → IsPath script (path ++ m ∷ []) y
 path_push script path m x y f own goes p =
     let more = goes p.blocks (subst (λ (s : ScriptView). IsHistory s p.blocks x) (sym own) p.is) in
     record {
@@ -35,21 +35,21 @@ path_push script path m x y f own goes p =
     }
 
 -- the last step is a turn that breaks an invariant
-pub path_breaks : (script : ScriptView) (path : List Move) (m : Move) (x y : SearchedHistory) (f : Followed) → arc_value x.script ≡ script → GoesOn m x y f → f ≡ Broken → IsPath script path x → IsBrokenAfter script (path ++ m ∷ [])
+pub path_breaks : (script : ScriptView) (path : List Move) (m : Move) (x y : SearchedHistory) (f : Followed) → arc_value x.steps.script ≡ script → GoesOn m x y f → f ≡ Broken → IsPath script path x → IsBrokenAfter script (path ++ m ∷ [])
 path_breaks script path m x y f own goes broken p =
     let more = goes p.blocks (subst (λ (s : ScriptView). IsHistory s p.blocks x) (sym own) p.is) in
     let h = subst (λ (s : ScriptView). IsHistory s (p.blocks ++ more.0 ∷ []) y) own more.2 in
     record {
       blocks = p.blocks;
       last = more.0;
-      stand = h.led.stand;
+      stand = h.followed.led.stand;
       orderly = h.orderly;
       steps = steps_push path 0 p.blocks m more.0 p.steps (subst (λ (n : ℕ). IsStep n m more.0) p.roots more.1);
       breaks = more.4 broken;
     }
 
 -- what was followed is some history
-pub path_some : (script : ScriptView) (path : List Move) (x : SearchedHistory) → arc_value x.script ≡ script → IsPath script path x → IsSomeHistory x
+pub path_some : (script : ScriptView) (path : List Move) (x : SearchedHistory) → arc_value x.steps.script ≡ script → IsPath script path x → IsSomeHistory x
 path_some script path x own p = (p.blocks, subst (λ (s : ScriptView). IsHistory s p.blocks x) (sym own) p.is)
 
 -- a step that was not refused was done
@@ -59,7 +59,7 @@ was_done No never = absurd (never refl)
 was_done Yes never = tt
 was_done Broken never = tt
 
-pub breaks_if : (r : Result Followed AllocError) (script : ScriptView) (path : List Move) (m : Move) (x y : SearchedHistory) → arc_value x.script ≡ script → IsPath script path x
+pub breaks_if : (r : Result Followed AllocError) (script : ScriptView) (path : List Move) (m : Move) (x y : SearchedHistory) → arc_value x.steps.script ≡ script → IsPath script path x
     → IfOk r (λ f. WasDone f → GoesOn m x y f) → IfOk r (λ f. f ≡ Broken → IsBrokenAfter script (path ++ m ∷ []))
 breaks_if (Ok f) script path m x y own p goes = λ is. path_breaks script path m x y f own (goes (subst WasDone (sym is) tt)) is p
 breaks_if (Err e) script path m x y own p goes = tt

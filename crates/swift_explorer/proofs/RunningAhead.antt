@@ -38,11 +38,13 @@ use Rattle.swift_explorer.specs.declared.ahead.TurnAhead.{TurnAhead}
 use Rattle.swift_explorer.specs.declared.ahead.TurnAhead.TheVariants.{Lost, Ran, Stays}
 use Rattle.swift_explorer.specs.declared.moves.Move.{Move}
 use Rattle.swift_explorer.specs.declared.moves.Move.TheVariants as step
-use Rattle.swift_explorer.specs.declared.waiting.Ready.{Ready}
+use Rattle.swift_steps.specs.declared.next_turn.NextTurn.{NextTurn}
 use Rattle.swift_explorer.specs.declared.history.SearchedHistory.{SearchedHistory}
 use Rattle.swift_explorer.specs.declared.history.Followed.{Followed}
 use Rattle.swift_explorer.specs.AheadInside.{AllWhole, AreTurns, GoesAlone, GoesOnAtOnce, IsAsBefore, IsNotLost, IsQuietAt, RanAhead, RanTurn, RunsAhead, RunsTurn, StartsHold, TurnGoesOn, any_env}
-use Rattle.swift_explorer.specs.HistoryInside.{GoesOn, IsHistory, IsPath, IsSomeHistory, JobRunsAt, given_at, given_view}
+use Rattle.swift_steps.specs.NextTurns.{given_at, given_view}
+use Rattle.swift_steps.specs.OpenHistories.{RunsAt}
+use Rattle.swift_explorer.specs.HistoryInside.{GoesOn, IsHistory, IsPath, IsSomeHistory}
 use Rattle.swift_explorer.specs.SearchInside.{IsFollowedAhead, IsFollowedBy}
 use Rattle.swift_explorer.specs.Steps.{AreSteps, BreaksInvariant, IsStep, roots_over}
 use Rattle.swift_explorer.proofs.First.{mapped}
@@ -76,12 +78,12 @@ if_first : (fs callers : List FrameView) (p : FrameView) (P : FrameView → Type
 if_first fs callers p P is holds = subst (λ (gs : List FrameView). IfRunning gs P) is holds
 
 -- a turn has begun and run: it is silent, and goes on alone, or ends its task unseen
-module _ (blocks : List Block) (x w z : SearchedHistory) (t : TaskId) (place : ℕ) (hold : StartsHold (arc_value x.script)) (h : IsHistory (arc_value x.script) blocks x) (quiet : IsQuietAt x t) (at_place : JobRunsAt (arc_value x.script) x.tasks.items t place)
+module _ (blocks : List Block) (x w z : SearchedHistory) (t : TaskId) (place : ℕ) (hold : StartsHold (arc_value x.steps.script)) (h : IsHistory (arc_value x.steps.script) blocks x) (quiet : IsQuietAt x t) (at_place : RunsAt (arc_value x.steps.script) x.steps.tasks.items t place)
     (alone : GoesAlone x t place) (n : ℕ) (env : Env) (e : ℕ) (r : RecordView) (task_is : r.task ≡ t.0)
-    (mid : IsHistory (arc_value x.script) (blocks ++ begun t.0 n env ∷ []) w) (is : IsHistory (arc_value x.script) ((blocks ++ begun t.0 n env ∷ []) ++ ran e r ∷ []) z)
-    (same : z.roots ≡ x.roots) where
+    (mid : IsHistory (arc_value x.steps.script) (blocks ++ begun t.0 n env ∷ []) w) (is : IsHistory (arc_value x.steps.script) ((blocks ++ begun t.0 n env ∷ []) ++ ran e r ∷ []) z)
+    (same : z.steps.roots ≡ x.steps.roots) where
   abbrev script : ScriptView
-  script = arc_value x.script
+  script = arc_value x.steps.script
 
   abbrev cps : List CheckpointView
   cps = starts script
@@ -96,13 +98,13 @@ module _ (blocks : List Block) (x w z : SearchedHistory) (t : TaskId) (place : �
   front = blocks ++ b ∷ []
 
   begins : Stands script cps blocks b
-  begins = parted script cps blocks [] b mid.led.stand
+  begins = parted script cps blocks [] b mid.followed.led.stand
 
   orderly : IsOrderly script blocks b
   orderly = allowed_last (IsOrderly script) blocks [] b mid.orderly
 
   runs : Stands script cps front (ran e r)
-  runs = parted script cps front [] (ran e r) is.led.stand
+  runs = parted script cps front [] (ran e r) is.followed.led.stand
 
   to_mid : standing script front ≡ after_block script s b
   to_mid = after_push script (at_first script) blocks b
@@ -110,14 +112,14 @@ module _ (blocks : List Block) (x w z : SearchedHistory) (t : TaskId) (place : �
   jobs : s.jobs t.0 ≡ Some runs.job
   jobs = ap (λ (a : Standing). a.jobs t.0) (sym to_mid) ∙ ap (standing script front).jobs (sym task_is) ∙ runs.stands.given
 
-  one : (g : Ready) × (given_at x.tasks.items t.0 ≡ Some g) × (given_view t.0 g ≡ runs.job)
-  one = mapped (given_view t.0) (given_at x.tasks.items t.0) runs.job (sym (h.led.given t.0) ∙ jobs)
+  one : (g : NextTurn) × (given_at x.steps.tasks.items t.0 ≡ Some g) × (given_view t.0 g ≡ runs.job)
+  one = mapped (given_view t.0) (given_at x.steps.tasks.items t.0) runs.job (sym (h.followed.led.given t.0) ∙ jobs)
 
   frames : one.0.body.task.frames ≡ r.frame ∷ runs.stands.runs.0
   frames = ap (λ (j : JobFacts). j.frames.frames) one.2 ∙ runs.stands.runs.1
 
   own : one.0.body.script ≡ script
-  own = (h.scripts t.0 one.0 one.1).script_is
+  own = (h.followed.scripts t.0 one.0 one.1).script_is
 
   seat : e ≡ place
   seat = sym runs.stands.on ∙ ap (λ (sc : ScriptView). actor_executor script (method_actor sc r.frame.method)) (sym own)
@@ -130,13 +132,13 @@ module _ (blocks : List Block) (x w z : SearchedHistory) (t : TaskId) (place : �
   rows = alone.0
 
   same_rows : fields_of script cps e front ≡ rows
-  same_rows = fields_push script cps e blocks b ∙ ap (λ (k : ℕ). fields_of script cps k blocks) seat ∙ sym (h.led.fields_are place rows alone.1)
+  same_rows = fields_push script cps e blocks b ∙ ap (λ (k : ℕ). fields_of script cps k blocks) seat ∙ sym (h.followed.led.fields_are place rows alone.1)
 
   abbrev f : List (List ℤ)
   f = fields_of script cps e front
 
   holds : all_hold (invariants_at script r.frame) f ≡ true
-  holds = ap (λ (k : ℕ). all_hold (executor_invariants script k) f) runs.stands.on ∙ hold_always script cps e (hold e) front mid.led.stand
+  holds = ap (λ (k : ℕ). all_hold (executor_invariants script k) f) runs.stands.on ∙ hold_always script cps e (hold e) front mid.followed.led.stand
 
   exit_is : r.exit ≡ (kept_turn one.0.body.script r.frame one.0.body.task.outer rows one.0.resume any_env).exit
   exit_is =
@@ -180,9 +182,9 @@ module _ (blocks : List Block) (x w z : SearchedHistory) (t : TaskId) (place : �
         quiet = still;
         alone = goes.0;
         unnamed = goes.1;
-        apart = λ is. always_apart script cps t.0 (goes.1 is) blocks [] h.led.stand (all_plain blocks h.led.none_folded) (apart_first t.0);
+        apart = λ is. always_apart script cps t.0 (goes.1 is) blocks [] h.followed.led.stand (all_plain blocks h.none_folded) (apart_first t.0);
       };
-      away = ap (job_looks_away script) (h.led.given t.0) ∙ quiet.away;
+      away = ap (job_looks_away script) (h.followed.led.given t.0) ∙ quiet.away;
     };
     is = is;
     task_is = refl;
@@ -192,22 +194,22 @@ module _ (blocks : List Block) (x w z : SearchedHistory) (t : TaskId) (place : �
   }
 
 -- where it was followed step by step
-pub runs_turn : (x y w z : SearchedHistory) (t : TaskId) (place : ℕ) (f g : Followed) → StartsHold (arc_value x.script) → IsQuietAt x t → JobRunsAt (arc_value x.script) x.tasks.items t place → GoesAlone x t place → IsAsBefore x y
-    → w.script ≡ y.script → GoesOn (step.Begin t) y w f → z.script ≡ w.script → GoesOn (step.Run t) w z g → RunsTurn x z t
+pub runs_turn : (x y w z : SearchedHistory) (t : TaskId) (place : ℕ) (f g : Followed) → StartsHold (arc_value x.steps.script) → IsQuietAt x t → RunsAt (arc_value x.steps.script) x.steps.tasks.items t place → GoesAlone x t place → IsAsBefore x y
+    → w.steps.script ≡ y.steps.script → GoesOn (step.Begin t) y w f → z.steps.script ≡ w.steps.script → GoesOn (step.Run t) w z g → RunsTurn x z t
 runs_turn x y w z t place f g hold quiet at_place alone before same_w goes same_z runs =
-    let script = arc_value x.script in
-    let own_y : arc_value y.script ≡ script = ap arc_value before.script_is in
-    let own_w : arc_value w.script ≡ script = ap arc_value same_w ∙ own_y in
+    let script = arc_value x.steps.script in
+    let own_y : arc_value y.steps.script ≡ script = ap arc_value before.script_is in
+    let own_w : arc_value w.steps.script ≡ script = ap arc_value same_w ∙ own_y in
     record {
       script_is = same_z ∙ same_w ∙ before.script_is;
       ran = λ blocks h.
           (let h_y = subst (λ (s : ScriptView). IsHistory s blocks y) (sym own_y) (before.is blocks h) in
           let one = goes blocks h_y in
-          let b = begin_block t y.roots one.0 one.1 in
+          let b = begin_block t y.steps.roots one.0 one.1 in
           let c : Block = begun t.0 b.0 b.1 in
           let mid : IsHistory script (blocks ++ c ∷ []) w = subst (λ (k : Block). IsHistory script (blocks ++ k ∷ []) w) b.2 (subst (λ (s : ScriptView). IsHistory s (blocks ++ one.0 ∷ []) w) own_y one.2) in
           let two = runs (blocks ++ c ∷ []) (subst (λ (s : ScriptView). IsHistory s (blocks ++ c ∷ []) w) (sym own_w) mid) in
-          let d = run_block t w.roots two.0 two.1 in
+          let d = run_block t w.steps.roots two.0 two.1 in
           let last : IsHistory script ((blocks ++ c ∷ []) ++ ran d.0 d.1 ∷ []) z =
           subst (λ (k : Block). IsHistory script ((blocks ++ c ∷ []) ++ k ∷ []) z) d.3 (subst (λ (s : ScriptView). IsHistory s ((blocks ++ c ∷ []) ++ two.0 ∷ []) z) own_w two.2) in
           ran_silently blocks x w z t place hold h quiet at_place alone b.0 b.1 d.0 d.1 d.2 mid last (two.3 ∙ one.3 ∙ before.roots));
@@ -241,7 +243,7 @@ ahead_stays x y z ms ns ahead same = record {
   script_is = same.script_is ∙ ahead.script_is;
   ran = λ blocks h.
       (let a = ahead.ran blocks h in
-      let own : arc_value y.script ≡ arc_value x.script = ap arc_value ahead.script_is in
+      let own : arc_value y.steps.script ≡ arc_value x.steps.script = ap arc_value ahead.script_is in
       record { turns = a.turns; run = a.run; is = subst (λ (s : ScriptView). IsHistory s (after_turns blocks a.turns) z) own (same.is (after_turns blocks a.turns) (subst (λ (s : ScriptView). IsHistory s (after_turns blocks a.turns) y) (sym own) a.is)); steps = a.steps; whole = a.whole; roots = same.roots ∙ a.roots });
 }
 
@@ -255,9 +257,9 @@ ahead_push x y z ms ns more t ahead turn pushed =
       script_is = turn.script_is ∙ ahead.script_is;
       ran = λ blocks h.
           (let a = ahead.ran blocks h in
-          let script = arc_value x.script in
+          let script = arc_value x.steps.script in
           let far : List Block = after_turns blocks a.turns in
-          let own : arc_value y.script ≡ script = ap arc_value ahead.script_is in
+          let own : arc_value y.steps.script ≡ script = ap arc_value ahead.script_is in
           let r : RanTurn script far y z t = subst (λ (s : ScriptView). RanTurn s far y z t) own (turn.ran far (subst (λ (s : ScriptView). IsHistory s far y) (sym own) a.is)) in
           record {
             turns = a.turns ++ r.turn ∷ [];
@@ -305,7 +307,7 @@ roots_more (step.Begin u ∷ step.Add ∷ ms) xs path n are = absurd are
 roots_more (step.Begin u ∷ step.Begin v ∷ ms) xs path n are = absurd are
 
 -- the roots that were added are told by the blocks
-pub path_ahead : (script : ScriptView) (path : List Move) (x y : SearchedHistory) (ms ns : List Move) → arc_value x.script ≡ script → IsPath script path x → (ahead : RunsAhead x y ms ns) → IsPath script (path ++ ahead.moves) y
+pub path_ahead : (script : ScriptView) (path : List Move) (x y : SearchedHistory) (ms ns : List Move) → arc_value x.steps.script ≡ script → IsPath script path x → (ahead : RunsAhead x y ms ns) → IsPath script (path ++ ahead.moves) y
 path_ahead script path x y ms ns own p ahead =
     let a : RanAhead script p.blocks x y ahead.moves = subst (λ (s : ScriptView). RanAhead s p.blocks x y ahead.moves) own (ahead.ran p.blocks (subst (λ (s : ScriptView). IsHistory s p.blocks x) (sym own) p.is)) in
     record {
@@ -319,7 +321,7 @@ path_ahead script path x y ms ns own p ahead =
 pub followed_ahead : (script : ScriptView) (path : List Move) (m : Move) (y z : SearchedHistory) (done : Followed) (before after : List Move) → IsFollowedBy script path m y done → IsPath script (path ++ m ∷ []) y → RunsAhead y z before after
     → IsFollowedAhead script path m z done before after
 followed_ahead script path m y z done before after f p ahead =
-    let own : arc_value y.script ≡ script = f.is.script_is in
+    let own : arc_value y.steps.script ≡ script = f.is.followed.script_is in
     let here : List Block = f.blocks ++ f.last ∷ [] in
     let a : RanAhead script here y z ahead.moves = subst (λ (s : ScriptView). RanAhead s here y z ahead.moves) own (ahead.ran here (subst (λ (s : ScriptView). IsHistory s here y) (sym own) f.is)) in
     record {
@@ -361,9 +363,9 @@ ahead_on x y z ms ns more one two = record {
   script_is = two.script_is ∙ one.script_is;
   ran = λ blocks h.
       (let a = one.ran blocks h in
-      let script = arc_value x.script in
+      let script = arc_value x.steps.script in
       let far : List Block = after_turns blocks a.turns in
-      let own : arc_value y.script ≡ script = ap arc_value one.script_is in
+      let own : arc_value y.steps.script ≡ script = ap arc_value one.script_is in
       let b : RanAhead script far y z two.moves = subst (λ (s : ScriptView). RanAhead s far y z two.moves) own (two.ran far (subst (λ (s : ScriptView). IsHistory s far y) (sym own) a.is)) in
       record {
         turns = a.turns ++ b.turns;

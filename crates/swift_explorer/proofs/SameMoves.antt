@@ -24,7 +24,7 @@ use Rattle.swift_explorer.specs.declared.moves.Move.{Move}
 use Rattle.swift_explorer.specs.declared.moves.Move.TheVariants as step
 use Rattle.swift_explorer.specs.Steps.{AreSteps, BreaksInvariant, IsBroken, IsStep, roots_after}
 use Rattle.swift_explorer.specs.HistoryInside.{AreThere, IsMoveOf}
-use Rattle.swift_explorer.proofs.Led.{first_of_both}
+use Rattle.swift_steps.proofs.Led.{first_of_both}
 use Rattle.swift_explorer.proofs.Orderly.{before_or_past}
 
 -- the block that a step does, whichever root it adds

@@ -14,17 +14,18 @@ use Rattle.swift_turn.specs.declared.step.Step.{Step}
 use Rattle.swift_turn.specs.Body.{Advanced, AdvancesTo, HasFrames, IfRunning, Polls, TaskView, callers_of, entered, left}
 use Rattle.swift_history.specs.TurnEnds.{JobFacts}
 use Rattle.swift_reordering.specs.Unnamed.{IsUnnamed}
-use Rattle.swift_explorer.specs.declared.waiting.Ready.{Ready}
+use Rattle.swift_steps.specs.declared.next_turn.NextTurn.{NextTurn}
 use Rattle.swift_explorer.specs.declared.history.SearchedHistory.{SearchedHistory}
 use Rattle.std.specs.Arc.{arc_value}
 use Rattle.swift_explorer.specs.declared.moves.Move.{Move}
 use Rattle.swift_explorer.specs.declared.history.Followed.{Followed}
 use Rattle.swift_explorer.specs.AheadInside.{GoesOnAtOnce, IsAsBefore, TurnGoesOn, any_env}
-use Rattle.swift_explorer.specs.HistoryInside.{AreGiven, GoesOn, IsHistory, IsReadyOf, IsSomeHistory, given_at, given_view, with_given}
+use Rattle.swift_steps.specs.NextTurns.{AreGiven, IsReadyOf, given_at, given_view, with_given}
+use Rattle.swift_explorer.specs.HistoryInside.{GoesOn, IsHistory, IsSomeHistory}
 use Rattle.swift_explorer.specs.Steps.{BreaksInvariant}
-use Rattle.swift_explorer.proofs.Given.{equal, of_put, of_taken, unequal}
+use Rattle.swift_steps.proofs.Given.{equal, of_put, of_taken, unequal}
 
-given_near : (seen : ℕ → Option JobFacts) (tasks between tasks' : List (Option Ready)) (t : ℕ) (g k : Ready) → given_at tasks t ≡ Some g → ((u : ℕ) → given_at between u ≡ with_given t None (given_at tasks) u)
+given_near : (seen : ℕ → Option JobFacts) (tasks between tasks' : List (Option NextTurn)) (t : ℕ) (g k : NextTurn) → given_at tasks t ≡ Some g → ((u : ℕ) → given_at between u ≡ with_given t None (given_at tasks) u)
     → ((u : ℕ) → given_at tasks' u ≡ with_given t (Some k) (given_at between) u) → given_view t g ≡ given_view t k → AreGiven seen tasks → AreGiven seen tasks'
 given_near seen tasks between tasks' t g k was took put same given u = elim (cases_eq u t) [
   | inl e ↦
@@ -37,28 +38,30 @@ given_near seen tasks between tasks' t g k was took put same given u = elim (cas
       given u ∙ ap (option_map (given_view u)) (sym here)
 ]
 
-pub as_before : (x : SearchedHistory) (between : List (Option Ready)) (tasks : Vec (Option Ready) Global) (t : ℕ) (g k : Ready) → given_at x.tasks.items t ≡ Some g → ((u : ℕ) → given_at between u ≡ with_given t None (given_at x.tasks.items) u)
-    → ((u : ℕ) → given_at tasks.items u ≡ with_given t (Some k) (given_at between) u) → given_view t g ≡ given_view t k → ((script : ScriptView) → IsReadyOf script g → IsReadyOf script k) → IsAsBefore x (record x { tasks = tasks })
+pub as_before : (x : SearchedHistory) (between : List (Option NextTurn)) (tasks : Vec (Option NextTurn) Global) (t : ℕ) (g k : NextTurn) → given_at x.steps.tasks.items t ≡ Some g → ((u : ℕ) → given_at between u ≡ with_given t None (given_at x.steps.tasks.items) u)
+    → ((u : ℕ) → given_at tasks.items u ≡ with_given t (Some k) (given_at between) u) → given_view t g ≡ given_view t k → ((script : ScriptView) → IsReadyOf script g → IsReadyOf script k) → IsAsBefore x (record x { steps = record x.steps { tasks = tasks } })
 as_before x between tasks t g k was took put same ready = record {
   script_is = refl;
   roots = refl;
   is = λ blocks h. record {
     orderly = h.orderly;
-    script_is = h.script_is;
-    book_is = h.book_is;
-    none = h.none;
-    scripts = of_put _ between tasks.items t k (of_taken _ x.tasks.items between t h.scripts took) put (ready _ (h.scripts t g was));
+    none_folded = h.none_folded;
+    many = h.many;
     used = h.used;
     short = h.short;
-    led = record {
-      stand = h.led.stand;
-      none_folded = h.led.none_folded;
-      log_is = h.led.log_is;
-      held_is = h.led.held_is;
-      given = given_near _ x.tasks.items between tasks.items t g k was took put same h.led.given;
-      many = h.led.many;
-      fields_are = h.led.fields_are;
-      roots_are = h.led.roots_are;
+    followed = record {
+      script_is = h.followed.script_is;
+      book_is = h.followed.book_is;
+      none = h.followed.none;
+      scripts = of_put _ between tasks.items t k (of_taken _ x.steps.tasks.items between t h.followed.scripts took) put (ready _ (h.followed.scripts t g was));
+      led = record {
+        stand = h.followed.led.stand;
+        log_is = h.followed.led.log_is;
+        held_is = h.followed.led.held_is;
+        given = given_near _ x.steps.tasks.items between tasks.items t g k was took put same h.followed.led.given;
+        fields_are = h.followed.led.fields_are;
+        roots_are = h.followed.led.roots_are;
+      };
     };
   };
 }
@@ -104,5 +107,5 @@ fails_on script t (q ∷ callers) f has whole = (refl, λ is. absurd (false≢tr
 pub before_some : (x y : SearchedHistory) → IsAsBefore x y → IsSomeHistory x → IsSomeHistory y
 before_some x y before some = (some.0, subst (λ (s : ScriptView). IsHistory s some.0 y) (sym (ap arc_value before.script_is)) (before.is some.0 some.1))
 
-pub goes_some : (m : Move) (x y : SearchedHistory) (f : Followed) → y.script ≡ x.script → GoesOn m x y f → IsSomeHistory x → IsSomeHistory y
+pub goes_some : (m : Move) (x y : SearchedHistory) (f : Followed) → y.steps.script ≡ x.steps.script → GoesOn m x y f → IsSomeHistory x → IsSomeHistory y
 goes_some m x y f same goes some = (let one = goes some.0 some.1 in (some.0 ++ one.0 ∷ [], subst (λ (s : ScriptView). IsHistory s (some.0 ++ one.0 ∷ []) y) (sym (ap arc_value same)) one.2))

@@ -140,16 +140,16 @@ not_folded step.Add (folded e f) does = does
 not_folded (step.Begin t) (folded e f) does = does
 not_folded (step.Run t) (folded e f) does = does
 
-pub followed_by : (script : ScriptView) (path : List Move) (m : Move) (x y : SearchedHistory) (done : Followed) → arc_value x.script ≡ script → GoesOn m x y done → IsPath script path x → IsFollowedBy script path m y done
+pub followed_by : (script : ScriptView) (path : List Move) (m : Move) (x y : SearchedHistory) (done : Followed) → arc_value x.steps.script ≡ script → GoesOn m x y done → IsPath script path x → IsFollowedBy script path m y done
 followed_by script path m x y done own goes p =
     let more = goes p.blocks (subst (λ (s : ScriptView). IsHistory s p.blocks x) (sym own) p.is) in
     let h = subst (λ (s : ScriptView). IsHistory s (p.blocks ++ more.0 ∷ []) y) own more.2 in
-    let does = move_of_step x.roots m more.0 more.1 in
+    let does = move_of_step x.steps.roots m more.0 more.1 in
     record {
       blocks = p.blocks;
       last = more.0;
       leads = path_leads script path x p;
-      follows = record { unfolded = not_folded m more.0 does; stands = parted script (starts script) p.blocks [] more.0 h.led.stand; orderly = allowed_last (IsOrderly script) p.blocks [] more.0 h.orderly };
+      follows = record { unfolded = not_folded m more.0 does; stands = parted script (starts script) p.blocks [] more.0 h.followed.led.stand; orderly = allowed_last (IsOrderly script) p.blocks [] more.0 h.orderly };
       does = does;
       is = h;
       whole = more.5;
@@ -158,11 +158,11 @@ followed_by script path m x y done own goes p =
 -- what comes after a path
 
 -- as many tasks as the book has, and the room that turns may need
-many_tasks : (x : SearchedHistory) (script : ScriptView) (blocks : List Block) → arc_value x.script ≡ script → IsHistory script blocks x
-    → tasks_of (root_count x.book.script) x.book.log + MADE * (executor_count (arc_value x.script) + 1) ≡ tasks_of (root_count script) (standing script blocks).log + MADE * (executor_count script + 1)
+many_tasks : (x : SearchedHistory) (script : ScriptView) (blocks : List Block) → arc_value x.steps.script ≡ script → IsHistory script blocks x
+    → tasks_of (root_count x.steps.book.script) x.steps.book.log + MADE * (executor_count (arc_value x.steps.script) + 1) ≡ tasks_of (root_count script) (standing script blocks).log + MADE * (executor_count script + 1)
 many_tasks x script blocks own h =
-    ap (λ (s : ScriptView). tasks_of (root_count s) x.book.log + MADE * (executor_count (arc_value x.script) + 1)) h.book_is
-    ∙ ap (λ (l : List Event). tasks_of (root_count script) l + MADE * (executor_count (arc_value x.script) + 1)) h.led.log_is
+    ap (λ (s : ScriptView). tasks_of (root_count s) x.steps.book.log + MADE * (executor_count (arc_value x.steps.script) + 1)) h.followed.book_is
+    ∙ ap (λ (l : List Event). tasks_of (root_count script) l + MADE * (executor_count (arc_value x.steps.script) + 1)) h.followed.led.log_is
     ∙ ap (λ (s : ScriptView). tasks_of (root_count script) (standing script blocks).log + MADE * (executor_count s + 1)) own
 
 few_too : (n m k : ℕ) → n ≡ m → n ≤ k → m ≤ k
@@ -171,21 +171,21 @@ few_too n m k same few = omega (arith, same, few)
 over : (n m k : ℕ) → n ≡ m → (n ≤ k → ⊥) → k < m
 over n m k same never = elim (before_or_past k m) [ inl lt ↦ lt | inr le ↦ absurd (never (few_too m n k (sym same) le)) ]
 
-pub ahead_is : (script : ScriptView) (path : List Move) (a : Ahead) (x : SearchedHistory) → arc_value x.script ≡ script → IsPath script path x → HasEachStep x a.steps.items → IfReached (IsOutcomeOf script) a.end
-    → ((blocks : List Block) → IsHistory (arc_value x.script) blocks x → IsKnownEnd (arc_value x.script) blocks a.end) → (IsTrue a.has_room ↔ IsRoomy x) → IsAhead script path a
+pub ahead_is : (script : ScriptView) (path : List Move) (a : Ahead) (x : SearchedHistory) → arc_value x.steps.script ≡ script → IsPath script path x → HasEachStep x a.steps.items → IfReached (IsOutcomeOf script) a.end
+    → ((blocks : List Block) → IsHistory (arc_value x.steps.script) blocks x → IsKnownEnd (arc_value x.steps.script) blocks a.end) → (IsTrue a.has_room ↔ IsRoomy x) → IsAhead script path a
 ahead_is script path a x own p each outcome ends room =
-    let h : IsHistory (arc_value x.script) p.blocks x = subst (λ (s : ScriptView). IsHistory s p.blocks x) (sym own) p.is in
+    let h : IsHistory (arc_value x.steps.script) p.blocks x = subst (λ (s : ScriptView). IsHistory s p.blocks x) (sym own) p.is in
     let many = many_tasks x script p.blocks own p.is in
     record {
       blocks = p.blocks;
       leads = path_leads script path x p;
       each = λ b may.
-          (let there : MayFollow (arc_value x.script) p.blocks b = subst (λ (s : ScriptView). MayFollow s p.blocks b) (sym own) may in
+          (let there : MayFollow (arc_value x.steps.script) p.blocks b = subst (λ (s : ScriptView). MayFollow s p.blocks b) (sym own) may in
           subst (λ (s : ScriptView). IsChosen s a.steps.items p.blocks b) own (each p.blocks b h there.unfolded there.stands there.orderly));
       outcome = outcome;
       ends = subst (λ (s : ScriptView). IsKnownEnd s p.blocks a.end) own (ends p.blocks h);
       room = λ is. few_too _ _ TASKS many (room.0 is);
-      short = λ none. record { blocks = p.blocks; stand = p.is.led.stand; orderly = p.is.orderly; many = over _ _ TASKS many (λ few. false≢true (sym none ∙ room.1 few)) };
+      short = λ none. record { blocks = p.blocks; stand = p.is.followed.led.stand; orderly = p.is.orderly; many = over _ _ TASKS many (λ few. false≢true (sym none ∙ room.1 few)) };
     }
 
 report_too : (script : ScriptView) (blocks others : List Block) (report : ReportView) → LeadAlike script (starts script) blocks others → IsReportAfter script blocks report → IsReportAfter script others report

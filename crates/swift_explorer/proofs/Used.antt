@@ -7,7 +7,7 @@ use Rattle.swift_journal.specs.Records.{RecordView}
 use Rattle.swift_history.specs.Histories.{Block, ran, record_in, records_of}
 use Rattle.swift_course.proofs.Blocks.{filter_none, filter_some}
 use Rattle.swift_explorer.specs.HistoryInside.{has_records}
-use Rattle.swift_explorer.proofs.Given.{equal, unequal}
+use Rattle.swift_steps.proofs.Given.{equal, unequal}
 
 abbrev pub AreUsed : List Bool → List Block → Type 0
 AreUsed used blocks = (e : ℕ) → slice_index_or used e false ≡ has_records (records_of e blocks)

@@ -18,10 +18,11 @@ use Rattle.swift_explorer.specs.declared.ahead.TurnAhead.{TurnAhead}
 use Rattle.swift_explorer.specs.declared.ahead.TurnAhead.TheVariants.{Lost}
 use Rattle.swift_explorer.specs.declared.moves.Move.{Move}
 use Rattle.swift_explorer.specs.declared.moves.Move.TheVariants as step
-use Rattle.swift_explorer.specs.declared.waiting.Ready.{Ready}
+use Rattle.swift_steps.specs.declared.next_turn.NextTurn.{NextTurn}
 use Rattle.swift_explorer.specs.declared.history.SearchedHistory.{SearchedHistory}
 use Rattle.swift_explorer.specs.FusedInside.{LooksAway}
-use Rattle.swift_explorer.specs.HistoryInside.{IsHistory, given_at, rows_at}
+use Rattle.swift_steps.specs.NextTurns.{given_at}
+use Rattle.swift_explorer.specs.HistoryInside.{IsHistory, rows_at}
 use Rattle.swift_explorer.specs.Steps.{BreaksInvariant}
 
 -- each invariant holds of the fields that executors start with
@@ -31,7 +32,7 @@ StartsHold script = (e : ℕ) → all_hold (executor_invariants script e) (check
 -- the next turn of a task is silent, and looks away
 pub record IsQuietAt (x : SearchedHistory) (t : TaskId) : Type 0 where
   pub away : LooksAway x t
-  pub silent : (g : Ready) → given_at x.tasks.items t.0 ≡ Some g → IfRunning g.body.task.frames (λ p. frame_is_silent (arc_value x.script) p ≡ true)
+  pub silent : (g : NextTurn) → given_at x.steps.tasks.items t.0 ≡ Some g → IfRunning g.body.task.frames (λ p. frame_is_silent (arc_value x.steps.script) p ≡ true)
 
 -- in which environment a turn is tried that looks at none
 abbrev pub any_env : Env
@@ -50,13 +51,13 @@ TurnGoesOn script t own (p ∷ callers) outer rows resume = GoesOnAtOnce script 
 -- the next turn of a task ends so on the fields of executor `e`
 abbrev pub GoesAlone : SearchedHistory → TaskId → ℕ → Type 0
 GoesAlone x t e = (rows : List (List ℤ)) × (slice_get (rows_at x) e ≡ Some rows)
-    × ((g : Ready) → given_at x.tasks.items t.0 ≡ Some g → TurnGoesOn (arc_value x.script) t.0 g.body.script g.body.task.frames g.body.task.outer rows g.resume)
+    × ((g : NextTurn) → given_at x.steps.tasks.items t.0 ≡ Some g → TurnGoesOn (arc_value x.steps.script) t.0 g.body.script g.body.task.frames g.body.task.outer rows g.resume)
 
 -- what was followed before was followed now
 pub record IsAsBefore (x y : SearchedHistory) : Type 0 where
-  pub script_is : y.script ≡ x.script
-  pub roots : y.roots ≡ x.roots
-  pub is : (blocks : List Block) → IsHistory (arc_value x.script) blocks x → IsHistory (arc_value x.script) blocks y
+  pub script_is : y.steps.script ≡ x.steps.script
+  pub roots : y.steps.roots ≡ x.steps.roots
+  pub is : (blocks : List Block) → IsHistory (arc_value x.steps.script) blocks x → IsHistory (arc_value x.steps.script) blocks y
 
 -- a silent turn of a task was followed, after which it goes on at once
 pub record RanTurn (script : ScriptView) (blocks : List Block) (x y : SearchedHistory) (t : TaskId) : Type 0 where
@@ -66,11 +67,11 @@ pub record RanTurn (script : ScriptView) (blocks : List Block) (x y : SearchedHi
   pub task_is : turn.task ≡ t.0
   pub own : turn.turn.task ≡ t.0
   pub whole : BreaksInvariant turn.turn.exit → ⊥
-  pub roots : y.roots ≡ x.roots
+  pub roots : y.steps.roots ≡ x.steps.roots
 
 pub record RunsTurn (x y : SearchedHistory) (t : TaskId) : Type 0 where
-  pub script_is : y.script ≡ x.script
-  pub ran : (blocks : List Block) → IsHistory (arc_value x.script) blocks x → RanTurn (arc_value x.script) blocks x y t
+  pub script_is : y.steps.script ≡ x.steps.script
+  pub ran : (blocks : List Block) → IsHistory (arc_value x.steps.script) blocks x → RanTurn (arc_value x.steps.script) blocks x y t
 
 -- none of these turns breaks an invariant
 abbrev pub AllWhole : List OneTurn → Type 0
@@ -90,14 +91,14 @@ pub record RanAhead (script : ScriptView) (blocks : List Block) (x y : SearchedH
   pub is : IsHistory script (after_turns blocks turns) y
   pub steps : AreTurns moves turns
   pub whole : AllWhole turns
-  pub roots : y.roots ≡ x.roots
+  pub roots : y.steps.roots ≡ x.steps.roots
 
 -- they were put to other steps
 pub record RunsAhead (x y : SearchedHistory) (before after : List Move) : Type 0 where
   pub moves : List Move
   pub after_is : after ≡ before ++ moves
-  pub script_is : y.script ≡ x.script
-  pub ran : (blocks : List Block) → IsHistory (arc_value x.script) blocks x → RanAhead (arc_value x.script) blocks x y moves
+  pub script_is : y.steps.script ≡ x.steps.script
+  pub ran : (blocks : List Block) → IsHistory (arc_value x.steps.script) blocks x → RanAhead (arc_value x.steps.script) blocks x y moves
 
 -- a turn has run, or was none that may
 abbrev pub IsNotLost : TurnAhead → Type 0

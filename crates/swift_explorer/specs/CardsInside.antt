@@ -1,13 +1,15 @@
 -- Cards while a log is read. No public clause names these.
-use Rattle.std.specs.Prelude.{◌≡◌, ℕ, ℤ, pos, Bool, false, ◌==◌, None, List, [], ◌∷◌, ◌++◌}
+use Rattle.std.specs.Prelude.{◌≡◌, ◌≤◌, ◌+◌, ℕ, ℤ, pos, Bool, false, ◌==◌, ◌||◌, if◌then◌else◌, None, Some, List, [], ◌∷◌, ◌++◌, length, slice_get}
+use Rattle.std.specs.List.{cons_option}
 use Rattle.swift_types.specs.declared.id.TaskId.{TaskId}
 use Rattle.swift_events.specs.declared.event.Event.{Event}
 use Rattle.swift_events.specs.Events.{task_of}
 use Rattle.swift_events.specs.Relations.{asks, child_in, closes, ending_among, names_group, names_task, opens, own_in, waiter_in}
 use Rattle.swift_events.specs.declared.life.Life.{Life}
+use Rattle.swift_events.specs.Lives.{lived, unborn}
 use Rattle.swift_explorer.specs.Numbers.{some_numbers, task_numbers, link_numbers, flag_numbers, wide_numbers, life_numbers}
 use Rattle.swift_explorer.specs.DigestNumbers.{ended_numbers}
-use Rattle.swift_digest.specs.Digests.{Card as CardView, GroupCard as GroupView, own_link}
+use Rattle.swift_digest.specs.Digests.{Card as CardView, Digest, GroupCard as GroupView, one_if, own_link}
 use Rattle.swift_explorer.specs.declared.keys.digest.KeyCard.{KeyCard}
 use Rattle.swift_explorer.specs.declared.keys.digest.KeyGroup.{KeyGroup}
 
@@ -19,6 +21,44 @@ pub record IsCard (c : KeyCard) (d : CardView) : Type 0 where
   pub waiters : c.waiters.items ≡ some_numbers task_numbers d.waiters
   pub named : c.named ≡ d.named
   pub opened : c.opened ≡ d.opened
+
+-- nothing was read of a task
+pub record IsBlank (c : KeyCard) : Type 0 where
+  pub life : c.life ≡ unborn
+  pub links : c.links.items ≡ []
+  pub own : c.own.items ≡ []
+  pub waiters : c.waiters.items ≡ []
+  pub named : c.named ≡ false
+  pub opened : c.opened ≡ 0
+
+-- what was read of the first `n` tasks are their cards
+pub record AreCards (cs : List KeyCard) (n : ℕ) (d : Digest) : Type 0 where
+  pub count : length cs ≡ n
+  pub cards : (t : ℕ) (c : KeyCard) → slice_get cs t ≡ Some c → IsCard c (d.cards t)
+
+-- each of these tasks has opened `most` groups at most
+abbrev pub OpenAtMost : ℕ → List KeyCard → Type 0
+OpenAtMost most cs = (t : ℕ) (c : KeyCard) → slice_get cs t ≡ Some c → c.opened ≤ most
+
+-- card `n` of task `t` is card `c` after one more event
+pub record IsNoted (t : ℕ) (e : Event) (c n : KeyCard) : Type 0 where
+  pub life : n.life ≡ (if task_of e == t then lived c.life e else c.life)
+  pub links : n.links.items ≡ c.links.items ++ some_numbers link_numbers (cons_option (own_link t e) [])
+  pub own : n.own.items ≡ c.own.items ++ some_numbers task_numbers (cons_option (own_in t e) [])
+  pub waiters : n.waiters.items ≡ c.waiters.items ++ some_numbers task_numbers (cons_option (waiter_in t e) [])
+  pub named : n.named ≡ (c.named || names_task t e)
+  pub opened : n.opened ≡ c.opened + one_if (opens t e)
+
+-- of these cards that of task `t` is noted so, where there is one, and the others stay
+pub record IsNotedAt (t : ℕ) (e : Event) (cs ns : List KeyCard) : Type 0 where
+  pub count : length ns ≡ length cs
+  pub other : (u : ℕ) → (u ≡ t → ⊥) → slice_get ns u ≡ slice_get cs u
+  pub here : (n : KeyCard) → slice_get ns t ≡ Some n → (c : KeyCard) × (slice_get cs t ≡ Some c) × IsNoted t e c n
+
+-- each of these cards is noted so
+pub record AreNoted (e : Event) (cs ns : List KeyCard) : Type 0 where
+  pub count : length ns ≡ length cs
+  pub each : (t : ℕ) (n : KeyCard) → slice_get ns t ≡ Some n → (c : KeyCard) × (slice_get cs t ≡ Some c) × IsNoted t e c n
 
 -- what was read of a group is its card
 pub record IsKeyGroup (c : KeyGroup) (d : GroupView) : Type 0 where

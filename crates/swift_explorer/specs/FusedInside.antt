@@ -16,7 +16,8 @@ use Rattle.swift_explorer.specs.declared.moves.Move.TheVariants as step
 use Rattle.swift_explorer.specs.declared.fused.Step.{Step}
 use Rattle.swift_explorer.specs.declared.fused.Step.TheVariants.{One, Turn}
 use Rattle.swift_explorer.specs.declared.history.SearchedHistory.{SearchedHistory}
-use Rattle.swift_explorer.specs.HistoryInside.{IsHistory, IsMoveOf, given_at, given_view}
+use Rattle.swift_steps.specs.NextTurns.{given_at, given_view}
+use Rattle.swift_explorer.specs.HistoryInside.{IsHistory, IsMoveOf}
 
 -- each method of which it is told that it looks away does
 abbrev pub AreTold : ScriptView → List Bool → Type 0
@@ -33,7 +34,7 @@ first_half (Turn t) = step.Begin t ∷ []
 
 -- the next turn of a task looks away
 abbrev pub LooksAway : SearchedHistory → TaskId → Type 0
-LooksAway x t = job_looks_away (arc_value x.script) (option_map (given_view t.0) (given_at x.tasks.items t.0)) ≡ true
+LooksAway x t = job_looks_away (arc_value x.steps.script) (option_map (given_view t.0) (given_at x.steps.tasks.items t.0)) ≡ true
 
 -- a step of a search does this step of a history first: alone, or the turn that it begins looks away, and runs at once
 abbrev pub IsPlanOf : SearchedHistory → Move → Step → Type 0
@@ -52,9 +53,9 @@ IsChosen script steps blocks b =
 
 -- Each block in order that may follow a history is chosen.
 abbrev pub HasEachStep : SearchedHistory → List Step → Type 0
-HasEachStep x steps = (blocks : List Block) (b : Block) → IsHistory (arc_value x.script) blocks x
-    → IsNotFolded b → Stands (arc_value x.script) (starts (arc_value x.script)) blocks b → IsOrderly (arc_value x.script) blocks b → IsChosen (arc_value x.script) steps blocks b
+HasEachStep x steps = (blocks : List Block) (b : Block) → IsHistory (arc_value x.steps.script) blocks x
+    → IsNotFolded b → Stands (arc_value x.steps.script) (starts (arc_value x.steps.script)) blocks b → IsOrderly (arc_value x.steps.script) blocks b → IsChosen (arc_value x.steps.script) steps blocks b
 
 -- so few tasks that turns at all executors, and one more, may each make 16
 abbrev pub IsRoomy : SearchedHistory → Type 0
-IsRoomy x = tasks_of (root_count x.book.script) x.book.log + MADE * (executor_count (arc_value x.script) + 1) ≤ TASKS
+IsRoomy x = tasks_of (root_count x.steps.book.script) x.steps.book.log + MADE * (executor_count (arc_value x.steps.script) + 1) ≤ TASKS

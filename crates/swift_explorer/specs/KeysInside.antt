@@ -17,7 +17,7 @@ use Rattle.swift_explorer.specs.Numbers.{pair_numbers, option_numbers, list_numb
 use Rattle.swift_explorer.specs.FrameNumbers.{bindings_numbers, fields_numbers, frame_numbers}
 use Rattle.swift_explorer.specs.DigestNumbers.{IsWritten}
 use Rattle.swift_explorer.specs.Bytes.{all_packed}
-use Rattle.swift_explorer.specs.declared.waiting.Ready.{Ready}
+use Rattle.swift_steps.specs.declared.next_turn.NextTurn.{NextTurn}
 use Rattle.swift_explorer.specs.declared.history.SearchedHistory.{SearchedHistory}
 use Rattle.swift_explorer.specs.declared.outcome.RunOutcome.{RunOutcome}
 use Rattle.swift_explorer.specs.HistoryInside.{IsHistory, rows_at}
@@ -46,7 +46,7 @@ pub record ReadyView : Type 0 where
   pub frames : TaskView
 
 -- what the next turn of a task begins with, with its frames as they are left
-abbrev pub ready_view : Ready → ReadyView
+abbrev pub ready_view : NextTurn → ReadyView
 ready_view g = record { number = g.number; resume = g.resume; frames = task_left g.body.task }
 
 -- the same as numbers
@@ -69,12 +69,12 @@ rest_numbers waiting used fields ready =
 
 -- the numbers of a history that is followed, without its digest
 abbrev pub rest_of : SearchedHistory → List ℤ
-rest_of x = rest_numbers (map job_left (jobs_held 0 x.book.held)) x.used.items (rows_at x) (map (option_map ready_view) x.tasks.items)
+rest_of x = rest_numbers (map job_left (jobs_held 0 x.steps.book.held)) x.used.items (rows_at x) (map (option_map ready_view) x.steps.tasks.items)
 
 -- These numbers decide how a history that is followed may go on: its digest comes last. It has a place for each task, as one may wait.
 pub record IsNumbered (x : SearchedHistory) (numbers : List ℤ) : Type 0 where
-  pub written : IsWritten (digest_of x.book.log) (rest_of x) numbers
-  pub places : length x.book.held ≡ tasks_of (root_count x.book.script) x.book.log
+  pub written : IsWritten (digest_of x.steps.book.log) (rest_of x) numbers
+  pub places : length x.steps.book.held ≡ tasks_of (root_count x.steps.book.script) x.steps.book.log
 
 -- these bytes decide how it may go on
 abbrev pub IsKeyOf : SearchedHistory → List ℕ → Type 0

@@ -7,20 +7,21 @@ ghost use Rattle.swift_interpreter.specs.TurnStates.{exit_view};
 ghost use Rattle.swift_turn.specs.Body.{HasFrames, IfRunning, IsRunning, callers_of};
 ghost use Rattle.swift_reordering.specs.Silent.{frame_is_silent};
 ghost use Rattle.swift_reordering.specs.Unnamed.{IsUnnamed};
-ghost use Rattle.swift_explorer.specs.declared.waiting.Ready.{Ready};
+ghost use Rattle.swift_steps.specs.declared.next_turn.NextTurn.{NextTurn};
 ghost use Rattle.swift_explorer.specs.AheadInside.{GoesAlone, GoesOnAtOnce, IsAsBefore, IsNotLost, IsQuietAt, RunsAhead, RunsTurn, StartsHold};
 ghost use Rattle.swift_explorer.specs.FusedInside.{AreTold};
-ghost use Rattle.swift_explorer.specs.HistoryInside.{IsSomeHistory, WasDone, given_at};
+ghost use Rattle.swift_explorer.specs.HistoryInside.{IsSomeHistory, WasDone};
+ghost use Rattle.swift_steps.specs.NextTurns.{given_at};
 ghost use Rattle.swift_explorer.specs.SilentInside.{HaveMarks};
 
-use crate::history::{Followed, SearchedHistory, copy_of};
+use crate::history::{Followed, SearchedHistory};
 use crate::moves::Move;
 use crate::silent::is_marked;
 use crate::unnamed::root_is_unnamed;
-use crate::waiting::{put, take};
 use std::alloc::AllocError;
 use swift_interpreter::Exit;
 use swift_script::Script;
+use swift_steps::{copy_fields, put, take};
 use swift_turn::{Body, TurnOutcome, replay_turn};
 use swift_types::{Env, Fault, Priority, TaskId};
 
@@ -91,13 +92,13 @@ fn body_is_silent(body: &Body, marks: &[Vec<bool>]) -> bool
 impl SearchedHistory {
     // Whether the next turn of a task is silent.
     fn is_silent(&self, marks: &[Vec<bool>], task: TaskId) -> bool
-        ensures { IsTrue result → HaveMarks (arc_value self.now.script) marks.now → (g : Ready) → given_at self.now.tasks.items task.0 ≡ Some g → IfRunning g.body.task.frames (λ p. frame_is_silent (arc_value self.now.script) p ≡ true) }
+        ensures { IsTrue result → HaveMarks (arc_value self.now.steps.script) marks.now → (g : NextTurn) → given_at self.now.steps.tasks.items task.0 ≡ Some g → IfRunning g.body.task.frames (λ p. frame_is_silent (arc_value self.now.steps.script) p ≡ true) }
     {
         let place = task.0 as usize;
-        if place >= self.tasks.len() {
+        if place >= self.steps.tasks.len() {
             return false;
         }
-        let Some(ready) = &self.tasks[place] else {
+        let Some(ready) = &self.steps.tasks[place] else {
             return false;
         };
         ready.body.is_running() && body_is_silent(&ready.body, marks)
@@ -105,7 +106,7 @@ impl SearchedHistory {
 
     // Whether the next turn of a task is silent, and looks away.
     fn is_quiet(&self, away: &[bool], marks: &[Vec<bool>], task: TaskId) -> bool
-        ensures { IsTrue result → AreTold (arc_value self.now.script) away.now → HaveMarks (arc_value self.now.script) marks.now → IsQuietAt self.now task }
+        ensures { IsTrue result → AreTold (arc_value self.now.steps.script) away.now → HaveMarks (arc_value self.now.steps.script) marks.now → IsQuietAt self.now task }
     {
         self.is_silent(marks, task) && self.looks_away(away, task)
     }
@@ -113,15 +114,15 @@ impl SearchedHistory {
     // Whether a task goes on at once after its next turn at an executor, where that looks at nothing, or ends unseen. The history is as before.
     fn goes_alone(&mut self, task: TaskId, place: usize) -> Result<bool, AllocError>
         requires { IsSomeHistory self.old }
-        ensures script { self.new.script ≡ self.old.script }
+        ensures script { self.new.steps.script ≡ self.old.steps.script }
         ensures same { OnOk result (IsAsBefore self.old self.new) }
         ensures alone { IfOk result (λ alone. IsTrue alone → GoesAlone self.old task place) }
     {
-        if place >= self.fields.len() {
+        if place >= self.steps.fields.len() {
             return Ok(false);
         }
-        let fields = copy_of(self.alloc, &self.fields[place])?;
-        let Some(mut ready) = take(&mut self.tasks, task) else {
+        let fields = copy_fields(self.steps.alloc, &self.steps.fields[place])?;
+        let Some(mut ready) = take(&mut self.steps.tasks, task) else {
             return Ok(false);
         };
         let frame = ready.body.frame()?;
@@ -140,9 +141,9 @@ impl SearchedHistory {
         else {
             return Err(AllocError);
         };
-        let goes = goes_on(&ready.body, &exit, &self.script, task)?;
+        let goes = goes_on(&ready.body, &exit, &self.steps.script, task)?;
         ready.body.put_back(frame);
-        put(&mut self.tasks, task, ready)?;
+        put(&mut self.steps.tasks, task, ready)?;
         Ok(goes)
     }
 
@@ -155,17 +156,17 @@ impl SearchedHistory {
         task: TaskId,
     ) -> Result<TurnAhead, AllocError>
         requires history { IsSomeHistory self.old }
-        requires told { AreTold (arc_value self.old.script) away.now }
-        requires marked { HaveMarks (arc_value self.old.script) marks.now }
-        requires hold { StartsHold (arc_value self.old.script) }
-        ensures script { self.new.script ≡ self.old.script }
+        requires told { AreTold (arc_value self.old.steps.script) away.now }
+        requires marked { HaveMarks (arc_value self.old.steps.script) marks.now }
+        requires hold { StartsHold (arc_value self.old.steps.script) }
+        ensures script { self.new.steps.script ≡ self.old.steps.script }
         ensures stays { IfOk result (λ a. a ≡ TurnAhead.Stays → IsAsBefore self.old self.new) }
         ensures ran { IfOk result (λ a. a ≡ TurnAhead.Ran → RunsTurn self.old self.new task) }
     {
         if !self.is_quiet(away, marks, task) || !self.can_begin(task) {
             return Ok(TurnAhead::Stays);
         }
-        let Some(place) = self.executor_of(task) else {
+        let Some(place) = self.steps.executor_of(task) else {
             return Ok(TurnAhead::Stays);
         };
         if !self.goes_alone(task, place)? {
@@ -190,9 +191,9 @@ impl SearchedHistory {
         moves: &mut Vec<Move>,
     ) -> Result<TurnAhead, AllocError>
         requires history { IsSomeHistory self.old }
-        requires told { AreTold (arc_value self.old.script) away.now }
-        requires marked { HaveMarks (arc_value self.old.script) marks.now }
-        requires hold { StartsHold (arc_value self.old.script) }
+        requires told { AreTold (arc_value self.old.steps.script) away.now }
+        requires marked { HaveMarks (arc_value self.old.steps.script) marks.now }
+        requires hold { StartsHold (arc_value self.old.steps.script) }
         ensures { IfOk result (λ a. IsNotLost a → RunsAhead self.old self.new moves.old.items moves.new.items) }
     {
         match self.run_one(away, marks, task)? {
@@ -214,9 +215,9 @@ impl SearchedHistory {
         moves: &mut Vec<Move>,
     ) -> Result<Followed, AllocError>
         requires history { IsSomeHistory self.old }
-        requires told { AreTold (arc_value self.old.script) away.now }
-        requires marked { HaveMarks (arc_value self.old.script) marks.now }
-        requires hold { StartsHold (arc_value self.old.script) }
+        requires told { AreTold (arc_value self.old.steps.script) away.now }
+        requires marked { HaveMarks (arc_value self.old.steps.script) marks.now }
+        requires hold { StartsHold (arc_value self.old.steps.script) }
         ensures { IfOk result (λ f. WasDone f → RunsAhead self.old self.new moves.old.items moves.new.items) }
     {
         let mut place: usize = 0;
@@ -224,7 +225,7 @@ impl SearchedHistory {
             let Ok(number) = u32::try_from(place) else {
                 return Ok(Followed::Yes);
             };
-            if place >= self.tasks.len() {
+            if place >= self.steps.tasks.len() {
                 return Ok(Followed::Yes);
             }
             let ran = self.run_and_push(away, marks, TaskId(number), moves)?;

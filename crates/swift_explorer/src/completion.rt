@@ -49,18 +49,18 @@ pub enum Completion {
 impl SearchedHistory {
     // Why the next turn of a task may not begin, where it may not.
     fn begin_fault(&self, task: TaskId) -> StepFault
-        ensures { IsFaultOf self.now.book.log task.0 result }
+        ensures { IsFaultOf self.now.steps.book.log task.0 result }
     {
-        if self.book.origin(task).is_none() {
+        if self.steps.book.origin(task).is_none() {
             return StepFault::NotMade;
         }
-        if self.book.ending(task).is_some() {
+        if self.steps.book.ending(task).is_some() {
             return StepFault::Ended;
         }
         if self.has_begun(task) {
             return StepFault::UnderWay;
         }
-        match self.executor_of(task) {
+        match self.steps.executor_of(task) {
             Some(executor) => self.busy_fault(executor),
             None => StepFault::Waits,
         }
@@ -68,14 +68,14 @@ impl SearchedHistory {
 
     // Which turn keeps an executor from beginning another one.
     fn busy_fault(&self, executor: usize) -> StepFault
-        ensures { (t : ℕ) → IsFaultOf self.now.book.log t result }
+        ensures { (t : ℕ) → IsFaultOf self.now.steps.book.log t result }
     {
-        for place in 0..self.tasks.len() {
+        for place in 0..self.steps.tasks.len() {
             let Ok(number) = u32::try_from(place) else {
                 return StepFault::Other;
             };
             let other = TaskId(number);
-            if self.has_begun(other) && self.executor_of(other) == Some(executor) {
+            if self.has_begun(other) && self.steps.executor_of(other) == Some(executor) {
                 return StepFault::Busy(other);
             }
         }
@@ -84,12 +84,12 @@ impl SearchedHistory {
 
     // Why the turn of a task that is under way may not run, where it may not.
     fn run_fault(&self, task: TaskId) -> StepFault
-        ensures { IsFaultOf self.now.book.log task.0 result }
+        ensures { IsFaultOf self.now.steps.book.log task.0 result }
     {
-        if self.book.origin(task).is_none() {
+        if self.steps.book.origin(task).is_none() {
             return StepFault::NotMade;
         }
-        if self.book.ending(task).is_some() {
+        if self.steps.book.ending(task).is_some() {
             return StepFault::Ended;
         }
         if self.has_begun(task) {
@@ -101,7 +101,7 @@ impl SearchedHistory {
 
     // Why a step may not follow, where it may not.
     fn step_fault(&self, step: Move) -> StepFault
-        ensures { IsStepFault self.now.book.log step result }
+        ensures { IsStepFault self.now.steps.book.log step result }
     {
         match step {
             Move::Add => StepFault::Other,
@@ -116,10 +116,10 @@ fn follow_or_stop(
     history: &mut SearchedHistory,
     path: &[Move],
 ) -> Result<Option<(usize, StepFault)>, AllocError>
-    requires { IsPath (arc_value history.old.script) [] history.old }
-    ensures script { history.new.script ≡ history.old.script }
-    ensures path { IfOk result (λ o. o ≡ None → IsPath (arc_value history.old.script) path.now history.new) }
-    ensures stopped { IfOk result (λ o. IfSome o (λ at. IsStopped (arc_value history.old.script) path.now at.0 at.1)) }
+    requires { IsPath (arc_value history.old.steps.script) [] history.old }
+    ensures script { history.new.steps.script ≡ history.old.steps.script }
+    ensures path { IfOk result (λ o. o ≡ None → IsPath (arc_value history.old.steps.script) path.now history.new) }
+    ensures stopped { IfOk result (λ o. IfSome o (λ at. IsStopped (arc_value history.old.steps.script) path.now at.0 at.1)) }
 {
     for (place, step) in path.iter().enumerate() {
         let fault = history.step_fault(*step);
@@ -163,9 +163,9 @@ fn push_step(
     path: &mut Vec<Move>,
     step: Move,
 ) -> Result<bool, AllocError>
-    requires { IsPath (arc_value history.old.script) path.old.items history.old }
-    ensures script { history.new.script ≡ history.old.script }
-    ensures path { IfOk result (λ done. IsTrue done → IsPath (arc_value history.old.script) path.new.items history.new) }
+    requires { IsPath (arc_value history.old.steps.script) path.old.items history.old }
+    ensures script { history.new.steps.script ≡ history.old.steps.script }
+    ensures path { IfOk result (λ done. IsTrue done → IsPath (arc_value history.old.steps.script) path.new.items history.new) }
     ensures one { IfOk result (λ done. IsTrue done → path.new.items ≡ path.old.items ++ step ∷ []) }
 {
     if let Followed::No = history.step(step)? {
@@ -177,9 +177,9 @@ fn push_step(
 
 // Goes on, where these steps have led, until no step may follow: whether that was reached. Each step is put to the others.
 fn go_to_the_end(history: &mut SearchedHistory, path: &mut Vec<Move>) -> Result<bool, AllocError>
-    requires { IsPath (arc_value history.old.script) path.old.items history.old }
-    ensures script { history.new.script ≡ history.old.script }
-    ensures path { IfOk result (λ done. IsTrue done → IsPath (arc_value history.old.script) path.new.items history.new) }
+    requires { IsPath (arc_value history.old.steps.script) path.old.items history.old }
+    ensures script { history.new.steps.script ≡ history.old.steps.script }
+    ensures path { IfOk result (λ done. IsTrue done → IsPath (arc_value history.old.steps.script) path.new.items history.new) }
     ensures after { IfOk result (λ done. IsTrue done → (rest : List Move) × (path.new.items ≡ path.old.items ++ rest)) }
 {
     let mut last: Option<TaskId> = None;
@@ -204,8 +204,8 @@ fn complete(
     history: &mut SearchedHistory,
     schedule: &[Move],
 ) -> Result<Completion, AllocError>
-    requires { IsPath (arc_value history.old.script) [] history.old }
-    ensures { IfOk result (IsCompletion (arc_value history.old.script) schedule.now) }
+    requires { IsPath (arc_value history.old.steps.script) [] history.old }
+    ensures { IfOk result (IsCompletion (arc_value history.old.steps.script) schedule.now) }
 {
     if let Some((place, fault)) = follow_or_stop(history, schedule)? {
         return Ok(Completion::Stopped(place, fault));

@@ -46,8 +46,8 @@ pub struct FoundOutcomes {
 /// An executor takes any of its jobs: the list has outcomes of orders that priorities, arrival and `fifo` would not give (SE-0304 calls
 /// priorities hints; of a `fifo` executor it has more than can happen).
 ///
-/// Each history is copied for each step after it, and followed again from its beginning once, unless it is one of the few that are kept whole:
-/// so the time is that of the histories times their turns at most.
+/// Each history is copied for each step after it but one, and followed again from its beginning once, unless it is one of the few that
+/// are kept whole: so the time is that of the histories times their turns at most.
 #[derive(Drop)]
 pub struct Exploration {
     search: Search,

@@ -5,14 +5,14 @@ ghost use Rattle.std.specs.Option.{option_map};
 ghost use Rattle.swift_history.specs.Jobs.{job_facts};
 ghost use Rattle.swift_explorer.specs.Numbers.{list_numbers, option_numbers};
 ghost use Rattle.swift_explorer.specs.FrameNumbers.{frame_numbers};
-ghost use Rattle.swift_explorer.specs.HistoryInside.{given_view};
+ghost use Rattle.swift_steps.specs.NextTurns.{given_view};
 ghost use Rattle.swift_explorer.specs.KeysInside.{frames_left, job_left, job_numbers, ready_numbers, ready_view};
 
 use crate::keys::{put_bindings, put_frame, put_number, put_resume};
-use crate::waiting::Ready;
 use std::alloc::AllocError;
 use swift_interpreter::Exit;
 use swift_job::Job;
+use swift_steps::NextTurn;
 use swift_turn::Body;
 use swift_types::TaskId;
 
@@ -29,10 +29,10 @@ fn put_frames(key: &mut Vec<i64>, mut body: Body) -> Result<(), AllocError>
     Ok(())
 }
 
-fn put_one(key: &mut Vec<i64>, ready: Ready) -> Result<(), AllocError>
+fn put_one(key: &mut Vec<i64>, ready: NextTurn) -> Result<(), AllocError>
     ensures { OnOk result (key.new.items ≡ key.old.items ++ ready_numbers (ready_view ready)) }
 {
-    let Ready {
+    let NextTurn {
         number,
         resume,
         body,
@@ -43,7 +43,7 @@ fn put_one(key: &mut Vec<i64>, ready: Ready) -> Result<(), AllocError>
     put_frames(key, body)
 }
 
-fn put_one_if(key: &mut Vec<i64>, ready: Option<Ready>) -> Result<(), AllocError>
+fn put_one_if(key: &mut Vec<i64>, ready: Option<NextTurn>) -> Result<(), AllocError>
     ensures { OnOk result (key.new.items ≡ key.old.items ++ option_numbers ready_numbers (option_map ready_view ready)) }
 {
     match ready {
@@ -59,7 +59,7 @@ fn put_one_if(key: &mut Vec<i64>, ready: Option<Ready>) -> Result<(), AllocError
 }
 
 /// What each task goes on with, from the last task: the number of its next turn, what that begins with, and its frames.
-pub fn put_ready(key: &mut Vec<i64>, mut tasks: Vec<Option<Ready>>) -> Result<(), AllocError>
+pub fn put_ready(key: &mut Vec<i64>, mut tasks: Vec<Option<NextTurn>>) -> Result<(), AllocError>
     ensures { OnOk result (key.new.items ≡ key.old.items ++ list_numbers (option_numbers ready_numbers) (reverse (map (option_map ready_view) tasks.items))) }
 {
     while let Some(task) = tasks.pop() {
@@ -70,7 +70,7 @@ pub fn put_ready(key: &mut Vec<i64>, mut tasks: Vec<Option<Ready>>) -> Result<()
     Ok(())
 }
 
-fn put_job(key: &mut Vec<i64>, task: TaskId, ready: Ready) -> Result<(), AllocError>
+fn put_job(key: &mut Vec<i64>, task: TaskId, ready: NextTurn) -> Result<(), AllocError>
     ensures { OnOk result (key.new.items ≡ key.old.items ++ (pos 1 ∷ job_numbers (job_left (given_view task.0 ready)))) }
 {
     key.push(1)?;
@@ -83,7 +83,7 @@ pub fn put_jobs(key: &mut Vec<i64>, jobs: &mut Vec<Job<Body>>) -> Result<(), All
     ensures { OnOk result (key.new.items ≡ key.old.items ++ list_numbers job_numbers (reverse (map job_left (map job_facts jobs.old.items)))) }
 {
     while let Some(job) = jobs.pop() {
-        let (task, ready) = Ready::from_job(job);
+        let (task, ready) = NextTurn::from_job(job);
         put_job(key, task, ready)?;
     }
     key.push(0)?;

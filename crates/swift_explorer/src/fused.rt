@@ -66,13 +66,13 @@ fn body_looks_away(body: &Body, away: &[bool]) -> bool
 impl SearchedHistory {
     // Whether the next turn of a task looks away.
     pub(crate) fn looks_away(&self, away: &[bool], task: TaskId) -> bool
-        ensures { IsTrue result → AreTold (arc_value self.now.script) away.now → LooksAway self.now task }
+        ensures { IsTrue result → AreTold (arc_value self.now.steps.script) away.now → LooksAway self.now task }
     {
         let place = task.0 as usize;
-        if place >= self.tasks.len() {
+        if place >= self.steps.tasks.len() {
             return false;
         }
-        let Some(ready) = &self.tasks[place] else {
+        let Some(ready) = &self.steps.tasks[place] else {
             return false;
         };
         ready.body.is_running() && body_looks_away(&ready.body, away)
@@ -80,7 +80,7 @@ impl SearchedHistory {
 
     // The step of a search that does this first.
     fn plan_of(&self, away: &[bool], step: Move) -> Step
-        ensures { AreTold (arc_value self.now.script) away.now → IsPlanOf self.now step result }
+        ensures { AreTold (arc_value self.now.steps.script) away.now → IsPlanOf self.now step result }
     {
         match step {
             Move::Begin(task) if self.looks_away(away, task) => Step::Turn(task),
@@ -90,9 +90,9 @@ impl SearchedHistory {
 
     // The same of each of these.
     fn plans_of(&self, away: &[bool], moves: &[Move]) -> Result<Vec<Step>, AllocError>
-        ensures { IfOk result (λ steps. AreTold (arc_value self.now.script) away.now → ArePlansOf self.now moves.now steps.items) }
+        ensures { IfOk result (λ steps. AreTold (arc_value self.now.steps.script) away.now → ArePlansOf self.now moves.now steps.items) }
     {
-        let mut steps = Vec::with_capacity(self.alloc, moves.len())?;
+        let mut steps = Vec::with_capacity(self.steps.alloc, moves.len())?;
         for step in moves {
             steps.push(self.plan_of(away, *step))?;
         }
@@ -102,7 +102,7 @@ impl SearchedHistory {
     /// The steps of a search that may follow, in the order of `next`. None is left out. Nothing where there are more tasks than numbers
     /// for them.
     pub(crate) fn next_fused(&self, away: &[bool]) -> Result<Option<Vec<Step>>, AllocError>
-        ensures { IfOk result (λ o. IfSome o (λ steps. AreTold (arc_value self.now.script) away.now → HasEachStep self.now steps.items)) }
+        ensures { IfOk result (λ o. IfSome o (λ steps. AreTold (arc_value self.now.steps.script) away.now → HasEachStep self.now steps.items)) }
     {
         match self.next()? {
             Some(moves) => Ok(Some(self.plans_of(away, &moves)?)),
@@ -114,8 +114,8 @@ impl SearchedHistory {
     pub(crate) fn has_room(&self) -> bool
         ensures { IsTrue result ↔ IsRoomy self.now }
     {
-        self.script.facts();
-        let most = MADE * (self.script.executor_count() + 1);
-        most <= TASKS && self.book.tasks() <= TASKS - most
+        self.steps.script.facts();
+        let most = MADE * (self.steps.script.executor_count() + 1);
+        most <= TASKS && self.steps.book.tasks() <= TASKS - most
     }
 }

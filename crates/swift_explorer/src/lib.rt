@@ -35,8 +35,6 @@ mod silent;
 mod text;
 // Roots that no line names.
 mod unnamed;
-// What the next turn of each task begins with.
-mod waiting;
 
 pub use completion::{Completion, StepFault, complete_schedule};
 pub use exploration::{Exploration, FoundOutcomes};

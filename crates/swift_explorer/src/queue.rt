@@ -27,8 +27,8 @@ impl Drop for KeptHistory {
 }
 
 impl KeptHistory {
-    // What was kept.
-    fn into_history(self) -> SearchedHistory
+    /// What was kept.
+    pub fn into_history(self) -> SearchedHistory
         ensures { result ≡ self.history }
     {
         let KeptHistory { history } = self;

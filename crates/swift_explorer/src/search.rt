@@ -17,7 +17,7 @@ ghost use Rattle.swift_explorer.specs.Numbers.{list_numbers};
 use crate::away::methods_look_away;
 use crate::fused::Step;
 use crate::history::{Followed, SearchedHistory};
-use crate::key_set::KeySet;
+use crate::key_set::{Key, KeySet};
 use crate::keys::{pack, put_ending, put_fields, put_origin};
 use crate::moves::Move;
 use crate::outcome::{End, RunOutcome};
@@ -116,28 +116,32 @@ fn put_endings(key: &mut Vec<i64>, endings: &[(Origin, Ending)]) -> Result<(), A
 }
 
 // An outcome, as bytes.
-fn outcome_key(alloc: Global, outcome: &RunOutcome) -> Result<Vec<u8>, AllocError>
-    ensures { IfOk result (λ key. key.items ≡ outcome_bytes outcome.now) }
+fn outcome_key(alloc: Global, outcome: &RunOutcome) -> Result<Key, AllocError>
+    ensures { IfOk result (λ key. key.bytes.items ≡ outcome_bytes outcome.now) }
 {
     let mut key = Vec::new(alloc);
     put_endings(&mut key, &outcome.endings)?;
     put_fields(&mut key, &outcome.fields)?;
-    pack(alloc, &key)
+    Ok(Key {
+        bytes: pack(alloc, &key)?,
+    })
 }
 
 // What decides how a history may go on, as bytes.
-fn key_of(alloc: Global, history: SearchedHistory) -> Result<Vec<u8>, AllocError>
-    ensures { IfOk result (λ key. IsKeyOf history key.items) }
+fn key_of(alloc: Global, history: SearchedHistory) -> Result<Key, AllocError>
+    ensures { IfOk result (λ key. IsKeyOf history key.bytes.items) }
 {
     let numbers = history.into_key()?;
-    pack(alloc, &numbers)
+    Ok(Key {
+        bytes: pack(alloc, &numbers)?,
+    })
 }
 
 // Follows these steps.
 pub(crate) fn follow(history: &mut SearchedHistory, path: &[Move]) -> Result<Followed, AllocError>
-    requires { IsPath (arc_value history.old.script) [] history.old }
-    ensures script { history.new.script ≡ history.old.script }
-    ensures path { IfOk result (λ f. WasDone f → IsPath (arc_value history.old.script) path.now history.new) }
+    requires { IsPath (arc_value history.old.steps.script) [] history.old }
+    ensures script { history.new.steps.script ≡ history.old.steps.script }
+    ensures path { IfOk result (λ f. WasDone f → IsPath (arc_value history.old.steps.script) path.now history.new) }
 {
     for step in path {
         if let Followed::No = history.step(*step)? {
@@ -153,10 +157,10 @@ fn follow_one(
     path: &[Move],
     step: Move,
 ) -> Result<Followed, AllocError>
-    requires { IsPath (arc_value history.old.script) path.now history.old }
-    ensures broken { IfOk result (λ f. f ≡ Followed.Broken → IsBrokenAfter (arc_value history.old.script) (path.now ++ step ∷ [])) }
-    ensures path { IfOk result (λ f. WasDone f → IsPath (arc_value history.old.script) (path.now ++ step ∷ []) history.new) }
-    ensures last { IfOk result (λ f. WasDone f → IsFollowedBy (arc_value history.old.script) path.now step history.new f) }
+    requires { IsPath (arc_value history.old.steps.script) path.now history.old }
+    ensures broken { IfOk result (λ f. f ≡ Followed.Broken → IsBrokenAfter (arc_value history.old.steps.script) (path.now ++ step ∷ [])) }
+    ensures path { IfOk result (λ f. WasDone f → IsPath (arc_value history.old.steps.script) (path.now ++ step ∷ []) history.new) }
+    ensures last { IfOk result (λ f. WasDone f → IsFollowedBy (arc_value history.old.steps.script) path.now step history.new f) }
 {
     let _ = path;
     history.step(step)
@@ -168,8 +172,8 @@ fn begun(
     path: &[Move],
     task: TaskId,
 ) -> Result<Option<SearchedHistory>, AllocError>
-    requires { IsPath (arc_value history.script) path.now history }
-    ensures { IfOk result (λ o. IfSome o (IsPath (arc_value history.script) (path.now ++ Move.Begin task ∷ []))) }
+    requires { IsPath (arc_value history.steps.script) path.now history }
+    ensures { IfOk result (λ o. IfSome o (IsPath (arc_value history.steps.script) (path.now ++ Move.Begin task ∷ []))) }
 {
     let mut next = history;
     match follow_one(&mut next, path, Move::Begin(task)) {
@@ -186,19 +190,18 @@ fn begun(
     }
 }
 
-// A copy of a history to which these steps have led, after the first half of a step. Nothing where that may not follow.
+// A history to which these steps have led, after the first half of a step. Nothing where that may not follow.
 fn first_followed(
-    history: &SearchedHistory,
+    history: SearchedHistory,
     path: &[Move],
     step: Step,
 ) -> Result<Option<SearchedHistory>, AllocError>
-    requires { IsPath (arc_value history.now.script) path.now history.now }
-    ensures { IfOk result (λ o. IfSome o (IsPath (arc_value history.now.script) (path.now ++ first_half step))) }
+    requires { IsPath (arc_value history.steps.script) path.now history }
+    ensures { IfOk result (λ o. IfSome o (IsPath (arc_value history.steps.script) (path.now ++ first_half step))) }
 {
-    let next = history.copy()?;
     match step {
-        Step::One(_) => Ok(Some(next)),
-        Step::Turn(task) => begun(next, path, task),
+        Step::One(_) => Ok(Some(history)),
+        Step::Turn(task) => begun(history, path, task),
     }
 }
 
@@ -233,12 +236,12 @@ fn follow_ahead(
     last: Move,
     moves: &mut Vec<Move>,
 ) -> Result<Followed, AllocError>
-    requires path { IsPath (arc_value history.old.script) path.now history.old }
-    requires told { AreTold (arc_value history.old.script) away.now }
-    requires marked { HaveMarks (arc_value history.old.script) marks.now }
-    requires hold { StartsHold (arc_value history.old.script) }
-    ensures broken { IfOk result (λ f. f ≡ Followed.Broken → IsBrokenAfter (arc_value history.old.script) (path.now ++ last ∷ [])) }
-    ensures ahead { IfOk result (λ f. WasDone f → IsFollowedAhead (arc_value history.old.script) path.now last history.new f moves.old.items moves.new.items) }
+    requires path { IsPath (arc_value history.old.steps.script) path.now history.old }
+    requires told { AreTold (arc_value history.old.steps.script) away.now }
+    requires marked { HaveMarks (arc_value history.old.steps.script) marks.now }
+    requires hold { StartsHold (arc_value history.old.steps.script) }
+    ensures broken { IfOk result (λ f. f ≡ Followed.Broken → IsBrokenAfter (arc_value history.old.steps.script) (path.now ++ last ∷ [])) }
+    ensures ahead { IfOk result (λ f. WasDone f → IsFollowedAhead (arc_value history.old.steps.script) path.now last history.new f moves.old.items moves.new.items) }
 {
     let done = follow_one(history, path, last)?;
     if let Followed::No = done {
@@ -267,9 +270,9 @@ fn look_ahead(
     away: &[bool],
     path: &[Move],
 ) -> Result<Option<Ahead>, AllocError>
-    requires path { IsPath (arc_value history.now.script) path.now history.now }
-    requires told { AreTold (arc_value history.now.script) away.now }
-    ensures { IfOk result (λ o. IfSome o (λ ahead. IsAhead (arc_value history.now.script) path.now ahead)) }
+    requires path { IsPath (arc_value history.now.steps.script) path.now history.now }
+    requires told { AreTold (arc_value history.now.steps.script) away.now }
+    ensures { IfOk result (λ o. IfSome o (λ ahead. IsAhead (arc_value history.now.steps.script) path.now ahead)) }
 {
     let Some(steps) = history.next_fused(away)? else {
         return Ok(None);
@@ -394,16 +397,16 @@ impl Search {
         }
     }
 
-    // Follows one more step than these, which were followed, in a copy of the history, and keeps where it leads.
+    // Follows one more step than these, which were followed, and keeps where it leads.
     fn try_step(
         &mut self,
-        history: &SearchedHistory,
+        history: KeptHistory,
         path: &[Move],
         before: usize,
         step: Step,
     ) -> Result<(), AllocError>
         requires sound { IsSound (arc_value self.old.script) self.old }
-        requires followed { IsPath (arc_value self.old.script) path.now history.now }
+        requires followed { IsPath (arc_value self.old.script) path.now history.history }
         requires path { slice_get (paths_of self.old.nodes.items) before ≡ Some path.now }
         ensures grown { OnOk result (HasGrown self.old self.new) }
         ensures sound { OnOk result (IsSound (arc_value self.old.script) self.new) }
@@ -415,7 +418,7 @@ impl Search {
         let mut front = Vec::from_slice(self.alloc, path)?;
         step.put_first(&mut front)?;
         moves.push(last)?;
-        let Some(next) = first_followed(history, path, step)? else {
+        let Some(next) = first_followed(history.into_history(), path, step)? else {
             self.is_complete = false;
             return Ok(());
         };
@@ -465,8 +468,8 @@ impl Search {
         }
     }
 
-    // Follows each of these steps after a history to which the path has led, and keeps where it leads.
-    fn try_all(
+    // Follows each of these steps in a copy of a history to which the path has led, and keeps where it leads.
+    fn try_each(
         &mut self,
         history: &SearchedHistory,
         path: &[Move],
@@ -481,8 +484,33 @@ impl Search {
         ensures tried { OnOk result (IsTrue self.new.is_complete → All (StepWasTried (arc_value self.old.script) self.new path.now) steps.now) }
     {
         for step in steps {
-            self.try_step(history, path, place, *step)?;
+            let again = history.copy()?;
+            self.try_step(KeptHistory { history: again }, path, place, *step)?;
         }
+        Ok(())
+    }
+
+    // Follows each of these steps after a history to which the path has led, the last one in the history itself, and keeps where it leads.
+    fn try_all(
+        &mut self,
+        history: KeptHistory,
+        path: &[Move],
+        place: usize,
+        steps: &[Step],
+    ) -> Result<(), AllocError>
+        requires sound { IsSound (arc_value self.old.script) self.old }
+        requires followed { IsPath (arc_value self.old.script) path.now history.history }
+        requires path { slice_get (paths_of self.old.nodes.items) place ≡ Some path.now }
+        ensures grown { OnOk result (HasGrown self.old self.new) }
+        ensures sound { OnOk result (IsSound (arc_value self.old.script) self.new) }
+        ensures tried { OnOk result (IsTrue self.new.is_complete → All (StepWasTried (arc_value self.old.script) self.new path.now) steps.now) }
+    {
+        let Some(parts) = steps.split_last() else {
+            return Ok(());
+        };
+        let (last, front) = parts;
+        self.try_each(&history.history, path, place, front)?;
+        self.try_step(history, path, place, *last)?;
         Ok(())
     }
 
@@ -503,13 +531,13 @@ impl Search {
     // Goes on from a history to which these steps have led, where this is known of what comes after it.
     fn go_on(
         &mut self,
-        history: &SearchedHistory,
+        history: KeptHistory,
         path: &[Move],
         place: usize,
         ahead: Ahead,
     ) -> Result<(), AllocError>
         requires sound { IsSound (arc_value self.old.script) self.old }
-        requires followed { IsPath (arc_value self.old.script) path.now history.now }
+        requires followed { IsPath (arc_value self.old.script) path.now history.history }
         requires path { slice_get (paths_of self.old.nodes.items) place ≡ Some path.now }
         requires ahead { IsAhead (arc_value self.old.script) path.now ahead }
         ensures grown { OnOk result (HasGrown self.old self.new) }
@@ -547,18 +575,18 @@ impl Search {
     // Goes on from a history to which these steps have led.
     fn go_on_from(
         &mut self,
-        history: &SearchedHistory,
+        history: KeptHistory,
         path: &[Move],
         place: usize,
     ) -> Result<(), AllocError>
         requires sound { IsSound (arc_value self.old.script) self.old }
-        requires followed { IsPath (arc_value self.old.script) path.now history.now }
+        requires followed { IsPath (arc_value self.old.script) path.now history.history }
         requires path { slice_get (paths_of self.old.nodes.items) place ≡ Some path.now }
         ensures grown { OnOk result (HasGrown self.old self.new) }
         ensures sound { OnOk result (IsSound (arc_value self.old.script) self.new) }
         ensures expanded { OnOk result (IsTrue self.new.is_complete → IsExpandedAt (arc_value self.old.script) self.new place) }
     {
-        match look_ahead(history, &self.away, path)? {
+        match look_ahead(&history.history, &self.away, path)? {
             Some(ahead) => self.go_on(history, path, place, ahead),
             None => {
                 self.is_complete = false;
@@ -580,9 +608,7 @@ impl Search {
             self.is_complete = false;
             return Ok(());
         };
-        let done = self.go_on_from(&history, &path, place);
-        history.close();
-        done
+        self.go_on_from(KeptHistory { history }, &path, place)
     }
 
     // Goes on from the history at a place and from those after it, from `more` at most. The place after the last of these.

@@ -5,7 +5,6 @@ ghost use Rattle.script_code.specs.Seen.{rows_of};
 ghost use Rattle.swift_explorer.specs.FoundText.{begins, began_before, broken_text, end_text, ended_text, found_text, many_text, outcome_text, outcomes_text, runs, runs_at_once, schedule_text, search_text, step_text, steps_text, turn_text, turns_before};
 
 use crate::exploration::FoundOutcomes;
-use crate::history::all_copied;
 use crate::moves::Move;
 use crate::outcome::RunOutcome;
 use itoa::Buffer;
@@ -13,6 +12,7 @@ use std::alloc::{AllocError, Global};
 use swift_log::EventLog;
 use swift_report::{Report, report_text};
 use swift_script::Script;
+use swift_steps::copy_all_fields;
 use swift_types::TaskId;
 
 fn put_number(out: &mut Vec<u8>, number: usize) -> Result<(), AllocError>
@@ -181,7 +181,7 @@ fn ended_report(alloc: Global, outcome: &RunOutcome) -> Result<Report, AllocErro
     ensures fields { IfOk result (λ report. map (λ rows. rows_of rows.items) report.fields.items ≡ map (λ rows. rows_of rows.items) outcome.now.fields.items) }
 {
     let endings = Vec::from_slice(alloc, &outcome.endings)?;
-    let fields = all_copied(alloc, &outcome.fields)?;
+    let fields = copy_all_fields(alloc, &outcome.fields)?;
     Ok(Report {
         journals: Vec::new(alloc),
         checkpoints: Vec::new(alloc),

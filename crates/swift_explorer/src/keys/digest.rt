@@ -1,13 +1,13 @@
 //! What a log says of tasks and groups, as numbers.
 
-ghost use Rattle.std.specs.Prelude.{◌≡◌, ◌+◌, ◌<◌, ◌≤◌, ◌^◌, ◌==◌, ◌||◌, if◌then◌else◌, false, ℕ, List, [], ◌∷◌, ◌++◌, length, pos, IfOk, OnOk};
+ghost use Rattle.std.specs.Prelude.{◌≡◌, ◌+◌, ◌-◌, ◌<◌, ◌≤◌, ◌^◌, ◌==◌, ◌||◌, if◌then◌else◌, false, ℕ, List, [], ◌∷◌, ◌++◌, length, pos, IfOk, OnOk};
 ghost use Rattle.std.specs.List.{cons_option};
 ghost use Rattle.swift_types.specs.declared.id.TaskId.{TaskId};
 ghost use Rattle.swift_events.specs.Events.{is_made, task_of};
 ghost use Rattle.swift_events.specs.Lives.{lived};
 ghost use Rattle.swift_events.specs.Relations.{asks, child_in, closes, ending_among, names_group, names_task, opens, own_in, waiter_in};
 ghost use Rattle.swift_groups.specs.Groups.{is_among};
-ghost use Rattle.swift_explorer.specs.CardsInside.{IsCard, IsKeyGroup, IsPast, IsPastGroup, card_of_parts, group_of_parts};
+ghost use Rattle.swift_explorer.specs.CardsInside.{AreCards, AreNoted, IsBlank, IsKeyGroup, IsNotedAt, IsPastGroup, OpenAtMost, card_of_parts, group_of_parts};
 ghost use Rattle.swift_explorer.specs.DigestNumbers.{IsWithin, IsWritten, card_numbers, ended_numbers, group_end, groups_numbers, head_numbers, other_of};
 ghost use Rattle.swift_digest.specs.Digests.{digest_of, one_if, own_link};
 ghost use Rattle.swift_explorer.specs.Numbers.{each_numbers, link_numbers, some_numbers, task_numbers};
@@ -205,17 +205,6 @@ fn group_end(event: Event) -> u64
     }
 }
 
-// Whether an event may say something for a task's card: most say nothing.
-#[tactic(auto, using(crate::proofs::Past::past))]
-fn may_change(task: TaskId, event: Event) -> bool
-    ensures { result ≡ false → IsPast task.0 event }
-{
-    if event.task().0 == task.0 {
-        return true;
-    }
-    other_of(event).0 == task.0
-}
-
 // Whether an event may say something for a group's card.
 fn may_change_groups(event: Event) -> bool
     ensures { result ≡ false → (o g : ℕ) (children : List TaskId) → IsPastGroup o g children event }
@@ -307,7 +296,6 @@ fn push_some(tasks: &mut Vec<TaskId>, task: Option<TaskId>) -> Result<(), AllocE
 }
 
 impl KeyCard {
-    #[tactic(auto, using(crate::proofs::Past::numbers_stay, crate::proofs::Past::flag_stays, crate::proofs::Past::count_stays))]
     fn note(&mut self, task: TaskId, event: Event) -> Result<(), AllocError>
         requires { self.old.opened < 2 ^ 63 }
         ensures life { OnOk result (self.new.life ≡ (if task_of event == task.0 then lived self.old.life event else self.old.life)) }
@@ -317,9 +305,6 @@ impl KeyCard {
         ensures named { OnOk result (self.new.named ≡ (self.old.named || names_task task.0 event)) }
         ensures opened { OnOk result (self.new.opened ≡ self.old.opened + one_if (opens task.0 event)) }
     {
-        if !may_change(task, event) {
-            return Ok(());
-        }
         self.life = life_noted(self.life, task, event);
         put_some_link(&mut self.links, own_link(task, event))?;
         put_some_task(&mut self.own, own_in(task, event))?;
@@ -355,22 +340,71 @@ impl KeyGroup {
     }
 }
 
-// The card of a task.
-fn card_of(alloc: Global, log: &[Event], task: TaskId) -> Result<KeyCard, AllocError>
-    ensures { IfOk result (λ c. IsCard c ((digest_of log.now).cards task.0)) }
+// The card of a task of which nothing was read.
+fn blank_card(alloc: Global) -> KeyCard
+    ensures { IsBlank result }
 {
-    let mut card = KeyCard {
+    KeyCard {
         life: Life::unborn(),
         links: Vec::new(alloc),
         own: Vec::new(alloc),
         waiters: Vec::new(alloc),
         named: false,
         opened: 0,
-    };
-    for event in log {
-        card.note(task, *event)?;
     }
-    Ok(card)
+}
+
+// So many of these.
+fn blank_cards(alloc: Global, tasks: u64) -> Result<Vec<KeyCard>, AllocError>
+    requires { tasks ≤ 2 ^ 32 }
+    ensures cards { IfOk result (λ cards. AreCards cards.items tasks (digest_of [])) }
+    ensures none { IfOk result (λ cards. OpenAtMost 0 cards.items) }
+{
+    let mut cards = Vec::with_capacity(alloc, tasks as usize)?;
+    'fill: while (cards.len() as u64) < tasks {
+        cards.push(blank_card(alloc))?;
+    }
+    Ok(cards)
+}
+
+// One of these cards after one more event, where there is one for this task.
+fn note_at(cards: &mut Vec<KeyCard>, task: TaskId, event: Event) -> Result<(), AllocError>
+    requires { OpenAtMost (2 ^ 63 - 1) cards.old.items }
+    ensures { OnOk result (IsNotedAt task.0 event cards.old.items cards.new.items) }
+{
+    let place = task.0 as usize;
+    if place >= cards.len() {
+        return Ok(());
+    }
+    cards[place].note(task, event)?;
+    Ok(())
+}
+
+// All of these cards after one more event. It says something for two tasks at most.
+fn note_all(cards: &mut Vec<KeyCard>, event: Event) -> Result<(), AllocError>
+    requires { OpenAtMost (2 ^ 63 - 2) cards.old.items }
+    ensures { OnOk result (AreNoted event cards.old.items cards.new.items) }
+{
+    let first = event.task();
+    let second = other_of(event);
+    note_at(cards, first, event)?;
+    if second.0 == first.0 {
+        return Ok(());
+    }
+    note_at(cards, second, event)?;
+    Ok(())
+}
+
+// The cards of so many tasks. Each event is read once.
+fn cards_of(alloc: Global, log: &[Event], tasks: u64) -> Result<Vec<KeyCard>, AllocError>
+    requires { tasks ≤ 2 ^ 32 }
+    ensures { IfOk result (λ cards. AreCards cards.items tasks (digest_of log.now)) }
+{
+    let mut cards = blank_cards(alloc, tasks)?;
+    for event in log {
+        note_all(&mut cards, *event)?;
+    }
+    Ok(cards)
 }
 
 // The card of a group.
@@ -480,9 +514,9 @@ fn put_cards(alloc: Global, key: &mut Vec<i64>, log: &[Event], tasks: u64) -> Re
     requires { tasks ≤ 2 ^ 32 }
     ensures { OnOk result (key.new.items ≡ key.old.items ++ each_numbers card_numbers (digest_of log.now).cards tasks) }
 {
-    for place in 0..tasks {
-        let card = card_of(alloc, log, TaskId(place as u32))?;
-        put_card(key, &card)?;
+    let cards = cards_of(alloc, log, tasks)?;
+    for card in &cards {
+        put_card(key, card)?;
     }
     Ok(())
 }
@@ -521,7 +555,8 @@ fn put_groups(
     Ok(())
 }
 
-/// Appends the digest of a log: all of it that decides what may come next. Linear in its length for each task and each group of a task.
+/// Appends the digest of a log: all of it that decides what may come next. Linear in its length, once for the tasks, and once more for each
+/// group of a task.
 pub fn put_digest(alloc: Global, key: &mut Vec<i64>, log: &[Event]) -> Result<(), AllocError>
     ensures { OnOk result (IsWritten (digest_of log.now) key.old.items key.new.items) }
 {

@@ -49,7 +49,7 @@ fn put(bytes: &mut Vec<u8>, number: i64) -> Result<(), AllocError>
 pub fn pack(alloc: Global, numbers: &[i64]) -> Result<Vec<u8>, AllocError>
     ensures { IfOk result (λ bytes. bytes.items ≡ all_packed numbers.now) }
 {
-    let mut bytes = Vec::new(alloc);
+    let mut bytes = Vec::with_capacity(alloc, numbers.len())?;
     for number in numbers {
         put(&mut bytes, *number)?;
     }

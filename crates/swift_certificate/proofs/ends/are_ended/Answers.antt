@@ -1,7 +1,9 @@
-use Rattle.std.proofs.Common.{rules}
+use Rattle.std.proofs.Common.{◌<◌, get_or, length, map, rules}
 use Rattle.std.proofs.lemmas.List.{length-map}
+use Rattle.std.proofs.lemmas.Option.{slice_get-get_or}
 use Rattle.script_code.specs.Seen.{rows_of}
 use Rattle.swift_certificate.specs.Reports.{report_view}
+use Rattle.swift_certificate.specs.ReplayInside.{at_the_start}
 use Rattle.swift_certificate.proofs.Ended.{all_ended, at_place, ended_next, seen_at}
 use Rattle.swift_certificate.proofs.ends.are_ended.Goals as goal
 
@@ -9,13 +11,16 @@ pub loop-place-preserved : goal.loop-place-preserved
 loop-place-preserved c =
     let r = c.args.report.now in
     let k = c.loop-place.place in
-    let at = at_place c.args.rows.now k c.index-rows-place.result (search rules) c.index-rows-place.is in
+    let row = get_or c.args.rows.now k at_the_start in
+    let below : k < length c.args.rows.now = search rules in
+    let at = slice_get-get_or c.args.rows.now k at_the_start below in
     let journal = at_place r.journals.items k c.index.result.now (search rules) c.index.ensures in
     let checkpoint = seen_at (λ x. x.view) r.checkpoints.items k c.index-in-loop-place.result.now (search rules) c.index-in-loop-place.ensures in
     let fields = seen_at (λ x. rows_of x.items) r.fields.items k c.index-in-loop-place-2.result.now (search rules) c.index-in-loop-place-2.ensures in
-    ended_next c.args.script.now c.args.rows.now (report_view r) k c.index-rows-place.result c.index.result.now c.index-in-loop-place.result.now.view (rows_of c.index-in-loop-place-2.result.now.items) c.loop-place.invariant at journal checkpoint fields (search rules)
+    let own = seen_at (λ x. rows_of x.items) c.args.own.now k c.index-own-place.result (search rules) c.index-own-place.is in
+    ended_next c.args.script.now c.args.rows.now (map (λ x. rows_of x.items) c.args.own.now) (report_view r) k row (rows_of c.index-own-place.result.items) c.index.result.now c.index-in-loop-place.result.now.view (rows_of c.index-in-loop-place-2.result.now.items) c.loop-place.invariant at own journal checkpoint fields (search rules)
 
 pub returns : goal.returns
 returns c = λ yes.
     (let r = c.args.report.now in
-    all_ended c.args.script.now c.args.rows.now (report_view r) c.loop-place.place (search rules) c.loop-place.invariant (search rules) (search rules) (search (rules, length-map)) (search (rules, length-map)))
+    all_ended c.args.script.now c.args.rows.now (map (λ x. rows_of x.items) c.args.own.now) (report_view r) c.loop-place.place (search rules) c.loop-place.invariant (search rules) (search (rules, length-map)) (search rules) (search (rules, length-map)) (search (rules, length-map)))

@@ -1,5 +1,6 @@
-use Rattle.std.proofs.Common.{◌≡◌, ◌<◌, ℕ, ℤ, List, Some}
+use Rattle.std.proofs.Common.{◌≡◌, ◌<◌, ℕ, ℤ, List, Some, map}
 use Rattle.std.specs.Prelude.{slice_get}
+use Rattle.script_code.specs.Seen.{rows_of}
 use Rattle.swift_journal.specs.Records.{RecordView}
 use Rattle.swift_journal.specs.Checkpoints.{CheckpointView}
 use Rattle.swift_certificate.specs.declared.playing.ExecutorProgress.{ExecutorProgress}
@@ -8,6 +9,6 @@ use Rattle.swift_certificate.specs.ReplayInside.{EndsAt}
 use Rattle.swift_certificate.proofs.ends.are_ended.Given as goal
 
 abbrev pub invariant-loop-place : goal.invariant-loop-place
-invariant-loop-place l = (e : ℕ) (row : ExecutorProgress) (journal : List RecordView) (checkpoint : CheckpointView) (fields : List (List ℤ)) → e < l.place
-    → slice_get l.rows e ≡ Some row → slice_get (report_view l.report).journals e ≡ Some journal → slice_get (report_view l.report).checkpoints e ≡ Some checkpoint → slice_get (report_view l.report).fields e ≡ Some fields
-    → EndsAt l.script e row journal checkpoint fields
+invariant-loop-place l = (e : ℕ) (row : ExecutorProgress) (own : List (List ℤ)) (journal : List RecordView) (checkpoint : CheckpointView) (fields : List (List ℤ)) → e < l.place
+    → slice_get l.rows e ≡ Some row → slice_get (map (λ x. rows_of x.items) l.own) e ≡ Some own → slice_get (report_view l.report).journals e ≡ Some journal → slice_get (report_view l.report).checkpoints e ≡ Some checkpoint → slice_get (report_view l.report).fields e ≡ Some fields
+    → EndsAt l.script e row own journal checkpoint fields

@@ -13,4 +13,4 @@ returns c =
     let number : turn.number ≡ c.args.ready.number = omega (arith, c.if-number-ready.false) in
     let there = found_folded c.args.checkpoint.now.view.folded c.args.row.now.folded (folded_view turn) lt c.in_ok-of.ensures ∙ ap (λ (x : FoldedView). Some x) (same_turn (folded_view turn) c.args.task c.args.ready.number task number) in
     map_answer c.go_on.result _ _ (λ done taken. folds c.args.checkpoint.now.view c.args.row.now _ c.args.task c.args.ready (frame_view c.top.result.now) (effect_views turn.effects.items) (exit_view turn.exit) (frame_if turn.after) done
-    taken c.top.ensures (search rules) there refl refl refl) c.go_on.ensures
+    taken c.top.ensures (search rules) there refl refl) c.go_on.ensures

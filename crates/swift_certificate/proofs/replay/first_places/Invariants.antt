@@ -1,6 +1,14 @@
-use Rattle.std.proofs.Common.{take}
-use Rattle.swift_certificate.specs.ReplayInside.{AreFirstProgresses}
+use Rattle.std.proofs.Common.{◌≡◌, ◌-◌, ◌≤◌, vec_len, replicate}
+use Rattle.std.specs.Prelude.{vec_capacity}
+use Rattle.swift_certificate.specs.ReplayInside.{at_the_start}
 use Rattle.swift_certificate.proofs.replay.first_places.Given as goal
 
-abbrev pub invariant-loop-checkpoint : goal.invariant-loop-checkpoint
-invariant-loop-checkpoint l = AreFirstProgresses (take l.checkpoint-index l.checkpoints) l.rows.items
+abbrev pub invariant-fill : goal.invariant-fill
+invariant-fill l = record {
+  none : l.rows.items ≡ replicate (vec_len l.rows) at_the_start;
+  few : vec_len l.rows ≤ l.executors;
+  room : l.executors ≤ vec_capacity l.rows;
+}
+
+abbrev pub decreases-fill : goal.decreases-fill
+decreases-fill l = l.executors - vec_len l.rows

@@ -12,7 +12,7 @@ loop-place-preserved c =
     let path = c.args.path.now in
     let k = c.loop-place.place in
     let x = c.loop-place.history in
-    let script = arc_value c.args.history.now.script in
+    let script = arc_value c.args.history.now.steps.script in
     let before = c.loop-place.invariant in
     let done = c.in_ok-step.field-0 in
     record {
@@ -24,11 +24,11 @@ loop-place-preserved c =
 pub returns-in-No-clause-stopped : goal.returns-in-No-clause-stopped
 returns-in-No-clause-stopped c =
     let k = c.loop-place.place in
-    stopped_at (arc_value c.args.history.now.script) c.args.path.now k _ _ c.loop-place.history c.loop-place.invariant.path (read_at c.args.path.now k _ c.loop-place-test.true) c.step_fault-fault.ensures
+    stopped_at (arc_value c.args.history.now.steps.script) c.args.path.now k _ _ c.loop-place.history c.loop-place.invariant.path (read_at c.args.path.now k _ c.loop-place-test.true) c.step_fault-fault.ensures
 
 pub returns-clause-path : goal.returns-clause-path
 returns-clause-path c = λ _.
-    subst (λ (ms : List Move). IsPath (arc_value c.args.history.now.script) ms c.loop-place.history) (take_all c.loop-place.place c.args.path.now (omega (arith, c.loop-place-test.false))) c.loop-place.invariant.path
+    subst (λ (ms : List Move). IsPath (arc_value c.args.history.now.steps.script) ms c.loop-place.history) (take_all c.loop-place.place c.args.path.now (omega (arith, c.loop-place-test.false))) c.loop-place.invariant.path
 
 pub step-requires : goal.step-requires
-step-requires c = path_some (arc_value c.args.history.now.script) (take c.loop-place.place c.args.path.now) c.loop-place.history (ap arc_value c.loop-place.invariant.script) c.loop-place.invariant.path
+step-requires c = path_some (arc_value c.args.history.now.steps.script) (take c.loop-place.place c.args.path.now) c.loop-place.history (ap arc_value c.loop-place.invariant.script) c.loop-place.invariant.path

@@ -6,11 +6,11 @@ use Rattle.swift_explorer.proofs.Paths.{path_push, path_some, was_done}
 use Rattle.swift_explorer.proofs.completion.push_step.Goals as goal
 
 pub step-requires : goal.step-requires
-step-requires c = path_some (arc_value c.args.history.now.script) c.args.path.now.items c.args.history.now refl c.requires
+step-requires c = path_some (arc_value c.args.history.now.steps.script) c.args.path.now.items c.args.history.now refl c.requires
 
 pub returns-clause-path : goal.returns-clause-path
 returns-clause-path c = λ _.
-    let script = arc_value c.args.history.now.script in
+    let script = arc_value c.args.history.now.steps.script in
     let done = c.in_ok-step.field-0 in
     subst (λ (ms : List Move). IsPath script ms c.step.new.self) (sym c.in_ok-push.ensures.items)
     (path_push script c.args.path.now.items c.args.step c.args.history.now c.step.new.self done refl (c.in_ok-step.ensures.follows (was_done done c.in_default.not-No)) c.requires)

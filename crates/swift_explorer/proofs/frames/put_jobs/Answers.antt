@@ -7,7 +7,7 @@ use Rattle.swift_history.specs.Jobs.{job_facts}
 use Rattle.swift_history.specs.TurnEnds.{JobFacts}
 use Rattle.swift_explorer.specs.Numbers.{list_numbers}
 use Rattle.swift_explorer.specs.KeysInside.{job_left, job_numbers}
-use Rattle.swift_explorer.proofs.Followed.{view_is}
+use Rattle.swift_steps.proofs.Steps.{view_is}
 use Rattle.swift_explorer.proofs.Written.{last_first, one_more}
 use Rattle.swift_explorer.proofs.frames.put_jobs.Goals as goal
 

@@ -3,14 +3,14 @@ use Rattle.std.specs.Prelude.{pos}
 use Rattle.std.specs.Option.{option_map}
 use Rattle.swift_explorer.specs.Numbers.{list_numbers, option_numbers}
 use Rattle.swift_explorer.proofs.Steps.{two_writes}
-use Rattle.swift_explorer.specs.declared.waiting.Ready.{Ready}
+use Rattle.swift_steps.specs.declared.next_turn.NextTurn.{NextTurn}
 use Rattle.swift_explorer.specs.KeysInside.{ReadyView, ready_numbers, ready_view}
 use Rattle.swift_explorer.proofs.Written.{last_first, one_more}
 use Rattle.swift_explorer.proofs.frames.put_ready.Goals as goal
 
 pub loop-task-preserved : goal.loop-task-preserved
 loop-task-preserved c =
-    let see : Option Ready → Option ReadyView = option_map ready_view in
+    let see : Option NextTurn → Option ReadyView = option_map ready_view in
     let k = c.loop-task.key.items in
     let task = c.in-Some.task in
     one_more (option_numbers ready_numbers) (see task) (reverse (map see c.pop.new.self.items)) k c.put_one_if.new.key.items (two_writes _ _ _ (pos 1 ∷ []) _ c.in_ok-push.ensures.items c.in_ok-put_one_if.ensures)
@@ -21,5 +21,5 @@ pub returns : goal.returns
 returns c =
     let none : c.loop-task.tasks.items ≡ [] = search rules in
     c.in_ok-push-2.ensures.items
-    ∙ ap (λ (ts : List (Option Ready)). c.loop-task.key.items ++ list_numbers (option_numbers ready_numbers) (reverse (map (option_map ready_view) ts))) (sym none)
+    ∙ ap (λ (ts : List (Option NextTurn)). c.loop-task.key.items ++ list_numbers (option_numbers ready_numbers) (reverse (map (option_map ready_view) ts))) (sym none)
     ∙ c.loop-task.invariant

@@ -11,7 +11,7 @@ loop-step-preserved c =
     let path = c.args.path.now in
     let k = c.loop-step.step-index in
     let x = c.loop-step.history in
-    let script = arc_value c.args.history.now.script in
+    let script = arc_value c.args.history.now.steps.script in
     let before = c.loop-step.invariant in
     let done = c.in_ok-step.field-0 in
     record {
@@ -22,7 +22,7 @@ loop-step-preserved c =
 
 pub returns-clause-path : goal.returns-clause-path
 returns-clause-path c = λ _.
-    subst (λ (ms : List Move). IsPath (arc_value c.args.history.now.script) ms c.loop-step.history) (take_all c.loop-step.step-index c.args.path.now (omega (arith, c.loop-step-test.false))) c.loop-step.invariant.path
+    subst (λ (ms : List Move). IsPath (arc_value c.args.history.now.steps.script) ms c.loop-step.history) (take_all c.loop-step.step-index c.args.path.now (omega (arith, c.loop-step-test.false))) c.loop-step.invariant.path
 
 pub step-requires : goal.step-requires
-step-requires c = path_some (arc_value c.args.history.now.script) (take c.loop-step.step-index c.args.path.now) c.loop-step.history (ap arc_value c.loop-step.invariant.script) c.loop-step.invariant.path
+step-requires c = path_some (arc_value c.args.history.now.steps.script) (take c.loop-step.step-index c.args.path.now) c.loop-step.history (ap arc_value c.loop-step.invariant.script) c.loop-step.invariant.path

@@ -5,6 +5,6 @@ use Rattle.swift_explorer.proofs.search.follow.Given as goal
 
 abbrev pub invariant-loop-step : goal.invariant-loop-step
 invariant-loop-step l = record {
-  script : l.history.script ≡ l.fn.history.script;
-  path : IsPath (arc_value l.fn.history.script) (take l.step-index l.path) l.history;
+  script : l.history.steps.script ≡ l.fn.history.steps.script;
+  path : IsPath (arc_value l.fn.history.steps.script) (take l.step-index l.path) l.history;
 }

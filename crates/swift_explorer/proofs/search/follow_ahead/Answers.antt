@@ -11,13 +11,13 @@ use Rattle.swift_explorer.proofs.search.follow_ahead.Goals as goal
 pub run_ahead-requires : goal.run_ahead-requires
 run_ahead-requires c =
     let y = c.follow_one.new.history in
-    let script = arc_value c.args.history.now.script in
+    let script = arc_value c.args.history.now.steps.script in
     let done = was_done c.in_ok-done.done c.in_default.not-No in
     let p = c.in_ok-done.ensures.path done in
     let f = c.in_ok-done.ensures.last done in
-    let own : script ≡ arc_value y.script = sym f.is.script_is in
+    let own : script ≡ arc_value y.steps.script = sym f.is.followed.script_is in
     record {
-      history = path_some script _ y f.is.script_is p;
+      history = path_some script _ y f.is.followed.script_is p;
       told = subst (λ (s : ScriptView). AreTold s c.args.away.now) own c.requires.told;
       marked = subst (λ (s : ScriptView). HaveMarks s c.args.marks.now) own c.requires.marked;
       hold = subst StartsHold own c.requires.hold;
@@ -25,7 +25,7 @@ run_ahead-requires c =
 
 pub returns : goal.returns
 returns c =
-    let script = arc_value c.args.history.now.script in
+    let script = arc_value c.args.history.now.steps.script in
     let y = c.follow_one.new.history in
     let z = c.run_ahead.new.self in
     let f = c.in_ok-done.done in

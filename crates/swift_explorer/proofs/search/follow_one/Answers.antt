@@ -2,13 +2,13 @@ use Rattle.std.proofs.Common.{refl}
 use Rattle.std.specs.Arc.{arc_value}
 use Rattle.swift_explorer.specs.HistoryInside.{GoesOn}
 use Rattle.swift_explorer.proofs.Paths.{breaks_if, path_push, path_some}
-use Rattle.swift_explorer.proofs.Ran.{if_done}
+use Rattle.swift_explorer.proofs.Followed.{if_done}
 use Rattle.swift_explorer.proofs.Trying.{followed_by}
 use Rattle.swift_explorer.proofs.search.follow_one.Goals as goal
 
 pub returns : goal.returns
 returns c =
-    let script = arc_value c.args.history.now.script in
+    let script = arc_value c.args.history.now.steps.script in
     let path = c.args.path.now in
     let m = c.args.step in
     let x = c.args.history.now in
@@ -21,4 +21,4 @@ returns c =
     }
 
 pub step-requires : goal.step-requires
-step-requires c = path_some (arc_value c.args.history.now.script) c.args.path.now c.args.history.now refl c.requires
+step-requires c = path_some (arc_value c.args.history.now.steps.script) c.args.path.now c.args.history.now refl c.requires

@@ -9,5 +9,5 @@ pub returns : goal.returns
 returns c =
     let x = c.args.history.now in
     let a : Ahead = record { steps = c.in-Some.steps; end = c.in_ok-end.end; has_room = c.has_room-has_room.result } in
-    let next : AreTold (arc_value x.script) c.args.away.now → HasEachStep x a.steps.items = search rules in
-    ahead_is (arc_value x.script) c.args.path.now a x refl c.requires.path (next c.requires.told) c.in_ok-end.ensures.reached c.in_ok-end.ensures.known c.has_room-has_room.ensures
+    let next : AreTold (arc_value x.steps.script) c.args.away.now → HasEachStep x a.steps.items = search rules in
+    ahead_is (arc_value x.steps.script) c.args.path.now a x refl c.requires.path (next c.requires.told) c.in_ok-end.ensures.reached c.in_ok-end.ensures.known c.has_room-has_room.ensures

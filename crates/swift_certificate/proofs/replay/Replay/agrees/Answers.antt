@@ -1,6 +1,10 @@
-use Rattle.std.proofs.Common.{rules, ◌≡◌, ◌<◌, ℕ, length, refl, subst}
+use Rattle.std.proofs.Common.{rules, ◌≡◌, ◌<◌, ℕ, ℤ, List, Vec, length, map, refl, subst}
 use Rattle.std.specs.Arc.{arc_value}
-use Rattle.swift_script.specs.Scripts.{root_count}
+use Rattle.std.specs.declared.alloc.Global.{Global}
+use Rattle.script_code.specs.Seen.{rows_of}
+use Rattle.swift_script.specs.Scripts.{ScriptView, root_count}
+use Rattle.swift_steps.specs.OpenHistories.{rows_at}
+use Rattle.swift_certificate.specs.declared.playing.ExecutorProgress.{ExecutorProgress}
 use Rattle.swift_certificate.specs.Reports.{report_view}
 use Rattle.swift_certificate.specs.ReplayInside.{AreEndedAt}
 use Rattle.swift_certificate.proofs.Ended.{legal_is}
@@ -10,7 +14,12 @@ use Rattle.swift_certificate.proofs.replay.Replay.agrees.Goals as goal
 pub returns : goal.returns
 returns c =
     let x = c.args.self.now in
-    let roots : x.roots ≡ root_count (arc_value x.script) = search rules in
+    let report = report_view c.args.report.now in
+    let roots : x.history.roots ≡ root_count (arc_value x.history.script) = search rules in
     let script = c.deref-2.ensures in
     let many : length (report_view c.args.report.now).endings ≡ c.len.result = search rules in
-    map_ok c.are_ended.result _ _ (λ yes ended is. legal_is (arc_value x.script) (report_view c.args.report.now) x c.requires (search rules) roots (search rules) (search rules) (λ t g lt below. c.if-not-have_closed.ensures refl t g (subst (λ (n : ℕ). t < n) many lt) below) (subst (λ p. AreEndedAt p x.rows.items (report_view c.args.report.now)) script (subst (λ rows. AreEndedAt c.deref-2.result.now rows (report_view c.args.report.now)) c.deref-3.ensures.value (ended is)))) c.are_ended.ensures
+    map_ok c.are_ended.result _ _ (λ yes ended is. legal_is (report_view c.args.report.now) x c.requires (search rules) roots (search rules) (search rules) (λ t g lt below. c.if-not-have_closed.ensures refl t g (subst (λ (n : ℕ). t < n) many lt) below)
+    (subst (λ (p : ScriptView). AreEndedAt p x.rows.items (rows_at x.history) report) script
+    (subst (λ (rows : List ExecutorProgress). AreEndedAt c.deref-2.result.now rows (rows_at x.history) report) c.deref-3.ensures.value
+    (subst (λ (fs : List (Vec (Vec ℤ Global) Global)). AreEndedAt c.deref-2.result.now c.deref-3.result.now (map (λ (rows : Vec (Vec ℤ Global) Global). rows_of rows.items) fs) report) c.deref-4.ensures.value
+    (ended is))))) c.are_ended.ensures

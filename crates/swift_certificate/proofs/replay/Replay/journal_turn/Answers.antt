@@ -1,26 +1,45 @@
-use Rattle.std.proofs.Common.{◌∙◌, IfSome, sym, subst, refl}
+use Rattle.std.proofs.Common.{rules, ◌≡◌, ◌∙◌, List, refl, sym, subst, ap}
+use Rattle.std.specs.Prelude.{slice_get, Some}
 use Rattle.std.proofs.lemmas.Option.{slice_get_read}
-use Rattle.std.specs.Arc.{arc_value}
+use Rattle.swift_types.specs.declared.id.TaskId.{TaskId}
+use Rattle.swift_interpreter.specs.declared.frame.Frame.{Frame}
+use Rattle.swift_interpreter.specs.Frames.{FrameView, frame_view}
+use Rattle.swift_journal.specs.Records.{RecordView}
+use Rattle.swift_turn.specs.Body.{HasFrames, IfRunning}
+use Rattle.swift_steps.specs.NextTurns.{given_at}
+use Rattle.swift_steps.specs.declared.next_turn.NextTurn.{NextTurn}
+use Rattle.swift_steps.specs.declared.played.PlayedTurn.{PlayedTurn}
+use Rattle.swift_steps.specs.OpenHistories.{Plays, record_of}
+use Rattle.swift_steps.proofs.Ran.{if_yes}
+use Rattle.swift_steps.proofs.Steps.{at_rest}
 use Rattle.swift_certificate.specs.Reports.{report_view}
-use Rattle.swift_certificate.specs.ReplayInside.{FollowsRecord}
-use Rattle.swift_certificate.proofs.Steps.{followed_ran, journal_is, map_ok}
+use Rattle.swift_certificate.proofs.Steps.{journal_is, replay_ran, some_of}
 use Rattle.swift_certificate.proofs.replay.Replay.journal_turn.Goals as goal
 
-pub returns-in-Some-followed-clause-script : goal.returns-in-Some-followed-clause-script
-returns-in-Some-followed-clause-script c = c.apply.ensures.script
+pub play-requires : goal.play-requires
+play-requires c = at_rest _ _ _ c.args.self.now.history c.requires.replay.is
 
-pub returns-in-Some-followed-clause-follows : goal.returns-in-Some-followed-clause-follows
-returns-in-Some-followed-clause-follows c =
+pub is_next-requires : goal.is_next-requires
+is_next-requires c =
+    let plays = some_of _ _ (Plays c.args.self.now.history c.play.new.self) c.in-Some-2.is c.in_ok-turn.ensures.plays in
+    subst HasFrames (sym plays.last) tt
+
+pub apply_played-requires : goal.apply_played-requires
+apply_played-requires c = (c.args.self.now.history, some_of _ _ (Plays c.args.self.now.history c.play.new.self) c.in-Some-2.is c.in_ok-turn.ensures.plays)
+
+pub returns-clause-follows : goal.returns-clause-follows
+returns-clause-follows c =
     let x = c.args.self.now in
     let k = c.args.place in
     let row = c.index_mut-row.result.now in
     let journal = c.index-journal.result.now in
-    let done = c.in-Some-followed.done in
-    let ready = c.in-Some.ready in
-    let was = sym c.take.ensures.found ∙ c.in-Some.is in
+    let turn = c.in-Some-2.turn in
+    let plays = some_of _ _ (Plays x.history c.play.new.self) c.in-Some-2.is c.in_ok-turn.ensures.plays in
+    let task = some_of _ _ (λ (t : PlayedTurn). t.task ≡ c.args.task) c.in-Some-2.is c.in_ok-turn.ensures.task in
+    let of = some_of _ _ (λ (f : Frame). (g : NextTurn) → given_at x.history.tasks.items c.args.task.0 ≡ Some g → IfRunning g.body.task.frames (λ p. p ≡ frame_view f)) c.in-Some.is c.in_ok-frame.ensures in
+    let next = c.in_ok-is_next.ensures (search rules) in
+    let own : plays.frame ≡ frame_view c.in-Some.frame = subst (λ (fs : List FrameView). IfRunning fs (λ p. p ≡ frame_view c.in-Some.frame)) plays.first (of plays.before (subst (λ (t : TaskId). given_at x.history.tasks.items t.0 ≡ Some plays.before) task plays.takes.was)) in
+    let here : turn.place ≡ k = search rules in
     let at = slice_get_read x.rows.items _ k row refl c.requires.place c.index_mut-row.ensures.value in
-    let here = subst (λ o. IfSome o (λ d. FollowsRecord journal row c.play.new.row c.args.task ready c.args.env d)) c.in-Some-followed.is c.in_ok-followed.ensures in
-    let follows = subst (λ (rs : _). FollowsRecord rs row c.play.new.row c.args.task ready c.args.env done) (sym (journal_is c.args.report.now.journals.items k journal c.requires.journal c.index-journal.ensures)) here in
-    map_ok c.apply.result _ _ (λ goes_on applied yes. followed_ran (arc_value x.script) (report_view c.args.report.now) x _ c.apply.new.self k c.args.task ready c.args.env row c.play.new.row done
-    c.requires.replay (record { script_is = refl; book_is = refl; roots_are = refl; rows_are = refl; at = at; was = was; taken_out = c.take.ensures.rest })
-    c.requires.begun (c.requires.runs.on ready was) follows (applied yes)) c.apply.ensures.applies
+    let there = ap (λ (rs : List RecordView). slice_get rs row.played) (journal_is c.args.report.now.journals.items k journal c.requires.journal c.index-journal.ensures) ∙ next.there ∙ ap (λ (p : FrameView). Some (record_of turn next.worker p)) (sym own) in
+    if_yes c.apply_played.result _ _ (λ follows. replay_ran (report_view c.args.report.now) x _ turn next.worker plays.frame k row c.is_next.new.row c.requires.replay (follows x.history next.worker plays) here at refl there next.played next.folded) c.apply_played.ensures.follows

@@ -1,22 +1,17 @@
-use Rattle.std.proofs.Common.{rules, ◌≡◌, ◌∙◌, List, refl, sym, ap}
-use Rattle.std.specs.Prelude.{Option}
-use Rattle.std.proofs.lemmas.Option.{none-some}
-use Rattle.std.specs.Arc.{arc_value}
-use Rattle.swift_tasks.specs.Books.{BookView, empty_book}
-use Rattle.swift_certificate.specs.declared.waiting.NextTurn.{NextTurn}
-use Rattle.swift_certificate.specs.ReplayInside.{given_at}
+use Rattle.std.proofs.Common.{◌∙◌, ℤ, [], Vec, map, ap}
+use Rattle.std.specs.declared.alloc.Global.{Global}
+use Rattle.script_code.specs.Seen.{rows_of}
+use Rattle.swift_journal.specs.Checkpoints.{CheckpointRoomView}
 use Rattle.swift_certificate.specs.Reports.{report_view}
-use Rattle.swift_certificate.proofs.First.{first_followed}
+use Rattle.swift_certificate.proofs.Steps.{places_first, starts_from}
 use Rattle.swift_certificate.proofs.replay.Replay.new.Goals as goal
 
-pub returns : goal.returns
-returns c =
-    let script = arc_value c.args.script.now in
-    let empty : c.in-Ok.book ≡ empty_book script = search rules in
+pub returns-clause-first : goal.returns-clause-first
+returns-clause-first c =
+    let first = c.in_ok-new.ensures.first in
     record {
-      script_is = search rules;
-      book_is = ap (λ (b : BookView). b.script) empty;
-      none = search rules;
-      scripts = λ t g is. absurd (none-some g (ap (λ (gs : List (Option NextTurn)). given_at gs t) (sym c.new-2.ensures.items) ∙ is));
-      followed = first_followed script (report_view c.args.report.now) c.args.report.now.checkpoints.items c.in_ok-rows.rows.items c.in-Ok.book c.new-2.result.items c.new-2.ensures.items refl (search rules) empty;
+      blocks = [];
+      is = first.starts _ (starts_from c.args.report.now.checkpoints.items _
+          (ap (λ (fs : Vec (Vec (Vec ℤ Global) Global) Global). map (λ (rows : Vec (Vec ℤ Global) Global). rows_of rows.items) fs.items) c.in_ok-new.ensures.fields ∙ c.in_ok-fields.ensures ∙ ap (map (λ (d : CheckpointRoomView). d.view.fields)) c.deref.ensures.value));
+      places = places_first (report_view c.args.report.now) c.in_ok-rows.rows.items _ c.in_ok-rows.ensures;
     }

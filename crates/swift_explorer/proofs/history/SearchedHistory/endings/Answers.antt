@@ -6,7 +6,7 @@ use Rattle.swift_explorer.proofs.history.SearchedHistory.endings.Goals as goal
 
 pub loop-place-preserved : goal.loop-place-preserved
 loop-place-preserved c =
-    let log = c.args.self.now.book.log in
+    let log = c.args.self.now.steps.book.log in
     let es = c.loop-place.endings.items in
     let many : length es ≡ c.loop-place.place = c.loop-place.invariant.many in
     record {

@@ -2,4 +2,4 @@ use Rattle.swift_explorer.specs.HistoryInside.{HaveClosed}
 use Rattle.swift_explorer.proofs.history.SearchedHistory.has_closed_all.Given as goal
 
 abbrev pub invariant-loop-place : goal.invariant-loop-place
-invariant-loop-place l = HaveClosed l.self.book.log l.place
+invariant-loop-place l = HaveClosed l.self.steps.book.log l.place

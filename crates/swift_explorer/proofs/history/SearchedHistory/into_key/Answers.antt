@@ -18,10 +18,10 @@ pub returns : goal.returns
 returns c =
     let x = c.args.self in
     let waiting = c.in_ok-put.ensures ∙ ap (λ (js : List JobFacts). c.new-key.result.items ++ list_numbers job_numbers (reverse (map job_left js))) c.close-log.ensures.jobs in
-    let used = c.in_ok-put_flags.ensures ∙ ap (λ (us : List Bool). c.put_jobs-put.new.key.items ++ list_numbers flag_numbers us) c.deref.ensures.value in
+    let used = c.in_ok-put_flags.ensures ∙ ap (λ (us : List Bool). c.reserve.new.self.items ++ list_numbers flag_numbers us) c.deref.ensures.value ∙ ap (λ (ks : List ℤ). ks ++ list_numbers flag_numbers x.used.items) c.reserve.ensures.items in
     let fields = c.in_ok-put_fields.ensures ∙ ap (λ (l : List (Vec (Vec ℤ Global) Global)). c.put_flags.new.key.items ++ fields_numbers (map (λ (rows : Vec (Vec ℤ Global) Global). rows_of rows.items) l)) c.deref-2.ensures.value in
     let rest : c.put_ready.new.key.items ≡ rest_of x =
-    rest_written (map job_left (jobs_held 0 x.book.held)) x.used.items (rows_at x) (map (option_map ready_view) x.tasks.items) _ _ _ _ _ c.new-key.ensures.items waiting used fields c.in_ok-put_ready.ensures in
+    rest_written (map job_left (jobs_held 0 x.steps.book.held)) x.used.items (rows_at x) (map (option_map ready_view) x.steps.tasks.items) _ _ _ _ _ c.new-key.ensures.items waiting used fields c.in_ok-put_ready.ensures in
     let log = c.deref-3.ensures.value ∙ c.in_ok-events.ensures ∙ c.close-log.ensures.log in
     record {
       written = subst (λ (es : List Event). IsWritten (digest_of es) (rest_of x) c.put_digest.new.key.items) log

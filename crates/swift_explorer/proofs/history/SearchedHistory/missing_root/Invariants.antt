@@ -2,4 +2,4 @@ use Rattle.swift_explorer.specs.HistoryInside.{AreThere}
 use Rattle.swift_explorer.proofs.history.SearchedHistory.missing_root.Given as goal
 
 abbrev pub invariant-loop-place : goal.invariant-loop-place
-invariant-loop-place l = AreThere l.place l.self.book.log
+invariant-loop-place l = AreThere l.place l.self.steps.book.log

@@ -1,37 +1,39 @@
-use Rattle.std.proofs.Common.{◌≡◌, ◌<◌, ◌∙◌, ℤ, Vec, length, refl, sym, ap, arith}
-use Rattle.std.specs.Prelude.{Some, slice_get}
-use Rattle.std.specs.declared.alloc.Global.{Global}
+use Rattle.std.proofs.Common.{◌≡◌, ◌<◌, length, refl, subst, sym, ap, arith}
 use Rattle.std.specs.Arc.{arc_value}
-use Rattle.script_code.specs.Seen.{rows_of}
-use Rattle.swift_interpreter.specs.Frames.{effect_views}
-use Rattle.swift_interpreter.specs.TurnStates.{exit_view}
-use Rattle.std.proofs.lemmas.List.{get_or_read_under}
-use Rattle.std.proofs.lemmas.Option.{slice_get-get_or}
-use Rattle.swift_turn.specs.Body.{BodyView, PhaseView, idle}
-use Rattle.swift_explorer.proofs.Ran.{if_done, run_step}
-use Rattle.swift_explorer.proofs.Rows.{rows_here, rows_many, rows_set}
+use Rattle.swift_types.specs.declared.id.TaskId.{TaskId}
+use Rattle.swift_history.specs.Histories.{ran}
+use Rattle.swift_turn.specs.Body.{HasFrames}
+use Rattle.swift_steps.specs.declared.played.PlayedTurn.{PlayedTurn}
+use Rattle.swift_steps.specs.OpenHistories.{Plays, record_of}
+use Rattle.swift_steps.proofs.Steps.{at_rest}
+use Rattle.swift_explorer.proofs.Followed.{history_on, some_of}
+use Rattle.swift_explorer.proofs.Used.{used_set, used_short}
 use Rattle.swift_explorer.proofs.history.SearchedHistory.run.Goals as goal
 
-pub returns-clause-follows : goal.returns-clause-follows
-returns-clause-follows c =
-    let x = c.args.self.now in
-    let k = c.in-Some-executor_of.place in
-    let seen = λ (rows : Vec (Vec ℤ Global) Global). rows_of rows.items in
-    let old = c.replace-fields.result in
-    let outcome = c.in-Ok.field-0 in
-    let new = outcome.fields in
-    let lt : k < length x.fields.items = omega (arith, c.if-place-len.false, c.len.ensures) in
-    let in_used : k < length x.used.items = omega (arith, c.if-place-len-2.false, c.len-else-place-len.ensures) in
-    let long : c.len.result ≡ length x.fields.items = omega (arith, c.len.ensures) in
-    let read = c.replace-fields.ensures.value ∙ get_or_read_under x.fields.items k c.len.result c.index_mut.result.now old c.index_mut.ensures.value c.if-place-len.false long in
-    let there : slice_get x.fields.items k ≡ Some old = slice_get-get_or x.fields.items k old lt ∙ ap Some (sym read) in
-    let was = c.in-Some-take.ready in
-    let body = c.replay_turn.new.body in
-    let ran : body ≡ record was.body { task = record was.body.task { frames = body.task.frames }; phase = idle } = c.in-Ok.ensures.rest in
-    let rest = ran ∙ ap (λ (p : PhaseView). record was.body { task = record was.body.task { frames = body.task.frames }; phase = p }) (sym (ap (λ (b : BodyView). b.phase) ran)) in
-    if_done c.apply.result _ _ (λ f applies blocks h.
-    run_step (arc_value x.script) blocks x _ c.apply.new.self c.args.task c.in-Some-take.ready k c.in-Some.env (seen old) (seen new) c.replay_turn.new.body (effect_views outcome.effects.items) (exit_view outcome.exit) f
-    h (sym c.take.ensures.found ∙ c.in-Some-take.is) c.take.ensures.rest c.in-Some.ensures.some c.in-Some-executor_of.ensures.runs
-    (rows_here seen x.fields.items k old there) (rows_set seen x.fields.items _ k new c.replace-fields.new.dest lt refl) (rows_many seen x.fields.items _ k new c.replace-fields.new.dest refl)
-    c.in-Ok.ensures.turn rest refl refl refl in_used refl applies)
-    c.apply.ensures.applies
+pub play-requires : goal.play-requires
+play-requires c = at_rest _ _ _ c.args.self.now.steps c.requires.1.followed
+
+pub write_turn-requires : goal.write_turn-requires
+write_turn-requires c =
+    let plays = some_of _ _ (Plays c.args.self.now.steps c.play.new.self) c.in-Some.is c.in_ok-turn.ensures.plays in
+    subst HasFrames (sym plays.last) tt
+
+pub apply_played-requires : goal.apply_played-requires
+apply_played-requires c = (c.args.self.now.steps, some_of _ _ (Plays c.args.self.now.steps c.play.new.self) c.in-Some.is c.in_ok-turn.ensures.plays)
+
+pub returns-then-branch-clause-follows : goal.returns-then-branch-clause-follows
+returns-then-branch-clause-follows c = λ done blocks h.
+    (let x = c.args.self.now in
+    let turn = c.in-Some.turn in
+    let plays = some_of _ _ (Plays x.steps c.play.new.self) c.in-Some.is c.in_ok-turn.ensures.plays in
+    let task = some_of _ _ (λ (t : PlayedTurn). t.task ≡ c.args.task) c.in-Some.is c.in_ok-turn.ensures.task in
+    let follows = c.in_ok-apply_played.ensures.follows c.if-branch.true x.steps 0 plays in
+    let b = ran turn.place (record_of turn 0 plays.frame) in
+    let in_used : turn.place < length x.used.items = omega (arith, c.if-turn-len.false, c.len.ensures) in (
+      b,
+      ap (λ (t : TaskId). t.0) task,
+      history_on (arc_value x.steps.script) blocks x _ b h follows tt (λ e. refl) (used_set x.used.items blocks turn.place (record_of turn 0 plays.frame) in_used h.used) (used_short (arc_value x.steps.script) x.used.items _ _ turn.place h.short refl refl),
+      follows.roots_are,
+      c.told-told.ensures.broken,
+      c.told-told.ensures.quiet,
+    ))

@@ -7,16 +7,7 @@ returns c =
       first = record {
         blocks = p.blocks;
         steps = p.steps;
-        is = record {
-          orderly = p.is.orderly;
-          script_is = p.is.script_is;
-          book_is = p.is.book_is;
-          none = p.is.none;
-          scripts = p.is.scripts;
-          used = p.is.used;
-          short = p.is.short;
-          led = p.is.led;
-        };
+        is = record { orderly = p.is.orderly; none_folded = p.is.none_folded; many = p.is.many; used = p.is.used; short = p.is.short; followed = p.is.followed };
         roots = p.roots;
       };
     }

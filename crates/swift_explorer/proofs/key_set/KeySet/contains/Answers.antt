@@ -5,4 +5,4 @@ use Rattle.swift_explorer.proofs.KeySets.{any_bytes}
 use Rattle.swift_explorer.proofs.key_set.KeySet.contains.Goals as goal
 
 pub returns : goal.returns
-returns c = c.contains.ensures ∙ any_bytes c.args.key.now c.self.inside.set.keys ∙ ap (list_any (bytes_eq c.args.key.now)) c.self.view_is
+returns c = c.contains.ensures ∙ any_bytes c.args.key.now.bytes.items c.self.inside.set.keys ∙ ap (list_any (bytes_eq c.args.key.now.bytes.items)) c.self.view_is

@@ -1,8 +1,11 @@
-use Rattle.std.proofs.Common.{◌≡◌, ◌++◌}
+use Rattle.std.proofs.Common.{◌≡◌, ◌≤◌, ◌++◌}
 use Rattle.swift_explorer.specs.Numbers.{each_numbers}
 use Rattle.swift_explorer.specs.DigestNumbers.{card_numbers}
 use Rattle.swift_digest.specs.Digests.{digest_of}
 use Rattle.swift_explorer.proofs.keys.digest.put_cards.Given as goal
 
-abbrev pub invariant-loop-place : goal.invariant-loop-place
-invariant-loop-place l = l.key.items ≡ l.initial.key.items ++ each_numbers card_numbers (digest_of l.log).cards l.place
+abbrev pub invariant-loop-card : goal.invariant-loop-card
+invariant-loop-card l = record {
+  key : l.key.items ≡ l.initial.key.items ++ each_numbers card_numbers (digest_of l.log).cards l.card-index;
+  few : l.card-index ≤ l.tasks;
+}

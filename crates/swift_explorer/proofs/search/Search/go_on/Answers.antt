@@ -30,7 +30,7 @@ try_all-requires c =
     let own : arc_value y.script ≡ arc_value c.args.self.now.script = ap arc_value note.grown.script ∙ ap arc_value room.grown.script in
     record {
       sound = subst (λ (s : ScriptView). IsSound s y) (sym (ap arc_value note.grown.script)) note.sound;
-      followed = subst (λ (s : ScriptView). IsPath s c.args.path.now c.args.history.now) (sym own) c.requires.followed;
+      followed = subst (λ (s : ScriptView). IsPath s c.args.path.now c.args.history.history) (sym own) c.requires.followed;
       path = note.grown.paths c.args.place c.args.path.now (room.grown.paths c.args.place c.args.path.now c.requires.path);
     }
 

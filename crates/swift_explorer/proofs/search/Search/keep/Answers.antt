@@ -10,7 +10,7 @@ use Rattle.swift_explorer.proofs.search.Search.keep.Goals as goal
 pub returns-then-contains : goal.returns-then-contains
 returns-then-contains c =
     let x = c.args.self.now in
-    let key = c.in_ok-key.key.items in
+    let key = c.in_ok-key.key.bytes.items in
     let among : list_any (bytes_eq key) x.keys ≡ true = search rules in
     record { keeps = keeps_known x c.args.history key c.requires.sound c.in_ok-key.ensures among }
 
@@ -20,7 +20,7 @@ returns-then-len-self c = record { keeps = keeps_full c.args.self.now c.args.his
 pub returns : goal.returns
 returns c =
     let x = c.args.self.now in
-    let key = c.in_ok-key.key.items in
+    let key = c.in_ok-key.key.bytes.items in
     let n : Node = record { before = c.args.before; moves = c.args.moves } in
     let room : length x.nodes.items < x.limit = omega (arith, c.if-len-self.false, c.len.ensures) in
     let z : Search = record x { histories = c.put_history.new.histories } in

@@ -23,7 +23,7 @@ keep-requires-in-Ok-Broken-clause-path c =
     let script = arc_value x.script in
     let f = c.in-Ok-Broken.field-0 in
     let done : WasDone f = subst WasDone (sym c.in-Ok-Broken.field-0-is) tt in
-    let by = subst (λ (s : ScriptView). IsFollowedAhead s c.args.path.now c.args.last h f c.args.moves.items c.follow_ahead.new.moves.items) c.requires.followed.is.script_is (c.in-Ok-Broken.ensures.ahead done) in
+    let by = subst (λ (s : ScriptView). IsFollowedAhead s c.args.path.now c.args.last h f c.args.moves.items c.follow_ahead.new.moves.items) c.requires.followed.is.followed.script_is (c.in-Ok-Broken.ensures.ahead done) in
     kept_path script x h c.args.path.now c.args.last c.args.before c.args.moves.items c.follow_ahead.new.moves.items f c.requires.path by
 
 pub keep-requires-clause-path : goal.keep-requires-clause-path
@@ -33,7 +33,7 @@ keep-requires-clause-path c =
     let script = arc_value x.script in
     let f = c.in-Ok-Yes.field-0 in
     let done : WasDone f = subst WasDone (sym c.in-Ok-Yes.field-0-is) tt in
-    let by = subst (λ (s : ScriptView). IsFollowedAhead s c.args.path.now c.args.last h f c.args.moves.items c.follow_ahead.new.moves.items) c.requires.followed.is.script_is (c.in-Ok-Yes.ensures.ahead done) in
+    let by = subst (λ (s : ScriptView). IsFollowedAhead s c.args.path.now c.args.last h f c.args.moves.items c.follow_ahead.new.moves.items) c.requires.followed.is.followed.script_is (c.in-Ok-Yes.ensures.ahead done) in
     kept_path script x h c.args.path.now c.args.last c.args.before c.args.moves.items c.follow_ahead.new.moves.items f c.requires.path by
 
 pub keep-requires-clause-before : goal.keep-requires-clause-before
@@ -63,7 +63,7 @@ returns-in-Ok-Yes-clause-tried c =
     let path = c.args.path.now in
     let f = c.in-Ok-Yes.field-0 in
     let done : WasDone f = subst WasDone (sym c.in-Ok-Yes.field-0-is) tt in
-    let by = subst (λ (s : ScriptView). IsFollowedAhead s path c.args.last h f c.args.moves.items c.follow_ahead.new.moves.items) c.requires.followed.is.script_is (c.in-Ok-Yes.ensures.ahead done) in
+    let by = subst (λ (s : ScriptView). IsFollowedAhead s path c.args.last h f c.args.moves.items c.follow_ahead.new.moves.items) c.requires.followed.is.followed.script_is (c.in-Ok-Yes.ensures.ahead done) in
     on_ok_weaker c.keep.result (λ keeps is. step_tried script z path c.args.last h f c.args.moves.items c.follow_ahead.new.moves.items by (keeps.kept is) (λ _. c.in-Ok-Yes.field-0-is)) c.keep.ensures.keeps
 
 pub returns-in_ok-keep-in-Ok-Broken-clause-grown : goal.returns-in_ok-keep-in-Ok-Broken-clause-grown
@@ -96,7 +96,7 @@ returns-in_ok-keep-in-Ok-Broken-clause-tried c =
     let path = c.args.path.now in
     let f = c.in-Ok-Broken.field-0 in
     let done : WasDone f = subst WasDone (sym c.in-Ok-Broken.field-0-is) tt in
-    let by = subst (λ (sc : ScriptView). IsFollowedAhead sc path c.args.last h f c.args.moves.items c.follow_ahead.new.moves.items) c.requires.followed.is.script_is (c.in-Ok-Broken.ensures.ahead done) in
+    let by = subst (λ (sc : ScriptView). IsFollowedAhead sc path c.args.last h f c.args.moves.items c.follow_ahead.new.moves.items) c.requires.followed.is.followed.script_is (c.in-Ok-Broken.ensures.ahead done) in
     let keeps = c.in_ok-keep-in-Ok-Broken.ensures.keeps in
     on_ok_weaker c.note_broken.result (λ some is.
     (let grown = subst (HasGrown s) (sym c.note_broken.ensures.rest) (grown_breaks s z.broken some) in
@@ -107,13 +107,13 @@ pub note_broken-requires-clause-broken : goal.note_broken-requires-clause-broken
 note_broken-requires-clause-broken c =
     let steps = c.args.path.now ++ c.args.last ∷ [] in
     let own : arc_value c.keep-in-Ok-Broken.new.self.script ≡ arc_value c.args.self.now.script = ap arc_value c.in_ok-keep-in-Ok-Broken.ensures.keeps.grown.script in
-    subst (λ (s : ScriptView). IsBrokenAfter s steps) (sym own) (subst (λ (s : ScriptView). IsBrokenAfter s steps) c.requires.followed.is.script_is (c.in-Ok-Broken.ensures.broken c.in-Ok-Broken.field-0-is))
+    subst (λ (s : ScriptView). IsBrokenAfter s steps) (sym own) (subst (λ (s : ScriptView). IsBrokenAfter s steps) c.requires.followed.is.followed.script_is (c.in-Ok-Broken.ensures.broken c.in-Ok-Broken.field-0-is))
 
 pub follow_ahead-requires : goal.follow_ahead-requires
 follow_ahead-requires c =
     let x = c.args.self.now in
-    let script = arc_value c.args.history.script in
-    let own = sym c.requires.followed.is.script_is in
+    let script = arc_value c.args.history.steps.script in
+    let own = sym c.requires.followed.is.followed.script_is in
     let sound = c.requires.sound in
     record {
       path = subst (λ (s : ScriptView). IsPath s c.args.path.now c.args.history) own c.requires.followed;

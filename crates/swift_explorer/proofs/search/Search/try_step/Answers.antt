@@ -3,6 +3,7 @@ use Rattle.std.specs.Arc.{arc_value}
 use Rattle.std.proofs.lemmas.Result.{on_ok_weaker}
 use Rattle.swift_script.specs.Scripts.{ScriptView}
 use Rattle.swift_explorer.specs.declared.moves.Move.{Move}
+use Rattle.swift_explorer.specs.declared.history.SearchedHistory.{SearchedHistory}
 use Rattle.swift_explorer.specs.FusedInside.{first_half}
 use Rattle.swift_explorer.specs.HistoryInside.{IsPath}
 use Rattle.swift_explorer.specs.SearchInside.{WasTriedLast}
@@ -16,12 +17,17 @@ try_last-requires c =
     let moves = c.in_ok-push.ensures.items ∙ ap (λ (ms : List Move). ms ++ last ∷ []) (c.in_ok-put_first.ensures ∙ ap (λ (ms : List Move). ms ++ first) c.new-moves.ensures.items) in
     let front = c.deref.ensures.value ∙ c.in_ok-put_first-2.ensures ∙ ap (λ (ms : List Move). ms ++ first) c.in_ok-front.ensures.items in
     let script = arc_value c.args.self.now.script in
-    let led : IsPath (arc_value c.args.history.now.script) (path ++ first) c.in-Some.next = search rules in
+    let led : IsPath (arc_value c.args.history.history.steps.script) (path ++ first) c.in-Some.next = subst (λ (h : SearchedHistory). IsPath (arc_value h.steps.script) (path ++ first) c.in-Some.next) c.into_history.ensures (search rules) in
     record {
       sound = c.requires.sound;
-      followed = subst (λ (ms : List Move). IsPath script ms c.in-Some.next) (sym front) (subst (λ (s : ScriptView). IsPath s (path ++ first) c.in-Some.next) c.requires.followed.is.script_is led);
+      followed = subst (λ (ms : List Move). IsPath script ms c.in-Some.next) (sym front) (subst (λ (s : ScriptView). IsPath s (path ++ first) c.in-Some.next) c.requires.followed.is.followed.script_is led);
       path = (path, c.requires.path, ap (λ (ms : List Move). path ++ ms) moves ∙ sym (append_assoc path first (last ∷ [])) ∙ ap (λ (ms : List Move). ms ++ last ∷ []) (sym front));
     }
+
+pub first_followed-requires : goal.first_followed-requires
+first_followed-requires c =
+    let h = c.args.history.history in
+    subst (λ (x : SearchedHistory). IsPath (arc_value x.steps.script) c.args.path.now x) (sym c.into_history.ensures) (subst (λ (s : ScriptView). IsPath s c.args.path.now h) (sym c.requires.followed.is.followed.script_is) c.requires.followed)
 
 pub returns-clause-tried : goal.returns-clause-tried
 returns-clause-tried c =

@@ -1,6 +1,0 @@
-use Rattle.std.proofs.Common.{◌≡◌, map, take}
-use Rattle.script_code.specs.Seen.{rows_of}
-use Rattle.swift_explorer.proofs.history.all_copied.Given as goal
-
-abbrev pub invariant-loop-rows : goal.invariant-loop-rows
-invariant-loop-rows l = map (λ rows. rows_of rows.items) l.copy.items ≡ map (λ rows. rows_of rows.items) (take l.rows-index l.all)

@@ -1,6 +1,0 @@
-use Rattle.std.proofs.Common.{◌≡◌, take}
-use Rattle.script_code.specs.Seen.{rows_of}
-use Rattle.swift_explorer.proofs.history.copy_of.Given as goal
-
-abbrev pub invariant-loop-row : goal.invariant-loop-row
-invariant-loop-row l = rows_of l.copy.items ≡ rows_of (take l.row-index l.rows)

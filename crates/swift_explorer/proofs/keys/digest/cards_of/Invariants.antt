@@ -1,0 +1,10 @@
+use Rattle.std.proofs.Common.{take}
+use Rattle.swift_digest.specs.Digests.{digest_of}
+use Rattle.swift_explorer.specs.CardsInside.{AreCards, OpenAtMost}
+use Rattle.swift_explorer.proofs.keys.digest.cards_of.Given as goal
+
+abbrev pub invariant-loop-event : goal.invariant-loop-event
+invariant-loop-event l = record {
+  cards : AreCards l.cards.items l.tasks (digest_of (take l.event-index l.log));
+  few : OpenAtMost l.event-index l.cards.items;
+}

@@ -1,7 +1,0 @@
-use Rattle.std.proofs.Common.{take}
-use Rattle.std.specs.List.{AllZip}
-use Rattle.swift_explorer.specs.HistoryInside.{IsSameIf}
-use Rattle.swift_explorer.proofs.waiting.copy_all.Given as goal
-
-abbrev pub invariant-loop-ready : goal.invariant-loop-ready
-invariant-loop-ready l = AllZip IsSameIf (take l.ready-index l.tasks) l.copy.items

@@ -1,9 +1,0 @@
-use Rattle.std.proofs.Common.{◌≡◌, ℕ, ◌+◌, ◌-◌, vec_len}
-use Rattle.swift_explorer.specs.HistoryInside.{given_at}
-use Rattle.swift_explorer.proofs.waiting.put.Given as goal
-
-abbrev pub invariant-loop-tasks : goal.invariant-loop-tasks
-invariant-loop-tasks l = (u : ℕ) → given_at l.tasks.items u ≡ given_at l.fn.tasks.items u
-
-abbrev pub decreases-loop-tasks : goal.decreases-loop-tasks
-decreases-loop-tasks l = l.place + 1 - vec_len l.tasks

@@ -1,0 +1,2 @@
+pub mod NextTurns
+pub mod OpenHistories
