@@ -7,7 +7,6 @@ pub mod ExecutorsMade
 pub mod ByKinds
 pub mod RootsMade
 pub mod InOrder
-pub mod CallsNamed
 pub mod CallsThere
 pub mod MethodsFit
 pub mod Small
