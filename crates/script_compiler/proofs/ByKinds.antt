@@ -94,7 +94,7 @@ defaults_kinds (Binds l ∷ xs) = ap (λ ds. l.default ∷ ds) (defaults_kinds x
 defaults_kinds (Acts a ∷ xs) = defaults_kinds xs
 defaults_kinds (Roots r ∷ xs) = defaults_kinds xs
 
-names_kinds : (xs : List DeclTree) → executors_in xs ≡ map (λ x. x.name) (script_in xs).executors
+pub names_kinds : (xs : List DeclTree) → executors_in xs ≡ map (λ x. x.name) (script_in xs).executors
 names_kinds [] = refl
 names_kinds (Executes x ∷ xs) = ap (λ ns. x.name ∷ ns) (names_kinds xs)
 names_kinds (Binds l ∷ xs) = names_kinds xs

@@ -27,7 +27,7 @@ pub mod Parameters
 pub mod BlockCalls
 pub mod Agreed
 pub mod BlockHandles
-pub mod Known
+pub mod New
 pub mod WholeScripts
 pub mod LoweredInOrder
 pub mod Room

@@ -1,15 +1,13 @@
 //! Actors.
 
-ghost use Rattle.std.specs.Prelude.{◌≡◌, true, map, IfOk};
+ghost use Rattle.std.specs.Prelude.{◌≡◌, map, IfOk};
 ghost use Rattle.script_grammar.specs.Tree.{view_field, view_actor, view_decl, view_if};
 ghost use Rattle.script_names.specs.Scope.{fields_alone};
 ghost use Rattle.script_code.specs.Tree.{term_if};
 ghost use Rattle.script_compiler.specs.Lowered.{lowered_if};
-ghost use Rattle.script_compiler.specs.Known.{optional_known};
 ghost use Rattle.script_printing.specs.Script.{script_in};
 ghost use Rattle.script_compiler.specs.Compiled.{actor_of, actors_from};
 ghost use Rattle.script_compiler.specs.IsCompiled.{field_view, actor_view};
-ghost use Rattle.script_compiler.specs.NamesInside.{invariants_known};
 
 use crate::compiled::{CompiledActor, CompiledField};
 use crate::lowering::{Plan, formula};
@@ -45,7 +43,6 @@ fn invariant(
     actor: usize,
     invariant: &Option<Expr>,
 ) -> Result<Option<Formula>, AllocError>
-    requires { optional_known plan.now.directory (view_if invariant.now) ≡ true }
     ensures { IfOk result (λ f. term_if f ≡ lowered_if plan.now (fields_alone plan.now.directory actor) (view_if invariant.now)) }
 {
     match invariant {
@@ -60,7 +57,6 @@ fn compile_actor(
     place: usize,
     actor: &Actor,
 ) -> Result<CompiledActor, AllocError>
-    requires { optional_known plan.now.directory (view_actor actor.now).invariant ≡ true }
     ensures { IfOk result (λ a. actor_view a ≡ actor_of plan.now place (view_actor actor.now)) }
 {
     let name = Vec::from_slice(alloc, &actor.name.text)?;
@@ -80,7 +76,6 @@ pub(crate) fn compile_actors(
     plan: &Plan,
     decls: &[Decl],
 ) -> Result<Vec<CompiledActor>, AllocError>
-    requires { invariants_known plan.now.directory (map view_decl decls.now) ≡ true }
     ensures { IfOk result (λ v. map actor_view v.items ≡ actors_from plan.now 0 (script_in (map view_decl decls.now)).actors) }
 {
     let mut actors = Vec::new(alloc);

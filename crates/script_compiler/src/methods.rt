@@ -9,7 +9,7 @@ ghost use Rattle.script_printing.specs.Script.{script_in};
 ghost use Rattle.script_compiler.specs.Compiled.{MethodView, method_of, methods_from};
 ghost use Rattle.script_compiler.specs.IsCompiled.{IsMethod};
 ghost use Rattle.script_compiler.specs.MembersInside.{methods_here, number_after};
-ghost use Rattle.script_compiler.specs.NamesInside.{method_known, methods_known, declared_methods_known, all_methods_known};
+ghost use Rattle.script_compiler.specs.NamesInside.{method_new, methods_new, declared_methods_new, all_methods_new};
 
 use crate::compiled::CompiledMethod;
 use crate::lowering::{Plan, lower};
@@ -23,7 +23,7 @@ fn compile_method(
     actor: ActorId,
     method: &Method,
 ) -> Result<CompiledMethod, AllocError>
-    requires known { method_known plan.now.directory actor.0 (view_method method.now) ≡ true }
+    requires new { method_new plan.now.directory actor.0 (view_method method.now) ≡ true }
     requires size { method_size (view_method method.now) ≤ BYTES }
     ensures { IfOk result (λ m. IsMethod m (method_of plan.now actor.0 (view_method method.now))) }
 {
@@ -48,7 +48,7 @@ fn add_methods(
     methods: &[Method],
     all: &mut Vec<CompiledMethod>,
 ) -> Result<(), AllocError>
-    requires known { methods_known plan.now.directory actor.0 (map view_method methods.now) ≡ true }
+    requires new { methods_new plan.now.directory actor.0 (map view_method methods.now) ≡ true }
     requires size { methods_size (map view_method methods.now) ≤ BYTES }
     ensures { OnOk result ((done : List MethodView) → AllZip IsMethod all.old.items done → AllZip IsMethod all.new.items (done ++ map (method_of plan.now actor.0) (map view_method methods.now))) }
 {
@@ -67,7 +67,7 @@ fn add_declared(
     all: &mut Vec<CompiledMethod>,
 ) -> Result<ActorId, AllocError>
     requires few { number_after actor.0 (view_decl decl.now) ≤ ACTORS }
-    requires known { declared_methods_known plan.now.directory actor.0 (view_decl decl.now) ≡ true }
+    requires new { declared_methods_new plan.now.directory actor.0 (view_decl decl.now) ≡ true }
     requires size { decl_size (view_decl decl.now) ≤ BYTES }
     ensures methods { OnOk result ((done : List MethodView) → AllZip IsMethod all.old.items done → AllZip IsMethod all.new.items (done ++ methods_here plan.now actor.0 (view_decl decl.now))) }
     ensures number { IfOk result (λ next. next.0 ≡ number_after actor.0 (view_decl decl.now)) }
@@ -88,7 +88,7 @@ pub(crate) fn compile_methods(
     decls: &[Decl],
 ) -> Result<Vec<CompiledMethod>, AllocError>
     requires few { length (script_in (map view_decl decls.now)).actors ≤ ACTORS }
-    requires known { all_methods_known plan.now.directory 0 (map view_decl decls.now) ≡ true }
+    requires new { all_methods_new plan.now.directory 0 (map view_decl decls.now) ≡ true }
     requires size { script_size (map view_decl decls.now) ≤ BYTES }
     ensures { IfOk result (λ v. AllZip IsMethod v.items (methods_from plan.now 0 (script_in (map view_decl decls.now)).actors)) }
 {

@@ -1,18 +1,16 @@
 //! What lowering knows of a whole script.
 
-ghost use Rattle.std.specs.Prelude.{◌≡◌, ◌==◌, ◌+◌, ◌<◌, ◌≤◌, ℕ, pos, true, None, ◌∷◌, ◌++◌, [], Some, length, map, option_copied, slice_get, unwrap_or, count_by, List, IfOk};
+ghost use Rattle.std.specs.Prelude.{◌≡◌, ◌==◌, ◌+◌, ◌<◌, ◌≤◌, ℕ, pos, None, ◌∷◌, ◌++◌, [], Some, length, map, option_copied, slice_get, unwrap_or, count_by, List, IfOk};
 ghost use Rattle.swift_types.specs.declared.limits.TheConstants.{ACTORS, BYTES, EXECUTORS};
 ghost use Rattle.script_grammar.specs.Tree.{text_if, view_decl};
 ghost use Rattle.script_grammar.specs.Size.{script_size};
-ghost use Rattle.script_names.specs.Texts.{is_among, place_of};
+ghost use Rattle.script_names.specs.Texts.{place_of};
 ghost use Rattle.script_names.specs.Directory.{directory_of, executors_in, actors_in};
 ghost use Rattle.script_names.specs.Rules.{names_error};
 ghost use Rattle.script_compiler.specs.Few.{HasFewNames};
 ghost use Rattle.script_compiler.specs.Plan.{AreActorPlaces, defaults_in, on_executor, executors_from, plan_of, executor_at, actor_place_in, actor_place_of};
-ghost use Rattle.script_compiler.specs.PlanInside.{has_executor, have_executors};
 ghost use Rattle.script_compiler.specs.Lowered.{default_of};
 
-use crate::lowering::number::declared;
 use script_grammar::{Decl, Name};
 use script_names::Declared;
 use std::alloc::{AllocError, Global};
@@ -101,16 +99,15 @@ impl Plan {
         }
     }
 
-    /// A task local that is declared, and its default.
+    /// A task local, and its default.
     #[tactic(auto, unfolding(crate::specs::Lowered::default_of))]
     pub(crate) fn local(&self, name: &[u8]) -> (LocalId, i64)
-        requires { is_among self.now.directory.locals name.now ≡ true }
         ensures number { result.0.0 ≡ place_of self.now.directory.locals name.now }
         ensures default { result.1 ≡ default_of self.now name.now }
     {
-        let place = declared(self.declared.local(name));
-        let default = self.defaults.get(place as usize).copied().unwrap_or(0);
-        (LocalId(place), default)
+        let place = self.declared.local_or_len(name);
+        let default = self.defaults.get(place).copied().unwrap_or(0);
+        (LocalId(place as u32), default)
     }
 }
 
@@ -166,7 +163,6 @@ fn executor_count(decls: &[Decl]) -> u32
 // The executor of each actor. Those without one have their own, after the declared ones.
 fn executors(alloc: Global, declared: &Declared, decls: &[Decl]) -> Result<Vec<u32>, AllocError>
     requires declared { declared.now.executors ≡ executors_in (map view_decl decls.now) }
-    requires have { have_executors declared.now.executors (map view_decl decls.now) ≡ true }
     requires executors { length (executors_in (map view_decl decls.now)) ≤ EXECUTORS }
     requires actors { length (actors_in (map view_decl decls.now)) ≤ ACTORS }
     ensures executors { IfOk result (λ v. v.items ≡ executors_from declared.now.executors (length declared.now.executors) (map view_decl decls.now)) }
@@ -189,7 +185,6 @@ fn executors(alloc: Global, declared: &Declared, decls: &[Decl]) -> Result<Vec<u
 
 // An actor's executor, and the number that the next actor's own executor has.
 fn executor_on(declared: &Declared, own: u32, on: &Option<Name>) -> (u32, u32)
-    requires has { has_executor declared.now.executors (text_if on.now) ≡ true }
     requires executors { length declared.now.executors ≤ EXECUTORS }
     requires own { own < EXECUTORS + ACTORS }
     ensures executor { (others : ℕ → List ℕ) → on_executor declared.now.executors own (text_if on.now) others ≡ result.0 ∷ others result.1 }
@@ -197,10 +192,7 @@ fn executor_on(declared: &Declared, own: u32, on: &Option<Name>) -> (u32, u32)
 {
     match on {
         None => (own, own + 1),
-        Some(name) => match declared.executor(&name.text) {
-            Some(place) => (place as u32, own),
-            None => unreachable!(),
-        },
+        Some(name) => (declared.executor_or_len(&name.text) as u32, own),
     }
 }
 

@@ -11,4 +11,4 @@ pub returns : goal.returns
 returns c =
     sym (append-nil (map actor_view c.loop-decl.actors.items))
     ∙ sym (at_drop_all (λ (ds : List Decl). map actor_view c.loop-decl.actors.items ++ actors_from c.args.plan.now (length c.loop-decl.actors.items) (script_in (map view_decl ds)).actors) c.args.decls.now c.loop-decl.decl-index c.loop-decl-test.false)
-    ∙ c.loop-decl.invariant.are
+    ∙ c.loop-decl.invariant

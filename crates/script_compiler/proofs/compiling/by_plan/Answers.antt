@@ -5,9 +5,8 @@ use Rattle.script_printing.specs.Script.{script_in}
 use Rattle.script_compiler.specs.Plan.{PlanView}
 use Rattle.script_compiler.specs.Compiled.{own_executors}
 use Rattle.script_compiler.specs.IsCompiled.{actor_view}
-use Rattle.script_compiler.specs.RootsInside.{have_root_methods}
-use Rattle.script_compiler.specs.NamesInside.{all_methods_known, invariants_known}
-use Rattle.script_compiler.proofs.InOrder.{few_actors, roots_have_methods, names_are_known}
+use Rattle.script_compiler.specs.NamesInside.{all_methods_new}
+use Rattle.script_compiler.proofs.InOrder.{few_actors, names_are_new}
 use Rattle.script_compiler.proofs.ExecutorsMade.{as_many, by_actors, same_invariants}
 use Rattle.script_compiler.proofs.compiling.by_plan.Goals as goal
 
@@ -35,17 +34,5 @@ compile_methods-requires c =
     record {
       few = few_actors decls c.requires.names;
       size = c.requires.size;
-      known = ap (λ (p : PlanView). all_methods_known p.directory 0 decls) c.requires.plan ∙ (names_are_known decls c.requires.names).1;
+      new = ap (λ (p : PlanView). all_methods_new p.directory 0 decls) c.requires.plan ∙ names_are_new decls c.requires.names;
     }
-
-pub compile_actors-requires : goal.compile_actors-requires
-compile_actors-requires c =
-    let decls = map view_decl c.args.decls.now in
-    ap (λ (p : PlanView). invariants_known p.directory decls) c.requires.plan
-    ∙ (names_are_known decls c.requires.names).0
-
-pub compile_roots-requires : goal.compile_roots-requires
-compile_roots-requires c =
-    let decls = map view_decl c.args.decls.now in
-    ap (λ (p : PlanView). have_root_methods p.directory (script_in decls).roots) c.requires.plan
-    ∙ roots_have_methods decls c.requires.names

@@ -11,4 +11,4 @@ pub returns : goal.returns
 returns c =
     sym (append-nil (map root_view c.loop-decl.roots.items))
     ∙ sym (at_drop_all (λ (ds : List Decl). map root_view c.loop-decl.roots.items ++ map (root_of c.args.plan.now) (script_in (map view_decl ds)).roots) c.args.decls.now c.loop-decl.decl-index c.loop-decl-test.false)
-    ∙ c.loop-decl.invariant.done
+    ∙ c.loop-decl.invariant

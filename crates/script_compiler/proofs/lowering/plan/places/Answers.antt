@@ -1,20 +1,13 @@
 use Rattle.std.proofs.Common.{List, ℕ, ap, ◌∙◌, map, length, arith}
 use Rattle.script_grammar.specs.Tree.{view_decl}
-use Rattle.script_names.specs.Directory.{DirectoryView, directory_of}
+use Rattle.script_names.specs.Directory.{directory_of}
 use Rattle.script_compiler.specs.Plan.{executors_from}
-use Rattle.script_compiler.specs.PlanInside.{have_executors}
-use Rattle.script_compiler.proofs.LoweredInOrder.{same_executors, executors_are_few, actors_are_few, each_has_its_executor}
+use Rattle.script_compiler.proofs.LoweredInOrder.{same_executors, executors_are_few, actors_are_few}
 use Rattle.script_compiler.proofs.Room.{few_names}
 use Rattle.script_compiler.proofs.lowering.plan.places.Goals as goal
 
 pub executors-requires-clause-declared : goal.executors-requires-clause-declared
 executors-requires-clause-declared c = same_executors c.args.declared.now (map view_decl c.args.decls.now) c.requires.declared c.requires.names
-
-pub executors-requires-clause-have : goal.executors-requires-clause-have
-executors-requires-clause-have c =
-    let decls = map view_decl c.args.decls.now in
-    ap (λ (d : DirectoryView). have_executors d.executors decls) c.requires.declared
-    ∙ each_has_its_executor (directory_of decls) decls c.requires.names
 
 pub executors-requires-clause-executors : goal.executors-requires-clause-executors
 executors-requires-clause-executors c =
