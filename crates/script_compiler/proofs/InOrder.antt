@@ -2,21 +2,23 @@
 use Rattle.std.proofs.Common.{◌≡◌, ◌<◌, ◌≤◌, ◌+◌, ◌++◌, ℕ, suc, map, drop, get_or, drop-cons, Bool, true, ◌&&◌, nat_le, List, [], ◌∷◌, length, None, ap, refl, sym, subst, ◌∙◌, add-one, arith}
 use Rattle.swift_types.specs.declared.limits.TheConstants.{ACTORS, EXECUTORS}
 use Rattle.script_grammar.specs.declared.declaration.Method.{Method}
+use Rattle.script_grammar.specs.declared.declaration.Actor.{Actor}
 use Rattle.std.proofs.lemmas.Bool.{and_parts}
 use Rattle.std.proofs.lemmas.List.{length-map}
-use Rattle.script_grammar.specs.Tree.{view_method, MethodTree, ActorTree, DeclTree, RootTree, Executes, Binds, Acts, Roots, block_tree}
+use Rattle.script_grammar.specs.Tree.{view_method, view_actor, MethodTree, ActorTree, DeclTree, RootTree, Executes, Binds, Acts, Roots, block_tree}
 use Rattle.script_names.specs.declared.error.NameErrorKind.TheVariants.{TooMany}
 use Rattle.script_names.specs.Directory.{DirectoryView, directory_of, actors_in}
 use Rattle.script_names.specs.Scope.{fields_alone}
 use Rattle.script_names.specs.Rules.{SeenView, at_name, where_so, past_name_if, past_names, past_fields, past_if, past_method, repeat_error, parameters_error, with_parameters, optional_error, method_error, methods_error, fields_error, on_error, actor_error, root_error, decl_error, past_decl, seen_after, declarations_error, names_error}
 use Rattle.script_compiler.proofs.Clear.{earlier_none}
-use Rattle.script_compiler.proofs.LoweredInOrder.{actors_are_few, executors_are_few}
+use Rattle.script_compiler.proofs.LoweredInOrder.{actors_are_few, executors_are_few, same_executors}
 use Rattle.script_compiler.specs.New.{block_new, parameters_new}
 use Rattle.script_compiler.proofs.New.{both, block, parameters}
-use Rattle.script_printing.specs.Script.{script_in}
+use Rattle.script_printing.specs.Script.{ScriptView, script_in}
+use Rattle.script_compiler.specs.Checked.{IsChecked}
 use Rattle.script_compiler.proofs.ByKinds.{names_kinds}
-use Rattle.script_compiler.specs.MembersInside.{number_after}
-use Rattle.script_compiler.specs.NamesInside.{method_new, methods_new, all_methods_new}
+use Rattle.script_compiler.proofs.Steps.{front}
+use Rattle.script_compiler.specs.NamesInside.{method_new, methods_new, actors_new}
 
 as_many : (xs : List DeclTree) → length (script_in xs).actors ≡ length (actors_in xs)
 as_many [] = refl
@@ -57,18 +59,30 @@ actor_is_new d seen at a e =
     let kept = earlier_none (optional_error (fields_alone d seen.actors) invariant a.invariant) _ distinct.1 in
     methods_are_new d seen.actors [] (past_if a.invariant invariant) a.methods kept.1
 
-decls_are_new : (d : DirectoryView) (seen : SeenView) (at : ℕ) (xs : List DeclTree) → declarations_error d seen at xs ≡ None → all_methods_new d seen.actors xs ≡ true
+decls_are_new : (d : DirectoryView) (seen : SeenView) (at : ℕ) (xs : List DeclTree) → declarations_error d seen at xs ≡ None → actors_new d seen.actors (script_in xs).actors ≡ true
 decls_are_new d seen at [] e = refl
 decls_are_new d seen at (Executes x ∷ xs) e = decls_are_new d (seen_after seen (Executes x)) (past_decl (Executes x) at) xs (earlier_none (decl_error d seen at (Executes x)) _ e).1
 decls_are_new d seen at (Binds l ∷ xs) e = decls_are_new d (seen_after seen (Binds l)) (past_decl (Binds l) at) xs (earlier_none (decl_error d seen at (Binds l)) _ e).1
 decls_are_new d seen at (Acts a ∷ xs) e =
     let parts = earlier_none (actor_error d seen at a) _ e in
-    let rest = decls_are_new d (seen_after seen (Acts a)) (past_decl (Acts a) at) xs parts.1 in
-    both (methods_new d seen.actors a.methods) (all_methods_new d (number_after seen.actors (Acts a)) xs) (actor_is_new d seen at a parts.0) (ap (λ (n : ℕ). all_methods_new d n xs) (add-one seen.actors) ∙ rest)
+    both (methods_new d seen.actors a.methods) (actors_new d (suc seen.actors) (script_in xs).actors) (actor_is_new d seen at a parts.0) (decls_are_new d (seen_after seen (Acts a)) (past_decl (Acts a) at) xs parts.1)
 decls_are_new d seen at (Roots r ∷ xs) e = decls_are_new d (seen_after seen (Roots r)) (past_decl (Roots r) at) xs (earlier_none (decl_error d seen at (Roots r)) _ e).1
 
-pub names_are_new : (xs : List DeclTree) → names_error xs ≡ None → all_methods_new (directory_of xs) 0 xs ≡ true
+pub names_are_new : (xs : List DeclTree) → names_error xs ≡ None → actors_new (directory_of xs) 0 (script_in xs).actors ≡ true
 names_are_new xs e = decls_are_new (directory_of xs) (record { places = []; locals = []; roots = []; executors = 0; actors = 0 }) 0 xs e
+
+-- so it is of the declarations of a checked script
+pub few_here : (s : ScriptView) (d : DirectoryView) → IsChecked s d → length s.actors ≤ ACTORS
+few_here s d c = subst (λ (t : ScriptView). length t.actors ≤ ACTORS) (sym c.is) (few_actors c.decls c.names)
+
+pub few_declared : (s : ScriptView) (d : DirectoryView) → IsChecked s d → length d.executors ≤ EXECUTORS
+few_declared s d c = subst (λ (ns : List (List ℕ)). length ns ≤ EXECUTORS) (sym (same_executors d c.decls c.declared c.names)) (executors_are_few (directory_of c.decls) c.decls c.names)
+
+pub new_here : (s : ScriptView) (d : DirectoryView) → IsChecked s d → actors_new d 0 s.actors ≡ true
+new_here s d c =
+    ap (λ (t : ScriptView). actors_new d 0 t.actors) c.is
+    ∙ ap (λ (e : DirectoryView). actors_new e 0 (script_in c.decls).actors) c.declared
+    ∙ names_are_new c.decls c.names
 
 -- the next of some methods, and those after it
 pub methods_next : (d : DirectoryView) (k : ℕ) (ms : List Method) (i : ℕ) (m : Method) → i < length ms → m ≡ get_or ms i m → methods_new d k (map view_method (drop i ms)) ≡ true
@@ -80,3 +94,13 @@ methods_next d k ms i m h is new =
     ∙ ap (λ (x : Method). method_new d k (view_method x) && methods_new d k (map view_method (drop (suc i) ms))) (sym is)
     ∙ ap (λ (n : ℕ). method_new d k (view_method m) && methods_new d k (map view_method (drop n ms))) (sym (add-one i)) in
     and_parts (method_new d k (view_method m)) (methods_new d k (map view_method (drop (i + 1) ms))) (sym split ∙ new)
+
+-- the next of some actors, and those after it
+pub actors_next : (d : DirectoryView) (actors : List Actor) (i : ℕ) (a : Actor) (ms : List Method) → i < length actors → a ≡ get_or actors i a → ms ≡ a.methods.items → actors_new d i (map view_actor (drop i actors)) ≡ true
+    → (methods_new d i (map view_method ms) ≡ true) × (actors_new d (i + 1) (map view_actor (drop (i + 1) actors)) ≡ true)
+actors_next d actors i a ms h is same new =
+    let split : actors_new d i (map view_actor (drop i actors)) ≡ (methods_new d i (map view_method ms) && actors_new d (i + 1) (map view_actor (drop (i + 1) actors))) =
+    ap (λ (xs : List Actor). actors_new d i (map view_actor xs)) (front actors i a h is)
+    ∙ ap (λ (xs : List Method). methods_new d i (map view_method xs) && actors_new d (suc i) (map view_actor (drop (i + 1) actors))) (sym same)
+    ∙ ap (λ (n : ℕ). methods_new d i (map view_method ms) && actors_new d n (map view_actor (drop (i + 1) actors))) (sym (add-one i)) in
+    and_parts (methods_new d i (map view_method ms)) (actors_new d (i + 1) (map view_actor (drop (i + 1) actors))) (sym split ∙ new)

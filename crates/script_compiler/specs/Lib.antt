@@ -1,4 +1,5 @@
 pub mod Compiled
+pub mod Checked
 pub mod Starts
 pub mod IsCompiled
 pub mod MembersInside

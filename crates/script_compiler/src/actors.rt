@@ -1,18 +1,17 @@
 //! Actors.
 
 ghost use Rattle.std.specs.Prelude.{◌≡◌, map, IfOk};
-ghost use Rattle.script_grammar.specs.Tree.{view_field, view_actor, view_decl, view_if};
+ghost use Rattle.script_grammar.specs.Tree.{view_field, view_actor, view_if};
 ghost use Rattle.script_names.specs.Scope.{fields_alone};
 ghost use Rattle.script_code.specs.Tree.{term_if};
 ghost use Rattle.script_compiler.specs.Lowered.{lowered_if};
-ghost use Rattle.script_printing.specs.Script.{script_in};
 ghost use Rattle.script_compiler.specs.Compiled.{actor_of, actors_from};
 ghost use Rattle.script_compiler.specs.IsCompiled.{field_view, actor_view};
 
 use crate::compiled::{CompiledActor, CompiledField};
 use crate::lowering::{Plan, formula};
 use script_code::Formula;
-use script_grammar::{Actor, Decl, Expr, Field};
+use script_grammar::{Actor, Expr, Field};
 use std::alloc::{AllocError, Global};
 use swift_types::ExecId;
 
@@ -70,23 +69,18 @@ fn compile_actor(
     })
 }
 
-/// The actors of a script, in time and memory linear in the declarations and in the fields and invariants.
+/// The actors of a script, in time and memory linear in the fields and invariants.
 pub(crate) fn compile_actors(
     alloc: Global,
     plan: &Plan,
-    decls: &[Decl],
+    actors: &[Actor],
 ) -> Result<Vec<CompiledActor>, AllocError>
-    ensures { IfOk result (λ v. map actor_view v.items ≡ actors_from plan.now 0 (script_in (map view_decl decls.now)).actors) }
+    ensures { IfOk result (λ v. map actor_view v.items ≡ actors_from plan.now 0 (map view_actor actors.now)) }
 {
-    let mut actors = Vec::new(alloc);
-    for decl in decls {
-        match decl {
-            Decl::Actor(actor) => {
-                let place = actors.len();
-                actors.push(compile_actor(alloc, plan, place, actor)?)?;
-            }
-            Decl::Executor(_) | Decl::Local(_) | Decl::Root(_) => {}
-        }
+    let mut compiled = Vec::new(alloc);
+    for actor in actors {
+        let place = compiled.len();
+        compiled.push(compile_actor(alloc, plan, place, actor)?)?;
     }
-    Ok(actors)
+    Ok(compiled)
 }

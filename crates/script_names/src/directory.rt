@@ -85,6 +85,13 @@ impl Declared {
         self.seed
     }
 
+    /// How many executors there are.
+    pub fn executor_count(&self) -> usize
+        ensures { result ≡ length self.now.executors }
+    {
+        self.executors.len()
+    }
+
     /// The place of an executor among the executors.
     pub fn executor(&self, name: &[u8]) -> Option<usize>
         ensures found { is_some result ≡ is_among self.now.executors name.now }
