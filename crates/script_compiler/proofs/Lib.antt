@@ -6,6 +6,7 @@ pub mod WaitsSame
 pub mod ExecutorsMade
 pub mod ByKinds
 pub mod RootsMade
+pub mod CallsMade
 pub mod InOrder
 pub mod CallsThere
 pub mod MethodsFit

@@ -25,12 +25,14 @@ pub(crate) fn call(
 ) -> Result<script_code::CompiledCall, AllocError>
     ensures { IfOk result (λ c. target_said c ≡ target_of plan.now scope.now (view_call call.now)) }
 {
-    let (actor, method) = (&call.actor.text, &call.method.text);
     let script = scope.declared();
+    let actor = script.actor_or_len(&call.actor.text);
+    let method = script.method_or_len(alloc, &call.actor.text, &call.method.text)?;
+    let args = expressions(alloc, plan, scope, &call.args)?;
     Ok(script_code::CompiledCall {
-        actor: ActorId(script.actor_or_len(actor) as u32),
-        method: MethodId(script.method_or_len(alloc, actor, method)? as u32),
-        args: expressions(alloc, plan, scope, &call.args)?,
+        actor: ActorId(actor as u32),
+        method: MethodId(method as u32),
+        args,
     })
 }
 

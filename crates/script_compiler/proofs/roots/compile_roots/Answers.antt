@@ -1,4 +1,5 @@
-use Rattle.std.proofs.Common.{◌+◌, List, map, drop, ap}
+use Rattle.std.proofs.Common.{◌+◌, ◌++◌, ◌∙◌, List, map, drop, ap, sym}
+use Rattle.std.proofs.lemmas.List.{append-nil, at_drop_all}
 use Rattle.script_grammar.specs.declared.declaration.Root.{Root}
 use Rattle.script_grammar.specs.Tree.{view_root}
 use Rattle.script_compiler.specs.Compiled.{root_of}
@@ -14,3 +15,10 @@ loop-root-preserved c =
     let root = c.root-item.result in
     one_more root_view c.loop-root.compiled.items c.push.new.self.items c.in_ok-compile_root.field-0 (root_of p (view_root root)) (map (root_of p) (map view_root (drop i roots))) (map (root_of p) (map view_root (drop (i + 1) roots))) _
     c.in_ok-push.ensures.items c.in_ok-compile_root.ensures (ap (λ (xs : List Root). map (root_of p) (map view_root xs)) (front roots i root c.loop-root-test.true c.root-item.is)) c.loop-root.invariant
+
+pub returns : goal.returns
+returns c =
+    let made = c.loop-root.compiled.items in
+    sym (append-nil (map root_view made))
+    ∙ sym (at_drop_all (λ (xs : List Root). map root_view made ++ map (root_of c.args.plan.now) (map view_root xs)) c.args.roots.now c.loop-root.root-index c.loop-root-test.false)
+    ∙ c.loop-root.invariant
