@@ -1,5 +1,5 @@
 -- The rule of a pool at each call.
-use Rattle.std.proofs.Common.{◌≡◌, ◌≢◌, ℕ, zero, suc, ◌+◌, ◌-◌, ◌<◌, ◌≤◌, List, [], ◌∷◌, ◌++◌, length, take, drop, Option, Some, None, IfSome, IsErr, IsSome, Result, Ok, Err, Bool, true, false, refl, sym, ap, ◌∙◌, subst, inl, inr, ⊎_elim, arith, append-nil, set, slice_get}
+use Rattle.std.proofs.Common.{◌≡◌, ◌≢◌, ℕ, zero, suc, ◌+◌, ◌-◌, ◌<◌, ◌≤◌, List, [], ◌∷◌, ◌++◌, length, take, drop, Option, Some, None, IfNone, IfSome, IsErr, IsSome, Result, Ok, Err, Bool, true, false, refl, sym, ap, ◌∙◌, subst, inl, inr, ⊎_elim, arith, append-nil, set, slice_get}
 use Rattle.std.proofs.lemmas.List.{take_all}
 use Rattle.std.proofs.lemmas.Option.{none-some, same_Some}
 use mathlib.Core.Option.{some}
@@ -14,12 +14,14 @@ use Rattle.swift_workers.specs.declared.pool.Ended.{Ended}
 use Rattle.swift_workers.specs.declared.pool.Pool.{Pool}
 use Rattle.swift_workers.specs.declared.pool.WorkerNext.{WorkerNext}
 use Rattle.swift_workers.specs.declared.pool.WorkerNext.TheVariants.{Visit, Pause, Rest, Stop}
-use Rattle.swift_workers.specs.Pools.{IsAnswer, IsCall, IsCauseOf, IsEndOf, PoolCall, PoolCrew, PoolFacts, PoolKnown, PoolView, after_call, first_known, first_pool, has_put, or_else, split_left, split_new, stops, takes}
+use Rattle.swift_workers.specs.Pools.{IsAnswer, IsAtEnd, IsCall, IsCauseOf, IsEndOf, MayVisit, PoolCall, PoolCrew, PoolFacts, PoolKnown, PoolView, after_call, first_known, first_pool, has_put, or_else, split_left, split_new, stops, takes, tells}
 use Rattle.swift_workers.specs.PoolRule.{HoldsOf, IsInCourse, IsPoolCourse}
-use Rattle.swift_workers.specs.PoolSeats.{HasCalled, IsPoolSeatOf, SeatView, SharedPoolView}
+use Rattle.swift_workers.specs.PoolSeats.{HasCalled, IsPoolSeatOf, IsRunOut, SeatView, SharedPoolView}
 use Rattle.swift_workers.specs.declared.shelf.PoolShelf.{PoolShelf}
-use Rattle.swift_workers.specs.PoolsInside.{HasEnded, IsNextOrRest, IsTakenFromPool, MayGiveBack, facts_of}
-use Rattle.swift_workers.proofs.PoolSteps.{call_keeps, crew_is, first_keeps, owes_counted, room_left, split_keeps}
+use Rattle.swift_workers.specs.PoolFactsInside.{facts_of}
+use Rattle.swift_workers.specs.PoolSeatsInside.{HasTaken, MayGiveBack}
+use Rattle.swift_workers.specs.PoolsInside.{HasEnded, IsNext, IsNextOrRest, IsTakenFromPool}
+use Rattle.swift_workers.proofs.PoolSteps.{call_keeps, crew_is, first_keeps, over_is, owes_counted, room_left, split_keeps, told_is}
 
 -- what the lock keeps of a pool
 abbrev pub image_of : PoolShelf → PoolImage
@@ -191,19 +193,17 @@ over_stops over (Some Rest) e = cc
 over_stops over (Some Stop) e = refl
 
 -- what is known of a pool that was taken
-pub taken_is : (p : SharedPoolView) (s t : SeatView) (shelf : PoolShelf) → IsPoolSeatOf p s → t ≡ held_by s (image_of shelf) → IsInCourse s.known (image_of shelf).view
-    → ((t.lock ≡ s.lock) × (t.known ≡ s.known) × (t.held ≡ Some (record { view = record { crew = p.crew; facts = facts_of shelf.pool.value } })))
-    × ((shelf.script.value ≡ p.crew.script) × (shelf.workers.value ≡ p.crew.workers)) × IsInCourse s.known (record { crew = p.crew; facts = facts_of shelf.pool.value })
+pub taken_is : (p : SharedPoolView) (s t : SeatView) (shelf : PoolShelf) → IsPoolSeatOf p s → t ≡ held_by s (image_of shelf) → IsInCourse s.known (image_of shelf).view → HasTaken p s t shelf
 taken_is p s t shelf is held course =
-    let same : p.crew ≡ record { script = shelf.script.value; workers = shelf.workers.value } = sym is.2 ∙ crew_is s.known (image_of shelf).view course in (
-      (
-        ap (λ (x : SeatView). x.lock) held,
-        ap (λ (x : SeatView). x.known) held,
-        ap (λ (x : SeatView). x.held) held ∙ ap (λ (x : PoolCrew). Some (record { view = record { crew = x; facts = facts_of shelf.pool.value } })) (sym same),
-      ),
-      (ap (λ (x : PoolCrew). x.script) (sym same), ap (λ (x : PoolCrew). x.workers) (sym same)),
-      subst (λ (x : PoolCrew). IsInCourse s.known (record { crew = x; facts = facts_of shelf.pool.value })) (sym same) course,
-    )
+    let same : p.crew ≡ record { script = shelf.script.value; workers = shelf.workers.value } = sym is.2 ∙ crew_is s.known (image_of shelf).view course in
+    record {
+      lock = ap (λ (x : SeatView). x.lock) held;
+      known = ap (λ (x : SeatView). x.known) held;
+      held = ap (λ (x : SeatView). x.held) held ∙ ap (λ (x : PoolCrew). Some (record { view = record { crew = x; facts = facts_of shelf.pool.value } })) (sym same);
+      script = ap (λ (x : PoolCrew). x.script) (sym same);
+      workers = ap (λ (x : PoolCrew). x.workers) (sym same);
+      course = subst (λ (x : PoolCrew). IsInCourse s.known (record { crew = x; facts = facts_of shelf.pool.value })) (sym same) course;
+    }
 
 -- a call that has a name
 pub named_unlocks : (k : PoolCall) (held : Option PoolImage) (v : PoolTold) (given : PoolImage) (script : ScriptView) (workers : ℕ) (p : Pool) (c : PoolCall) → k ≡ c → MayGiveBack v.view held script workers p c
@@ -236,3 +236,125 @@ ends_of old mid tokens done ended c is ends put told =
           (λ cut. inr (ended.put, cut.0, put, subst (λ (o : Option Halt). IsCauseOf done true o) (sym told) cut.1))
           is.cause,
     )
+
+-- the seat of a worker, from call to call
+
+pub called_seat : (p : SharedPoolView) (s t : SeatView) (c : PoolCall) → IsPoolSeatOf p s → HasCalled c s t → IsPoolSeatOf p t
+called_seat p s t c is called = (called.0 ∙ is.0, called.1, ap (λ (v : PoolKnown). v.crew) called.2 ∙ is.2)
+
+-- what a worker is told that owes no more than it has ended
+pub told_seat : (p : SharedPoolView) (s t : SeatView) (c : PoolCall) (n : WorkerNext) → IsPoolSeatOf p s → HasCalled c s t → c.next ≡ Some n → s.known.view.owes ≡ c.ends → 0 < s.known.view.parts
+    → IsPoolSeatOf p t × (t.known.view.owes ≡ takes (Some n)) × (0 < t.known.view.parts) × (stops false (Some n) ≡ true → t.known.view.over ≡ true)
+told_seat p s t c n is called next owes parts =
+    let next_takes : takes c.next ≡ takes (Some n) = ap takes next in
+    let t_owes : t.known.view.owes ≡ s.known.view.owes - c.ends + takes c.next = ap (λ (v : PoolKnown). v.owes) called.2 in
+    let t_parts : t.known.view.parts ≡ s.known.view.parts = ap (λ (v : PoolKnown). v.parts) called.2 in (
+      called_seat p s t c is called,
+      omega (arith, next_takes, t_owes, owes),
+      omega (arith, t_parts, parts),
+      (λ stop. ap (λ (v : PoolKnown). v.over) called.2 ∙ ap (stops s.known.view.over) next ∙ over_stops s.known.view.over (Some n) stop),
+    )
+
+-- a worker that has given the run up
+pub up_seat : (p : SharedPoolView) (s t : SeatView) (halt : Halt) → IsPoolSeatOf p s → ((c : PoolCall) × HasCalled c s t × (c.ends ≡ 0) × (c.told ≡ Some halt) × (c.next ≡ None))
+    → IsPoolSeatOf p t × (t.known.view.owes ≡ s.known.view.owes) × (t.known.view.parts ≡ s.known.view.parts) × (t.known.view.told ≡ true)
+up_seat p s t halt is call =
+    let none_taken : takes call.0.next ≡ 0 = ap takes call.4 in
+    let t_owes : t.known.view.owes ≡ s.known.view.owes - call.0.ends + takes call.0.next = ap (λ (v : PoolKnown). v.owes) call.1.2 in (
+      called_seat p s t call.0 is call.1,
+      omega (arith, none_taken, t_owes, call.2),
+      ap (λ (v : PoolKnown). v.parts) call.1.2,
+      ap (λ (v : PoolKnown). v.told) call.1.2 ∙ ap (tells s.known.view.told) call.3,
+    )
+
+-- the seats after a split
+pub own_seat : (p : SharedPoolView) (s own : SeatView) → IsPoolSeatOf p s → (own.lock ≡ p.id) × (own.held ≡ None) × (own.known.view ≡ split_new s.known.view)
+    → IsPoolSeatOf p own × (own.known.view.owes ≡ 0) × (0 < own.known.view.parts)
+own_seat p s own is new =
+    let parts : own.known.view.parts ≡ 1 = ap (λ (v : PoolKnown). v.parts) new.2 in (
+      (new.0, new.1, ap (λ (v : PoolKnown). v.crew) new.2 ∙ is.2),
+      ap (λ (v : PoolKnown). v.owes) new.2,
+      omega (arith, parts),
+    )
+
+pub left_seat : (p : SharedPoolView) (s t : SeatView) (n : ℕ) → IsPoolSeatOf p s → s.known.view.owes ≡ 0 → n + 1 < s.known.view.parts → (t.lock ≡ s.lock) × (t.held ≡ None) × (t.known.view ≡ split_left s.known.view)
+    → IsPoolSeatOf p t × (t.known.view.owes ≡ 0) × (n < t.known.view.parts)
+left_seat p s t n is owes less left =
+    let parts : t.known.view.parts ≡ s.known.view.parts - 1 = ap (λ (v : PoolKnown). v.parts) left.2 in (
+      (left.0 ∙ is.0, left.1, ap (λ (v : PoolKnown). v.crew) left.2 ∙ is.2),
+      ap (λ (v : PoolKnown). v.owes) left.2 ∙ owes,
+      omega (arith, parts, less),
+    )
+
+-- The same of a pool that was taken: what may be given back for it, and how many may be under way.
+
+-- the seat knows what it did
+known_before : (u v : PoolTold) (held : Option PoolImage) (script : ScriptView) (workers : ℕ) (given : Pool) (c : PoolCall) → u ≡ v → MayGiveBack v.view held script workers given c → MayGiveBack u.view held script workers given c
+known_before u v held script workers given c same may = subst (λ (x : PoolTold). MayGiveBack x.view held script workers given c) (sym same) may
+
+pub turn_over_gives : (p : SharedPoolView) (s t : SeatView) (shelf : PoolShelf) (script : ScriptView) (workers worker : ℕ) (mid new : Pool) (tokens put : List ExecId) (done : Result (Unit {0}) Halt) (ended : Ended) (n : WorkerNext)
+    → HasTaken p s t shelf → p.crew ≡ record { script = script; workers = workers } → s.known.view.owes ≡ 1 → HasEnded shelf.pool.value tokens done ended mid → put ≡ take ended.put tokens → IsNextOrRest script workers worker mid n new
+    → MayGiveBack t.known.view t.held shelf.script.value shelf.workers.value new (record { worker = worker; ends = 1; put = put; told = ended.told; next = Some n })
+turn_over_gives p s t shelf script workers worker mid new tokens put done ended n taken crew owes is put_is next =
+    let own : IsNextOrRest p.crew.script p.crew.workers worker mid n new = subst (λ (x : PoolCrew). IsNextOrRest x.script x.workers worker mid n new) (sym crew) next in
+    known_before t.known s.known t.held shelf.script.value shelf.workers.value new _ taken.known
+    (turn_gives s.known p.crew t.held shelf.script.value shelf.workers.value shelf.pool.value mid new tokens done ended (record { worker = worker; ends = 1; put = put; told = ended.told; next = Some n }) n
+    taken.held taken.script taken.workers taken.course owes is refl put_is refl refl own)
+
+pub put_first_gives : (p : SharedPoolView) (s t : SeatView) (shelf : PoolShelf) (new : Pool) (tokens put : List ExecId) (done : Result (Unit {0}) Halt) (ended : Ended)
+    → HasTaken p s t shelf → s.known.view.owes ≡ 1 → HasEnded shelf.pool.value tokens done ended new → put ≡ take ended.put tokens
+    → MayGiveBack t.known.view t.held shelf.script.value shelf.workers.value new (record { worker = 0; ends = 1; put = put; told = ended.told; next = None })
+put_first_gives p s t shelf new tokens put done ended taken owes is put_is =
+    known_before t.known s.known t.held shelf.script.value shelf.workers.value new _ taken.known
+    (first_gives s.known p.crew t.held shelf.script.value shelf.workers.value shelf.pool.value new tokens done ended (record { worker = 0; ends = 1; put = put; told = ended.told; next = None })
+    taken.held taken.script taken.workers taken.course owes is refl put_is refl refl)
+
+pub look_again_gives : (p : SharedPoolView) (s t : SeatView) (shelf : PoolShelf) (script : ScriptView) (workers worker : ℕ) (new : Pool) (n : WorkerNext)
+    → HasTaken p s t shelf → p.crew ≡ record { script = script; workers = workers } → s.known.view.owes ≡ 0 → 0 < s.known.view.parts → IsNextOrRest script workers worker shelf.pool.value n new
+    → MayGiveBack t.known.view t.held shelf.script.value shelf.workers.value new (record { worker = worker; ends = 0; put = []; told = None; next = Some n })
+look_again_gives p s t shelf script workers worker new n taken crew owes parts next =
+    let own : IsNextOrRest p.crew.script p.crew.workers worker shelf.pool.value n new = subst (λ (x : PoolCrew). IsNextOrRest x.script x.workers worker shelf.pool.value n new) (sym crew) next in
+    known_before t.known s.known t.held shelf.script.value shelf.workers.value new _ taken.known
+    (look_gives s.known p.crew t.held shelf.script.value shelf.workers.value worker shelf.pool.value new n taken.held taken.script taken.workers owes parts own)
+
+pub give_up_gives : (p : SharedPoolView) (s t : SeatView) (shelf : PoolShelf) (new : Pool) (halt : Halt)
+    → HasTaken p s t shelf → new.tokens.items ≡ shelf.pool.value.tokens.items → new.under_way ≡ shelf.pool.value.under_way → new.halt ≡ or_else shelf.pool.value.halt (Some halt)
+    → MayGiveBack t.known.view t.held shelf.script.value shelf.workers.value new (record { worker = 0; ends = 0; put = []; told = Some halt; next = None })
+give_up_gives p s t shelf new halt taken tokens under_way halt_is =
+    known_before t.known s.known t.held shelf.script.value shelf.workers.value new _ taken.known
+    (halt_gives s.known p.crew t.held shelf.script.value shelf.workers.value shelf.pool.value new halt taken.held taken.script taken.workers taken.course tokens under_way halt_is)
+
+pub room_after : (p : SharedPoolView) (s t : SeatView) (shelf : PoolShelf) (mid : Pool) (tokens : List ExecId) (done : Result (Unit {0}) Halt) (ended : Ended) → HasTaken p s t shelf → s.known.view.owes ≡ 1 → HasEnded shelf.pool.value tokens done ended mid
+    → mid.under_way < 4294967295
+room_after p s t shelf mid tokens done ended taken owes is =
+    omega (arith, is.under_way, owes, room_left s.known _ taken.course, owes_counted s.known _ taken.course, has_part s.known _ taken.course)
+
+pub room_now : (p : SharedPoolView) (s t : SeatView) (shelf : PoolShelf) → HasTaken p s t shelf → s.known.view.owes ≡ 0 → 0 < s.known.view.parts → shelf.pool.value.under_way < 4294967295
+room_now p s t shelf taken owes parts = omega (arith, owes, parts, room_left s.known _ taken.course)
+
+-- a call that was made by a seat that had taken the pool
+pub called_by : (p : SharedPoolView) (s t u : SeatView) (shelf : PoolShelf) (c : PoolCall) → HasTaken p s t shelf → HasCalled c t u → HasCalled c s u
+called_by p s t u shelf c taken called = (called.0 ∙ taken.lock, called.1, called.2 ∙ ap (λ (v : PoolTold). after_call c v.view) taken.known)
+
+-- what is left when a pool is closed
+pub closed_out : (v : PoolTold) (crew : PoolCrew) (shelf : PoolShelf) → v.view.crew ≡ crew → IsInCourse v (image_of shelf).view → v.view.over ≡ true → shelf.pool.value.halt ≡ None → IsRunOut crew v
+closed_out v crew shelf of_crew course over none =
+    let same : (image_of shelf).view.crew ≡ crew = sym (crew_is v (image_of shelf).view course) ∙ of_crew in
+    let at : IsAtEnd (facts_of shelf.pool.value) = over_is v (image_of shelf).view course over in
+    let here : IsInCourse v (record { crew = crew; facts = facts_of shelf.pool.value }) = subst (λ (x : PoolCrew). IsInCourse v (record { crew = x; facts = facts_of shelf.pool.value })) same course in
+    ⊎_elim (λ up. absurd (up none)) (λ out. (facts_of shelf.pool.value, here, out.0, out.1, none)) at
+
+pub halt_out : (crew : PoolCrew) (v : PoolTold) (shelf : PoolShelf) (o : Option Halt) → o ≡ shelf.pool.value.halt → v.view.crew ≡ crew → IsInCourse v (image_of shelf).view → v.view.over ≡ true → IfNone o (IsRunOut crew v)
+halt_out crew v shelf None is of_crew course over = closed_out v crew shelf of_crew course over (sym is)
+halt_out crew v shelf (Some h) is of_crew course over = tt
+
+pub told_out : (v : PoolTold) (shelf : PoolShelf) (o : Option Halt) → o ≡ shelf.pool.value.halt → IsInCourse v (image_of shelf).view → v.view.told ≡ true → IsSome o
+told_out v shelf None is course told = absurd (told_is v (image_of shelf).view course told (sym is))
+told_out v shelf (Some h) is course told = tt
+
+-- a pool alone never tells a worker to rest
+pub next_or_rest : (script : ScriptView) (workers worker : ℕ) (old : Pool) (n : WorkerNext) (new : Pool) → IsNext (MayVisit script workers worker) old n new → IsNextOrRest script workers worker old n new
+next_or_rest script workers worker old (Visit on) new is = is
+next_or_rest script workers worker old Pause new is = is
+next_or_rest script workers worker old Rest new is = absurd is
+next_or_rest script workers worker old Stop new is = is

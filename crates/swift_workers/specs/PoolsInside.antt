@@ -1,5 +1,5 @@
 -- The pool of tokens as one worker sees it, and what a visit's answer says of the executor's token (our own).
-use Rattle.std.specs.Prelude.{◌≡◌, ◌≢◌, ◌⊎◌, ◌+◌, ◌-◌, ◌<◌, ◌≤◌, ◌++◌, ℕ, true, false, Option, Some, None, Result, List, [], All, length, slice_get, take, drop}
+use Rattle.std.specs.Prelude.{◌≡◌, ◌≢◌, ◌⊎◌, ◌+◌, ◌-◌, ◌<◌, ◌≤◌, ◌++◌, ℕ, true, false, Some, None, Result, List, [], All, length, slice_get, take, drop}
 use Rattle.swift_types.specs.declared.id.ExecId.{ExecId}
 use Rattle.swift_script.specs.Scripts.{ScriptView}
 use Rattle.swift_executor.specs.declared.ran.VisitOutcome.{VisitOutcome}
@@ -11,12 +11,7 @@ use Rattle.swift_workers.specs.declared.pool.Ended.{Ended}
 use Rattle.swift_workers.specs.declared.pool.WorkerNext.{WorkerNext}
 use Rattle.swift_workers.specs.declared.pool.WorkerNext.TheVariants.{Visit, Pause, Rest, Stop}
 use Rattle.swift_workers.specs.declared.pool.Pool.{Pool}
-use Rattle.swift_workers.specs.Pools.{IsCall, IsCauseOf, MayVisit, PoolCall, PoolFacts, PoolKnown, or_else, takes}
-use Rattle.swift_workers.specs.declared.known.PoolImage.{PoolImage}
-
--- what the lock of a pool keeps of it
-abbrev pub facts_of : Pool → PoolFacts
-facts_of p = record { tokens = p.tokens.items; under_way = p.under_way; halt = p.halt }
+use Rattle.swift_workers.specs.Pools.{IsCauseOf, MayVisit, or_else}
 
 -- The token at this place was taken: the others stay in their order, and a worker more is under way.
 pub record IsTakenFromPool (old : Pool) (place : ℕ) (on : ExecId) (new : Pool) : Type 0 where
@@ -61,12 +56,3 @@ abbrev pub left_after : VisitOutcome → PendingLeft
 left_after (ran.Turn task left) = left
 left_after (ran.Nothing left) = left
 left_after ran.Busy = Idle
-
--- A seat that knows v and has taken a pool of a run may give this one back, with which a call was made. The call ends a turn only where the
--- seat owes, and the seat owes no more then than it has parts.
-pub record MayGiveBack (v : PoolKnown) (held : Option PoolImage) (script : ScriptView) (workers : ℕ) (given : Pool) (c : PoolCall) : Type 0 where
-  pub taken : PoolFacts
-  pub was : held ≡ Some (record { view = record { crew = record { script = script; workers = workers }; facts = taken } })
-  pub call : IsCall (record { script = script; workers = workers }) taken c (facts_of given)
-  pub ends : c.ends ≤ v.owes
-  pub few : v.owes - c.ends + takes c.next ≤ v.parts

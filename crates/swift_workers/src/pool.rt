@@ -1,8 +1,8 @@
 //! The tokens of executors that have jobs.
 
 ghost use Rattle.std.specs.Prelude.{◌≡◌, ◌≢◌, ◌-◌, ◌≤◌, ◌<◌, ◌++◌, ◌∷◌, ◌↔◌, [], All, None, Some, IfNone, IfSome, IsSomeAnd, IsTrue, OnOk, OnErr, length, slice_get, take};
-ghost use Rattle.swift_workers.specs.Pools.{MayVisit, or_else};
-ghost use Rattle.swift_workers.specs.PoolsInside.{HasEnded, IsCauseOf, IsNext, IsTakenFromPool};
+ghost use Rattle.swift_workers.specs.Pools.{IsCauseOf, MayVisit, or_else};
+ghost use Rattle.swift_workers.specs.PoolsInside.{HasEnded, IsNext, IsTakenFromPool};
 
 use crate::fault::Halt;
 use std::alloc::{AllocError, Global};

@@ -1,12 +1,11 @@
 //! The pool as workers share it.
 
 ghost use Rattle.std.specs.Prelude.{◌≡◌, ◌≢◌, ◌⊎◌, ◌≤◌, ◌<◌, true, Ok, Err, None, Some, [], IfOk, IfNone, IsErr, IsSome, length};
-ghost use Rattle.swift_shared_book.specs.LockSeat.{held_by, new_seat};
 ghost use Rattle.swift_workers.specs.declared.pool.WorkerNext.TheVariants.{Stop};
 ghost use Rattle.swift_workers.specs.Pools.{IsEndOf, PoolCall, first_known, split_left, split_new};
-ghost use Rattle.swift_workers.specs.PoolRule.{IsInCourse};
 ghost use Rattle.swift_workers.specs.PoolSeats.{HasCalled, HasStopped, IsPoolSeatOf, IsRunOut};
-ghost use Rattle.swift_workers.specs.PoolsInside.{IsNextOrRest, MayGiveBack, facts_of};
+ghost use Rattle.swift_workers.specs.PoolSeatsInside.{HasTaken, MayGiveBack};
+ghost use Rattle.swift_workers.specs.PoolsInside.{IsNextOrRest};
 
 use crate::bell::{Bell, Rest};
 use crate::chain::Chain;
@@ -141,9 +140,7 @@ impl SharedPool {
     // Takes the pool, and waits until it can.
     fn take<R: Wait>(&self, rt: &R, seat: &mut PoolSeat) -> PoolShelf
         requires { IsPoolSeatOf self.now seat.old }
-        ensures seat { (seat.new.lock ≡ seat.old.lock) × (seat.new.known ≡ seat.old.known) × (seat.new.held ≡ Some (record { view = record { crew = self.now.crew; facts = facts_of result.pool.value } })) }
-        ensures crew { (result.script.value ≡ self.now.crew.script) × (result.workers.value ≡ self.now.crew.workers) }
-        ensures course { IsInCourse seat.old.known (record { crew = self.now.crew; facts = facts_of result.pool.value }) }
+        ensures { HasTaken self.now seat.old seat.new result }
     {
         self.lock.lock::<Finds, R>(rt, seat)
     }

@@ -18,7 +18,7 @@ pub struct PoolShelf {
 impl Locked for PoolShelf {
     type Image = PoolImage;
 
-    ghost use Rattle.swift_workers.specs.PoolsInside.{facts_of};
+    ghost use Rattle.swift_workers.specs.PoolFactsInside.{facts_of};
 
     ghost image = { λ s. record { view = record { crew = record { script = s.script.value; workers = s.workers.value }; facts = facts_of s.pool.value } } };
 }

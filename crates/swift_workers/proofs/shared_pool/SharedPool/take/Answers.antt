@@ -5,6 +5,4 @@ pub lock-requires-clause-rule : goal.lock-requires-clause-rule
 lock-requires-clause-rule g c = finds _
 
 pub returns : goal.returns
-returns g c =
-    let t = taken_is c.args.self.now c.args.seat.now c.lock.new.seat c.lock.result c.requires c.lock.ensures.held c.lock.ensures.fact in
-    record { seat = t.0; crew = t.1; course = t.2 }
+returns g c = taken_is c.args.self.now c.args.seat.now c.lock.new.seat c.lock.result c.requires c.lock.ensures.held c.lock.ensures.fact
