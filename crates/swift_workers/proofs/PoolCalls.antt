@@ -66,8 +66,7 @@ same_facts old new tokens under_way halt = λ k. record { tokens = tokens k; und
 pub next_answers : (script : ScriptView) (workers worker : ℕ) (old new : Pool) (n : WorkerNext) → IsNextOrRest script workers worker old n new
     → IsAnswer (record { script = script; workers = workers }) worker (facts_of old) (Some n) (facts_of new)
 next_answers script workers worker old new (Visit on) is =
-    let t = is.1.1 in
-    (
+    let t = is.1.1 in (
       is.0,
       new.tokens.items,
       record {
@@ -215,12 +214,11 @@ pub is_held : (v : PoolKnown) (held : Option PoolImage) (script : ScriptView) (w
 is_held v held script workers p c may = subst (λ (o : Option PoolImage). IsSome o) (sym may.was) tt
 
 pub unlocked : (k c : PoolCall) (s t : SeatView) → k ≡ c → IsSome s.held → t ≡ free_seat s t.known → IfSome s.held (λ taken. t.known.view ≡ after_call k s.known.view) → HasCalled c s t
-unlocked k c s t is held free told =
-    (
-      ap (λ (x : SeatView). x.lock) free,
-      ap (λ (x : SeatView). x.held) free,
-      there s.held held told ∙ ap (λ (x : PoolCall). after_call x s.known.view) is,
-    )
+unlocked k c s t is held free told = (
+  ap (λ (x : SeatView). x.lock) free,
+  ap (λ (x : SeatView). x.held) free,
+  there s.held held told ∙ ap (λ (x : PoolCall). after_call x s.known.view) is,
+)
   where
     there : {X : Type 0} (o : Option PoolImage) → IsSome o → IfSome o (λ taken. X) → X
     there (Some x) is' told' = told'
@@ -228,14 +226,13 @@ unlocked k c s t is held free told =
 
 -- the call that ends a turn
 pub ends_of : (old mid : Pool) (tokens : List ExecId) (done : Result (Unit {0}) Halt) (ended : Ended) (c : PoolCall) → HasEnded old tokens done ended mid → c.ends ≡ 1 → c.put ≡ take ended.put tokens → c.told ≡ ended.told → IsEndOf tokens done c
-ends_of old mid tokens done ended c is ends put told =
-    (
-      ends,
-      ⊎_elim
-          (λ all. inl (put ∙ take_all ended.put tokens (omega (arith, all.0)), subst (λ (o : Option Halt). IsCauseOf done false o) (sym told) all.1))
-          (λ cut. inr (ended.put, cut.0, put, subst (λ (o : Option Halt). IsCauseOf done true o) (sym told) cut.1))
-          is.cause,
-    )
+ends_of old mid tokens done ended c is ends put told = (
+  ends,
+  ⊎_elim
+      (λ all. inl (put ∙ take_all ended.put tokens (omega (arith, all.0)), subst (λ (o : Option Halt). IsCauseOf done false o) (sym told) all.1))
+      (λ cut. inr (ended.put, cut.0, put, subst (λ (o : Option Halt). IsCauseOf done true o) (sym told) cut.1))
+      is.cause,
+)
 
 -- the seat of a worker, from call to call
 

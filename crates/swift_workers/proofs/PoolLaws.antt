@@ -32,8 +32,18 @@ tokens_kept crew (c ∷ cs) p q is f =
     let mid = is.0 in
     let e = answer_weighs crew c.1.worker (has_put p c.1) mid c.1.next f is.1.answer in
     let rest = tokens_kept crew cs mid q is.2 f in
-    omega (arith, e, rest, total_append f p.tokens c.1.put, total_append f p.tokens (c.1.put ++ put_in cs), total_append f c.1.put (put_in cs),
-      total_append f mid.tokens (put_in cs), total_append f (given_by c.1.next ++ taken_in cs) q.tokens, total_append f (given_by c.1.next) (taken_in cs), total_append f (taken_in cs) q.tokens)
+    omega (
+      arith,
+      e,
+      rest,
+      total_append f p.tokens c.1.put,
+      total_append f p.tokens (c.1.put ++ put_in cs),
+      total_append f c.1.put (put_in cs),
+      total_append f mid.tokens (put_in cs),
+      total_append f (given_by c.1.next ++ taken_in cs) q.tokens,
+      total_append f (given_by c.1.next) (taken_in cs),
+      total_append f (taken_in cs) q.tokens,
+    )
 
 or_else_assoc : (a b c : Option Halt) → or_else (or_else a b) c ≡ or_else a (or_else b c)
 or_else_assoc (Some x) b c = refl

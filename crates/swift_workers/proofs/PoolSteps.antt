@@ -147,14 +147,14 @@ call_keeps crew p q c v w call ends few is seats seat k at =
       leads = history_push crew k.history first_pool p q seat c k.leads call;
       known = (λ t s e. ⊎_elim
           (λ x. subst (λ (i : ℕ). IsKnown (record { crew = crew; facts = q }) (k.history ++ (seat, c) ∷ []) i s.view) (sym x.0)
-              (subst (λ (y : PoolTold). IsKnown (record { crew = crew; facts = q }) (k.history ++ (seat, c) ∷ []) seat y.view) x.1
-              (record {
-                crew = ap (λ (x : PoolKnown). x.crew) is ∙ mine.crew;
-                calls = ap (λ (x : PoolKnown). x.calls) is ∙ ap (λ (l : List PoolCall). l ++ c ∷ []) mine.calls ∙ sym (calls_own k.history seat c);
-                few = omega (arith, w_owes, w_parts, few);
-                over = (λ o. stop_ends crew c.worker (has_put p c) q c.next v.view.over call.answer (λ b. end_stays crew p q c call under (mine.over b)) (sym (ap (λ (x : PoolKnown). x.over) is) ∙ o));
-                told = (λ o. told_ends crew q c.told v.view.told (call_told crew p q c call) (λ b. call_halt crew p q c call (mine.told b)) (sym (ap (λ (x : PoolKnown). x.told) is) ∙ o));
-              })))
+          (subst (λ (y : PoolTold). IsKnown (record { crew = crew; facts = q }) (k.history ++ (seat, c) ∷ []) seat y.view) x.1
+          (record {
+            crew = ap (λ (x : PoolKnown). x.crew) is ∙ mine.crew;
+            calls = ap (λ (x : PoolKnown). x.calls) is ∙ ap (λ (l : List PoolCall). l ++ c ∷ []) mine.calls ∙ sym (calls_own k.history seat c);
+            few = omega (arith, w_owes, w_parts, few);
+            over = (λ o. stop_ends crew c.worker (has_put p c) q c.next v.view.over call.answer (λ b. end_stays crew p q c call under (mine.over b)) (sym (ap (λ (x : PoolKnown). x.over) is) ∙ o));
+            told = (λ o. told_ends crew q c.told v.view.told (call_told crew p q c call) (λ b. call_halt crew p q c call (mine.told b)) (sym (ap (λ (x : PoolKnown). x.told) is) ∙ o));
+          })))
           (λ x. let other = k.known t s x.1 in record {
             crew = other.crew;
             calls = other.calls ∙ sym (calls_else k.history seat t c x.0);
@@ -211,9 +211,9 @@ split_keeps i v left right less is is' seats seat k at =
       leads = k.leads;
       known = (λ t s e. ⊎_elim
           (λ x. ⊎_elim
-              (λ y. subst (λ (n : ℕ). IsKnown i k.history n s.view) (sym y.0) (subst (λ (z : PoolTold). IsKnown i k.history seat z.view) y.1 kept))
-              (λ y. k.known t s y.1)
-              (at_set seats seat t left s x))
+          (λ y. subst (λ (n : ℕ). IsKnown i k.history n s.view) (sym y.0) (subst (λ (z : PoolTold). IsKnown i k.history seat z.view) y.1 kept))
+          (λ y. k.known t s y.1)
+          (at_set seats seat t left s x))
           (λ x. subst (λ (n : ℕ). IsKnown i k.history n s.view) x.0 (subst (λ (z : PoolTold). IsKnown i k.history (length front) z.view) x.1 new))
           (at_push front right s t e));
       others = (λ t le. k.others t (omega (arith, length-append front (right ∷ []), length-set seats seat left, le)));

@@ -92,11 +92,7 @@ pub type PoolSeat = LockSeat<PoolShelf, PoolTold>;
 
 impl SharedPool {
     /// No token, and nobody waits. The seat is under way: it owes the tokens of the roots.
-    pub fn new(
-        alloc: Global,
-        script: &Script,
-        workers: u32,
-    ) -> Result<(SharedPool, PoolSeat), Halt>
+    pub fn new(alloc: Global, script: &Script, workers: u32) -> Result<(SharedPool, PoolSeat), Halt>
         ensures crew { IfOk result (λ r. r.0.crew ≡ record { script = script.now; workers = workers }) }
         ensures seat { IfOk result (λ r. IsPoolSeatOf r.0 r.1) }
         ensures known { IfOk result (λ r. r.1.known.view ≡ first_known r.0.crew) }

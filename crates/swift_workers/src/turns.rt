@@ -173,13 +173,7 @@ fn drain<R: Wait, G: Gate>(
 
 /// What a worker does, from the start of its thread to its end. Jobs that it could not send are given up with its hand. Once it has ended
 /// it owes the pool nothing, and it was told to stop, or has told why the run is given up.
-pub fn work<R, G>(
-    rt: &R,
-    crew: Crew<'_>,
-    mut hand: Hand,
-    mut seat: PoolSeat,
-    gate: &G,
-) -> PoolSeat
+pub fn work<R, G>(rt: &R, crew: Crew<'_>, mut hand: Hand, mut seat: PoolSeat, gate: &G) -> PoolSeat
 where
     R: RandomSource + AllocGlobal + Wait,
     G: Gate,
