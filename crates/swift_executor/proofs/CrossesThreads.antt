@@ -13,7 +13,6 @@ use Rattle.futures.proofs.task.waker.Waker.TheSendSync as Waker
 use Rattle.swift_journal.proofs.journal.Journal.TheSendSync as Journal
 use Rattle.swift_journal.proofs.checkpoint.Checkpoint.TheSendSync as Checkpoint
 use Rattle.swift_executor.proofs.InboxCrossesThreads.{body_send, inbox_sync, pass_send, script_send, script_sync, taker_send}
-use Rattle.swift_executor.proofs.tasks.ReadyTasks.TheSendSync as ReadyTasks
 use Rattle.swift_interpreter.proofs.saved.SavedRows.TheSendSync as SavedRows
 use Rattle.swift_undo.proofs.rows.InvariantRows.TheSendSync as InvariantRows
 use Rattle.swift_executor.specs.contracts.fields.Fields as fields
@@ -56,7 +55,7 @@ home_send : IsSend home.the_row
 home_send = search (plain, script_send, script_sync, InvariantRows.the_send) depth 60 fits 20000
 
 state_send : IsSend state.the_row
-state_send = search (plain, script_send, script_sync, body_send, chosen_send, played_send, home_send, ReadyTasks.the_send, Journal.the_send, Checkpoint.the_send) depth 60 fits 20000
+state_send = search (plain, script_send, script_sync, body_send, chosen_send, played_send, home_send, Journal.the_send, Checkpoint.the_send) depth 60 fits 20000
 
 pub book_seat_send : IsSend book_seat.the_row
 book_seat_send = search (plain, Badge.the_send) depth 60 fits 20000

@@ -4,7 +4,6 @@ pub mod OneRecord
 pub mod VisitsDone
 pub mod VisitSteps
 pub mod AccountKept
-pub mod Removed
 pub mod ReadyKept
 pub mod Counting
 pub mod ChosenJob
@@ -31,3 +30,4 @@ pub mod RaiseChangesOne
 pub mod QueueStaysOrderly
 pub mod ArrivalsStayRight
 pub mod ListsJustMade
+pub mod TasksListed

@@ -14,22 +14,8 @@ use Rattle.swift_types.specs.declared.priority.Priority.{Priority}
 use Rattle.swift_job.specs.Job.{JobView}
 use Rattle.swift_executor.specs.Picks.{raised}
 use Rattle.swift_executor.specs.declared.queue.waiting.Waiting.{Waiting}
-use Rattle.swift_executor.specs.Ready.{ComesFirst, ReadyJob, level_at, priority_of, times}
+use Rattle.swift_executor.specs.Ready.{ComesFirst, ReadyJob, level_at, priority_of}
 use Rattle.swift_executor.specs.ReadyInside.{AreCounted, Comes, job_of, task_in, task_of}
-
-pub times_perm : (t : TaskId) (xs ys : List TaskId) → IsPermutation xs ys → times t ys ≡ times t xs
-times_perm t xs ys perm = sum_by-IsPermutation _ xs ys perm
-
--- a task that has a job stands among the tasks
-pub stands : (t : TaskId) (ts : List TaskId) → 0 < times t ts → Contains ts t
-stands t [] lt = absurd (omega (arith, lt))
-stands t (x ∷ xs) lt = elim (cases_eq x.0 t.0) [
-  | inl e ↦ subst (λ (y : TaskId). Contains (x ∷ xs) y) (ap (λ (n : ℕ). record { 0 = n }) e) (Contains-append_left (x ∷ []) xs x (Contains-push [] x))
-  | inr ne ↦
-      let none : cond {A = ℕ} (eqb x.0 t.0) 1 0 ≡ 0 = ap (λ (b : Bool). cond {A = ℕ} b 1 0) (ne_eqb x.0 t.0 ne) in
-      let all = sum_by-cons (λ (y : TaskId). cond (eqb y.0 t.0) 1 0) x xs in
-      Contains-append_right (x ∷ []) xs t (stands t xs (omega (arith, lt, none, all)))
-]
 
 -- the priority of a greater level is no lower
 pub greater : (l l' : ℕ) → l < l' → (if nat_lt (rank (priority_of l)) (rank (priority_of l')) then priority_of l' else priority_of l) ≡ priority_of l'
@@ -48,54 +34,6 @@ module _ {B : Type 0} where
       let all = All-permutation P old (w ∷ new) perm are in
       (All-tail P w new all, All-head P w new all)
 
-  pub tasks_add : (jobs new : List (Waiting B)) (w : Waiting B) (bs ts ts' : List TaskId) → ((t : TaskId) → times t ts ≡ times t (map task_of jobs ++ bs)) → IsPermutation (w.job.task ∷ ts) ts' → IsPermutation (w ∷ jobs) new
-      → (t : TaskId) → times t ts' ≡ times t (map task_of new ++ bs)
-  tasks_add jobs new w bs ts ts' are added perm t =
-      let f : TaskId → ℕ = λ (y : TaskId). cond (eqb y.0 t.0) 1 0 in
-      let one = times_perm t (w.job.task ∷ ts) ts' added in
-      let two = sum_by-cons f w.job.task ts in
-      let three = are t in
-      let four = sum_by-cons f w.job.task (map task_of jobs ++ bs) in
-      let five = times_perm t (map task_of (w ∷ jobs) ++ bs) (map task_of new ++ bs) (IsPermutation-append_left bs (map task_of (w ∷ jobs)) (map task_of new) (IsPermutation-map task_of (w ∷ jobs) new perm)) in
-      omega (arith, one, two, three, four, five)
-
-  pub tasks_take : (old new : List (Waiting B)) (w : Waiting B) (bs ts ts' : List TaskId) → ((t : TaskId) → times t ts ≡ times t (map task_of old ++ bs)) → IsPermutation ts (w.job.task ∷ ts') → IsPermutation old (w ∷ new)
-      → (t : TaskId) → times t ts' ≡ times t (map task_of new ++ bs)
-  tasks_take old new w bs ts ts' are removed perm t =
-      let f : TaskId → ℕ = λ (y : TaskId). cond (eqb y.0 t.0) 1 0 in
-      let one = times_perm t ts (w.job.task ∷ ts') removed in
-      let two = sum_by-cons f w.job.task ts' in
-      let three = are t in
-      let four = sum_by-cons f w.job.task (map task_of new ++ bs) in
-      let five = times_perm t (map task_of old ++ bs) (map task_of (w ∷ new) ++ bs) (IsPermutation-append_left bs (map task_of old) (map task_of (w ∷ new)) (IsPermutation-map task_of old (w ∷ new) perm)) in
-      omega (arith, one, two, three, four, five)
-
-  -- one job more behind
-  pub tasks_behind : (jobs : List (Waiting B)) (behind : List (JobView B)) (j : JobView B) (ts ts' : List TaskId) → ((t : TaskId) → times t ts ≡ times t (map task_of jobs ++ map task_in behind)) → IsPermutation (j.task ∷ ts) ts'
-      → (t : TaskId) → times t ts' ≡ times t (map task_of jobs ++ map task_in (behind ++ j ∷ []))
-  tasks_behind jobs behind j ts ts' are added t =
-      let f : TaskId → ℕ = λ (y : TaskId). cond (eqb y.0 t.0) 1 0 in
-      let one = times_perm t (j.task ∷ ts) ts' added in
-      let two = sum_by-cons f j.task ts in
-      let three = are t in
-      let four = sum_by-append f (map task_of jobs) (map task_in behind) in
-      let five = sum_by-append f (map task_of jobs) (map task_in behind ++ j.task ∷ []) in
-      let six = sum_by_push f (map task_in behind) j.task in
-      let seven : times t (map task_of jobs ++ map task_in (behind ++ j ∷ [])) ≡ times t (map task_of jobs ++ (map task_in behind ++ j.task ∷ [])) =
-      ap (λ (xs : List TaskId). times t (map task_of jobs ++ xs)) (map-append task_in behind (j ∷ [])) in
-      omega (arith, one, two, three, four, five, six, seven)
-
-  -- one that has a job in front, say the one that is taken
-  pub stands_taken : (old new : List (Waiting B)) (w : Waiting B) (bs ts : List TaskId) → ((t : TaskId) → times t ts ≡ times t (map task_of old ++ bs)) → IsPermutation old (w ∷ new) → Contains ts w.job.task
-  stands_taken old new w bs ts are perm =
-      let t = w.job.task in
-      let f : TaskId → ℕ = λ (y : TaskId). cond (eqb y.0 t.0) 1 0 in
-      let one = are t in
-      let two = sum_by-cons f t (map task_of new ++ bs) in
-      let three = times_perm t (map task_of old ++ bs) (map task_of (w ∷ new) ++ bs) (IsPermutation-append_left bs (map task_of old) (map task_of (w ∷ new)) (IsPermutation-map task_of old (w ∷ new) perm)) in
-      let four : cond {A = ℕ} (eqb t.0 t.0) 1 0 ≡ 1 = ap (λ (b : Bool). cond {A = ℕ} b 1 0) (eq-eqb t.0 t.0 refl) in
-      stands t ts (omega (arith, one, two, three, four))
-
   -- the tasks of jobs, seen with the numbers of their arrival
   pub tasks_seen : (jobs : List (Waiting B)) → map task_of jobs ≡ map (λ (x : ReadyJob B). x.job.task) (map job_of jobs)
   tasks_seen [] = refl
@@ -109,9 +47,6 @@ module _ {B : Type 0} where
       seen : (b : Bool) → (eqb w.job.task.0 task.0 && nat_lt (rank w.priority) (rank p)) ≡ b → map job_of (map (raised task p) jobs) ≡ map job_of jobs → map job_of (map (raised task p) (w ∷ jobs)) ≡ map job_of (w ∷ jobs)
       seen true is rest = rw is (ap (λ (xs : List (ReadyJob B)). job_of w ∷ xs) rest)
       seen false is rest = rw is (ap (λ (xs : List (ReadyJob B)). job_of w ∷ xs) rest)
-
-  pub raised_tasks : (task : TaskId) (p : Priority) (jobs : List (Waiting B)) → map task_of (map (raised task p) jobs) ≡ map task_of jobs
-  raised_tasks task p jobs = tasks_seen (map (raised task p) jobs) ∙ ap (λ (xs : List (ReadyJob B)). map (λ x. x.job.task) xs) (raised_seen task p jobs) ∙ sym (tasks_seen jobs)
 
   pub all_unmap : {Y : Type 0} (P : Y → Type 0) (f : Waiting B → Y) (ys : List (Waiting B)) → All P (map f ys) → All (λ y. P (f y)) ys
   all_unmap P f [] all = All-nil (λ y. P (f y))
@@ -178,20 +113,6 @@ module _ {B : Type 0} where
   pub jobs_seen : (jobs : List (Waiting B)) → map (λ (w : Waiting B). w.job) jobs ≡ map (λ (x : ReadyJob B). x.job) (map job_of jobs)
   jobs_seen [] = refl
   jobs_seen (w ∷ jobs) = ap (λ (js : List (JobView B)). w.job ∷ js) (jobs_seen jobs)
-
-  -- a job from behind comes to the front
-  pub tasks_forward : (jobs new : List (Waiting B)) (w : Waiting B) (behind less : List (JobView B)) (ts : List TaskId) → ((t : TaskId) → times t ts ≡ times t (map task_of jobs ++ map task_in behind))
-      → IsPermutation behind (w.job ∷ less) → IsPermutation (w ∷ jobs) new → (t : TaskId) → times t ts ≡ times t (map task_of new ++ map task_in less)
-  tasks_forward jobs new w behind less ts are removed added t =
-      let f : TaskId → ℕ = λ (y : TaskId). cond (eqb y.0 t.0) 1 0 in
-      let one = are t in
-      let two = sum_by-append f (map task_of jobs) (map task_in behind) in
-      let three = sum_by-append f (map task_of new) (map task_in less) in
-      let four = times_perm t (map task_in behind) (map task_in (w.job ∷ less)) (IsPermutation-map task_in behind (w.job ∷ less) removed) in
-      let five = sum_by-cons f w.job.task (map task_in less) in
-      let six = times_perm t (map task_of (w ∷ jobs)) (map task_of new) (IsPermutation-map task_of (w ∷ jobs) new added) in
-      let seven = sum_by-cons f w.job.task (map task_of jobs) in
-      omega (arith, one, two, three, four, five, six, seven)
 
 -- a list that is parted at an element
 pub parted : {X : Type 0} (xs : List X) (i : ℕ) (x : X) → i < length xs → x ≡ get_or xs i x → xs ≡ take i xs ++ x ∷ drop (suc i) xs

@@ -10,7 +10,6 @@ pub mod Refusals
 pub mod Seats
 pub mod State
 pub mod StateInside
-pub mod TasksInside
 pub mod Visits
 pub mod Inbox
 pub mod Looks

@@ -1,5 +1,5 @@
 -- The jobs of an executor that are ready, and which of them is picked (SE-0306 for the order by priority; the rest is our own).
-use Rattle.std.specs.Prelude.{◌≡◌, ◌≢◌, ℕ, ◌+◌, ◌<◌, ◌≤◌, ◌^◌, nat_lt, eqb, count_by, Bool, true, false, if◌then◌else◌, List, [], ◌∷◌, ◌++◌, length, map, slice_index_or, All, ◌⊎◌}
+use Rattle.std.specs.Prelude.{◌≡◌, ◌≢◌, ℕ, ◌+◌, ◌<◌, ◌≤◌, ◌^◌, nat_lt, Bool, true, false, if◌then◌else◌, List, [], ◌∷◌, ◌++◌, length, map, slice_index_or, All, ◌⊎◌}
 use Rattle.std.specs.List.Sorted.{IsPermutation}
 use Rattle.swift_types.specs.Priority.{rank}
 use Rattle.swift_types.specs.declared.id.TaskId.{TaskId}
@@ -32,10 +32,6 @@ ready_job job arrival = record { job = job; arrival = arrival }
 -- the tasks of ready jobs
 abbrev pub tasks_in : {B : Type 0} → ReadyJobsView B → List TaskId
 tasks_in r = map (λ x. x.job.task) r.front ++ map (λ j. j.task) r.behind
-
--- how often a task is in a list
-abbrev pub times : TaskId → List TaskId → ℕ
-times t ts = count_by (λ x. eqb x.0 t.0) ts
 
 -- the level of a task, which is one more than the number of its priority; 0 where no book has given one
 abbrev pub level_at : List ℕ → TaskId → ℕ

@@ -6,7 +6,7 @@ use Rattle.swift_executor.specs.Picks.{IsOlder, PicksFirst}
 use Rattle.swift_types.specs.declared.limits.TheConstants.{TASKS}
 use Rattle.swift_executor.specs.declared.queue.waiting.Waiting.{Waiting}
 use Rattle.swift_executor.specs.declared.ready.ReadyJobs.TheInside.{Inside}
-use Rattle.swift_executor.specs.Ready.{ReadyJob, level_at, priority_of, times}
+use Rattle.swift_executor.specs.Ready.{ReadyJob, level_at, priority_of}
 
 abbrev pub job_of : {B : Type 0} → Waiting B → ReadyJob B
 job_of w = record { job = w.job; arrival = w.arrival }
@@ -33,10 +33,7 @@ AreCounted levels jobs = All (λ w. w.priority ≡ priority_of (level_at levels 
 
 pub record ReadyInvariant {B : Type 0} (r : Inside B) : Type 0 where
   pub counted : AreCounted r.levels.items r.queue.jobs
-  pub tasks : (t : TaskId) → times t r.tasks.tasks ≡ times t (map task_of r.queue.jobs ++ map task_in r.behind.items)
-  pub many : length r.tasks.tasks ≡ length r.queue.jobs + length r.behind.items
   pub inside : length r.queue.jobs + length r.behind.items ≤ r.queue.room
   pub number : r.queue.arrived + length r.behind.items < 2 ^ 64
   pub behind_room : r.queue.room ≤ vec_capacity r.behind
-  pub tasks_room : r.queue.room ≤ r.tasks.room
   pub levels : length r.levels.items ≡ TASKS

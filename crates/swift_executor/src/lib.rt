@@ -5,8 +5,6 @@
 
 // Why an executor refuses.
 mod fault;
-// The tasks whose jobs are ready.
-mod tasks;
 // The jobs that are ready.
 mod ready;
 // The fields of its actors.

@@ -1,6 +1,6 @@
 //! A run queue of jobs, with room that was made at the start.
 
-ghost use Rattle.std.specs.Prelude.{◌≡◌, ◌≢◌, ℕ, ◌+◌, ◌<◌, ◌≤◌, ◌^◌, ◌↔◌, [], ◌∷◌, IfOk, IfSome, IfNone, IsSome, IsTrue, None, length, map, slice_set, false};
+ghost use Rattle.std.specs.Prelude.{◌≡◌, ◌≢◌, ℕ, ◌+◌, ◌<◌, ◌≤◌, ◌^◌, ◌↔◌, [], ◌∷◌, IfOk, IfSome, IfNone, IsSome, IsTrue, None, length, map, slice_index_or, slice_set, false};
 ghost use Rattle.std.specs.List.Sorted.{IsPermutation};
 
 // A job that waits in a queue.
@@ -124,6 +124,14 @@ impl<B> Queue<B> {
         ensures { result ≡ self.now.arrived }
     {
         self.arrived
+    }
+
+    /// The task of the job at a place of the list. In constant time.
+    pub fn task_at(&self, place: usize) -> TaskId
+        requires { place < length self.now.jobs }
+        ensures { (d : _) → result ≡ (slice_index_or self.now.jobs place d).job.task }
+    {
+        self.lists.task_at(place)
     }
 
     /// Whether a job of the task is inside.

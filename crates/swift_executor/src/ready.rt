@@ -1,15 +1,14 @@
 //! The jobs that are ready.
 
-ghost use Rattle.std.specs.Prelude.{◌≡◌, ◌≢◌, ◌+◌, ◌<◌, ◌≤◌, ◌^◌, ◌↔◌, [], ◌∷◌, ◌++◌, All, IfOk, IfSome, IfNone, IsTrue, length, map, replicate, take, vec_capacity, vec_len, if◌then◌else◌, nat_lt};
+ghost use Rattle.std.specs.Prelude.{◌≡◌, ◌≢◌, ◌+◌, ◌<◌, ◌≤◌, ◌^◌, ◌↔◌, [], ◌∷◌, ◌++◌, All, IfOk, IfSome, IfNone, IsTrue, length, map, replicate, slice_index_or, take, vec_capacity, vec_len, if◌then◌else◌, nat_lt};
 ghost use Rattle.std.specs.List.Sorted.{IsPermutation};
 ghost use Rattle.swift_types.specs.declared.id.TaskId.{TaskId};
 ghost use Rattle.swift_types.specs.declared.limits.TheConstants.{TASKS};
 ghost use Rattle.swift_executor.specs.Queue.{IsRestorable, TakesFirst};
 ghost use Rattle.swift_executor.specs.ReadyInside.{Comes, HasTaskAt};
-ghost use Rattle.swift_executor.specs.Ready.{Adds, AreAtMost, AreHigher, CanRestore, ComesFirst, Forwards, HasRoom, IsClear, level_at, priority_of, ready_job, tasks_in, times};
+ghost use Rattle.swift_executor.specs.Ready.{Adds, AreAtMost, AreHigher, CanRestore, ComesFirst, Forwards, HasRoom, IsClear, level_at, priority_of, ready_job, tasks_in};
 
 use crate::queue::Queue;
-use crate::tasks::ReadyTasks;
 use std::alloc::{AllocError, Global};
 use std::marker::Model;
 use swift_job::Job;
@@ -23,8 +22,6 @@ pub struct ReadyJobs<B> {
     queue: Queue<B>,
     // Jobs of tasks that have another one in the queue or taken out, the oldest first.
     behind: Vec<Job<B>>,
-    // The tasks of all these jobs.
-    tasks: ReadyTasks,
     // The greatest level that a book gave, by the number of the task.
     levels: Vec<u8>,
     // How many events there were when the levels of all tasks were given last.
@@ -80,14 +77,12 @@ impl<B> ReadyJobs<B> {
     pub fn with_room(alloc: Global, room: usize) -> Result<ReadyJobs<B>, AllocError>
         ensures { IfOk result (λ r. r ≡ record { front = []; behind = []; room = room; arrived = 0; levels = replicate TASKS 0; counted = 0 }) }
     {
-        let tasks = ReadyTasks::with_room(alloc, room)?;
         let levels = vec![in alloc; 0; TASKS]?;
         let queue = Queue::with_room(alloc, room)?;
         match Vec::with_capacity(alloc, room) {
             Ok(behind) => Ok(ReadyJobs {
                 queue,
                 behind,
-                tasks,
                 levels,
                 counted: 0,
             }),
@@ -110,11 +105,28 @@ impl<B> ReadyJobs<B> {
             && self.queue.arrived() + (self.behind.len() as u64) < u64::MAX
     }
 
-    /// The tasks of the jobs, in an order that means nothing.
-    pub fn tasks(&self) -> &[TaskId]
-        ensures { (t : TaskId) → times t result.now ≡ times t (tasks_in self.now) }
+    /// How many jobs there are.
+    #[tactic(auto, using(crate::proofs::TasksListed::tasks_counted))]
+    pub fn count_jobs(&self) -> usize
+        ensures { result ≡ length (tasks_in self.now) }
     {
-        self.tasks.as_slice()
+        let front = self.queue.len();
+        let behind = self.behind.len();
+        front + behind
+    }
+
+    /// The task of the job at this place: those in front come first.
+    #[tactic(auto, using(crate::proofs::TasksListed::tasks_counted, crate::proofs::TasksListed::task_in_front, crate::proofs::TasksListed::task_behind))]
+    pub fn task_at(&self, place: usize) -> TaskId
+        requires { place < length (tasks_in self.now) }
+        ensures { (d : TaskId) → result ≡ slice_index_or (tasks_in self.now) place d }
+    {
+        let front = self.queue.len();
+        if place < front {
+            self.queue.task_at(place)
+        } else {
+            self.behind[place - front].task()
+        }
     }
 
     /// Adds a job, as the newest.
@@ -125,7 +137,6 @@ impl<B> ReadyJobs<B> {
         let task = job.task();
         let priority = priority_of(self.level(task));
         let _inside = self.queue.len();
-        self.tasks.add(task);
         if self.queue.holds(task) {
             self.behind.push_reserved(job);
         } else {
@@ -221,7 +232,6 @@ impl<B> ReadyJobs<B> {
         let Some((job, arrival)) = take_from(&mut self.queue, by_arrival) else {
             return None;
         };
-        self.tasks.remove(job.task());
         Some((job, arrival))
     }
 
@@ -234,7 +244,6 @@ impl<B> ReadyJobs<B> {
         let task = job.task();
         let priority = priority_of(self.level(task));
         let _inside = self.queue.len();
-        self.tasks.add(task);
         self.queue.restore(job, arrival, priority);
     }
 
@@ -259,7 +268,6 @@ impl<B> ReadyJobs<B> {
         let ReadyJobs {
             queue,
             behind,
-            tasks: _,
             levels: _,
             counted: _,
         } = self;

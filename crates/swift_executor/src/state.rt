@@ -1,6 +1,6 @@
 //! The state of an executor.
 
-ghost use Rattle.std.specs.Prelude.{◌≡◌, ◌↔◌, ◌++◌, ◌-◌, None, IfOk, IsTrue, Contains, Some, map};
+ghost use Rattle.std.specs.Prelude.{◌≡◌, ◌↔◌, ◌++◌, ◌-◌, ◌<◌, None, IfOk, IsTrue, Contains, Some, length, map, slice_index_or};
 ghost use Rattle.std.specs.Arc.{arc_value};
 ghost use Rattle.std.specs.List.Sorted.{IsPermutation};
 ghost use Rattle.script_code.specs.Seen.{rows_of};
@@ -8,7 +8,7 @@ ghost use Rattle.script_code.specs.Tree.{Term};
 ghost use Rattle.swift_types.specs.declared.id.TaskId.{TaskId};
 ghost use Rattle.script_code.specs.Value.{holds};
 ghost use Rattle.swift_script.specs.Scripts.{executor_actors, executor_invariants, executor_start};
-ghost use Rattle.swift_executor.specs.Ready.{HasRoom, tasks_in, times};
+ghost use Rattle.swift_executor.specs.Ready.{HasRoom, tasks_in};
 ghost use Rattle.swift_executor.specs.State.{ExecInvariant, chosen_count, fields_at, new_executor};
 
 use crate::chosen::{Chosen, PlayedTurn};
@@ -108,11 +108,19 @@ impl ExecState {
         self.ready.has_room(taken)
     }
 
-    /// The tasks of the jobs that are ready, in an order that means nothing.
-    pub fn ready(&self) -> &[TaskId]
-        ensures { (t : TaskId) → times t result.now ≡ times t (tasks_in self.now.ready) }
+    /// How many jobs are ready.
+    pub fn ready_count(&self) -> usize
+        ensures { result ≡ length (tasks_in self.now.ready) }
     {
-        self.ready.tasks()
+        self.ready.count_jobs()
+    }
+
+    /// The task of one of the jobs that are ready, by its place in an order that means nothing. In constant time.
+    pub fn ready_task(&self, place: usize) -> TaskId
+        requires { place < length (tasks_in self.now.ready) }
+        ensures { (d : TaskId) → result ≡ slice_index_or (tasks_in self.now.ready) place d }
+    {
+        self.ready.task_at(place)
     }
 
     /// The turns since the checkpoint, the oldest first.

@@ -140,6 +140,24 @@ fn insert_by_priority<B>(lists: &mut [VecDeque<Waiting<B>>; PRIORITIES], waiting
     insert_by_arrival(&mut lists[level], waiting);
 }
 
+/// The task of the job at this place, where the lists stand one after another.
+#[tactic(auto, using(crate::proofs::TasksListed::one_more, crate::proofs::TasksListed::stands_in))]
+fn task_at<B>(lists: &[VecDeque<Waiting<B>>; PRIORITIES], place: usize) -> TaskId
+    requires lists { (room : ℕ) × AreLists room lists.now }
+    requires within { place < length (jobs_of lists.now) }
+    ensures { (d : _) → result ≡ (slice_index_or (jobs_of lists.now) place d).job.task }
+{
+    let mut left = place;
+    for level in 0..PRIORITIES {
+        let list = &lists[level];
+        if left < list.len() {
+            return list[left].job.task();
+        }
+        left -= list.len();
+    }
+    unreachable!()
+}
+
 /// Gives up the empty list of each priority.
 fn close_each<B>(lists: [VecDeque<Waiting<B>>; PRIORITIES])
     requires { AreEmptyFrom 0 lists }
@@ -201,6 +219,14 @@ impl<B> PriorityLists<B> {
         ensures { result ≡ length self.now.jobs }
     {
         self.lists[0].len() + self.lists[1].len() + self.lists[2].len() + self.lists[3].len()
+    }
+
+    /// The task of the job at this place, in an order that means nothing.
+    pub(crate) fn task_at(&self, place: usize) -> TaskId
+        requires { place < length self.now.jobs }
+        ensures { (d : _) → result ≡ (slice_index_or self.now.jobs place d).job.task }
+    {
+        task_at(&self.lists, place)
     }
 
     /// Adds a job that is newer than all others.

@@ -163,8 +163,9 @@ impl<'a> Onlooker for Looker<'a> {
         }
         self.out.count("", state.journal().len() as u64);
         self.out.put(" turns");
-        for task in state.ready() {
-            self.out.number(", ready t", i64::from(task.0));
+        for place in 0..state.ready_count() {
+            self.out
+                .number(", ready t", i64::from(state.ready_task(place).0));
         }
     }
 }

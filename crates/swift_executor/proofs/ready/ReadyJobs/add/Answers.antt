@@ -6,22 +6,10 @@ use Rattle.std.specs.List.Sorted.{IsPermutation}
 use Rattle.swift_types.specs.declared.id.TaskId.{TaskId}
 use Rattle.swift_job.specs.Job.{JobView}
 use Rattle.swift_executor.specs.Queue.{waiting}
-use Rattle.swift_executor.specs.Ready.{Adds, HasRoom, IsClear, ReadyJobsView, ReadyJob, level_at, priority_of, times}
+use Rattle.swift_executor.specs.Ready.{Adds, HasRoom, IsClear, ReadyJobsView, ReadyJob, level_at, priority_of}
 use Rattle.swift_executor.specs.ReadyInside.{job_of, task_in, task_of}
-use Rattle.swift_executor.proofs.ReadyKept.{all_unmap, counted_add, tasks_add, tasks_behind}
+use Rattle.swift_executor.proofs.ReadyKept.{all_unmap, counted_add}
 use Rattle.swift_executor.proofs.ready.ReadyJobs.add.Goals as goal
-
-pub add-requires : goal.add-requires
-add-requires g c =
-    let x = c.self.inside in
-    let v = c.self.invariant in
-    let inside : HasRoom (record { front = map job_of x.queue.jobs; behind = x.behind.items; room = x.queue.room; arrived = x.queue.arrived; levels = x.levels.items; counted = x.counted }) 0 =
-    subst (λ (r : ReadyJobsView g.row.B.Denot). HasRoom r 0) (sym c.self.view_is) c.requires in
-    let len = length-map x.queue.jobs job_of in
-    let lt = inside.room in
-    let many = v.many in
-    let room = v.tasks_room in
-    omega (arith, lt, len, many, room)
 
 pub invariant_of-self : goal.invariant_of-self
 invariant_of-self g c =
@@ -34,21 +22,13 @@ invariant_of-self g c =
     let num = inside.number in
     let items = c.push_reserved.ensures.items in
     let more : length c.push_reserved.new.self.items ≡ length x.behind.items + 1 = ap length items ∙ length-append x.behind.items (c.args.job ∷ []) in
-    let ts = length_permutation (c.task-task.result ∷ x.tasks.tasks) c.add.new.self.tasks c.add.ensures.tasks in
-    let many = v.many in
-    let room = v.tasks_room in
-    let kept = c.add.ensures.room in
     let cap = v.behind_room in
     let cap' = c.push_reserved.ensures.capacity in
     record {
       counted = v.counted;
-      tasks = λ t. tasks_behind x.queue.jobs x.behind.items c.args.job x.tasks.tasks c.add.new.self.tasks v.tasks (subst (λ (t : TaskId). IsPermutation (t ∷ x.tasks.tasks) c.add.new.self.tasks) c.task-task.ensures c.add.ensures.tasks) t
-          ∙ ap (λ (js : List (JobView g.row.B.Denot)). times t (map task_of x.queue.jobs ++ map task_in js)) (sym items);
-      many = omega (arith, ts, many, more);
       inside = omega (arith, lt, len, more);
       number = omega (arith, num, len, more);
       behind_room = omega (arith, cap, cap');
-      tasks_room = omega (arith, room, kept);
       levels = v.levels;
     }
 
@@ -61,10 +41,6 @@ invariant_of-self-else-holds g c =
     let len = length-map x.queue.jobs job_of in
     let lt = inside.room in
     let num = inside.number in
-    let ts = length_permutation (c.task-task.result ∷ x.tasks.tasks) c.add.new.self.tasks c.add.ensures.tasks in
-    let many = v.many in
-    let room = v.tasks_room in
-    let kept = c.add.ensures.room in
     let cap = v.behind_room in
     let more = c.put.ensures.len in
     let qroom = c.put.ensures.room in
@@ -73,12 +49,9 @@ invariant_of-self-else-holds g c =
     record {
       counted = counted_add x.levels.items x.queue.jobs c.put.new.self.jobs w v.counted
           (c.priority_of-priority.ensures ∙ ap priority_of (c.level.ensures ∙ ap (λ (r : ReadyJobsView g.row.B.Denot). level_at r.levels c.task-task.result) (sym c.self.view_is) ∙ ap (level_at x.levels.items) c.task-task.ensures)) c.put.ensures.jobs;
-      tasks = tasks_add x.queue.jobs c.put.new.self.jobs w (map task_in x.behind.items) x.tasks.tasks c.add.new.self.tasks v.tasks (subst (λ (t : TaskId). IsPermutation (t ∷ x.tasks.tasks) c.add.new.self.tasks) c.task-task.ensures c.add.ensures.tasks) c.put.ensures.jobs;
-      many = omega (arith, ts, many, more);
       inside = omega (arith, lt, len, more, qroom);
       number = omega (arith, num, len, arrived);
       behind_room = omega (arith, cap, qroom);
-      tasks_room = omega (arith, room, kept, qroom);
       levels = v.levels;
     }
 

@@ -7,7 +7,7 @@ use Rattle.swift_job.specs.Job.{JobView}
 use Rattle.swift_executor.specs.Queue.{waiting}
 use Rattle.swift_executor.specs.Ready.{Forwards, IsClear, ReadyJobsView, ReadyJob, level_at, priority_of}
 use Rattle.swift_executor.specs.ReadyInside.{job_of}
-use Rattle.swift_executor.proofs.ReadyKept.{all_unmap, counted_add, parted, tasks_forward}
+use Rattle.swift_executor.proofs.ReadyKept.{all_unmap, counted_add, parted}
 use Rattle.swift_executor.proofs.ready.ReadyJobs.forward.Goals as goal
 
 pub put-requires : goal.put-requires
@@ -44,21 +44,16 @@ invariant_of-self g c =
     let more = c.put.ensures.len in
     let qroom = c.put.ensures.room in
     let arrived = c.put.ensures.arrived in
-    let many = v.many in
     let inside = v.inside in
     let number = v.number in
     let cap = v.behind_room in
     let cap' = c.remove-job.ensures.capacity in
-    let tr = v.tasks_room in
     record {
       counted = counted_add x.levels.items x.queue.jobs c.put.new.self.jobs w v.counted
           (c.priority_of-priority.ensures ∙ ap priority_of (c.level.ensures ∙ ap (λ (r : ReadyJobsView g.row.B.Denot). level_at r.levels c.args.task) (sym c.self.view_is) ∙ ap (level_at x.levels.items) (sym task))) c.put.ensures.jobs;
-      tasks = tasks_forward x.queue.jobs c.put.new.self.jobs w x.behind.items less x.tasks.tasks v.tasks gone c.put.ensures.jobs;
-      many = omega (arith, many, len, more);
       inside = omega (arith, inside, len, more, qroom);
       number = omega (arith, number, len, arrived);
       behind_room = omega (arith, cap, cap', qroom);
-      tasks_room = omega (arith, tr, qroom);
       levels = v.levels;
     }
 

@@ -4,9 +4,9 @@ use Rattle.std.specs.List.Sorted.{IsPermutation}
 use Rattle.swift_types.specs.declared.id.TaskId.{TaskId}
 use Rattle.swift_types.specs.declared.priority.Priority.{Priority}
 use Rattle.swift_executor.specs.Picks.{raised}
-use Rattle.swift_executor.specs.Ready.{ReadyJobsView, ReadyJob, level_at, priority_of, times}
+use Rattle.swift_executor.specs.Ready.{ReadyJobsView, ReadyJob, level_at, priority_of}
 use Rattle.swift_executor.specs.ReadyInside.{job_of, task_in, task_of}
-use Rattle.swift_executor.proofs.ReadyKept.{counted_raise, raised_seen, raised_tasks, seen_perm, times_perm}
+use Rattle.swift_executor.proofs.ReadyKept.{counted_raise, raised_seen, seen_perm}
 use Rattle.std.proofs.lemmas.List.Sorted.{IsPermutation-append_left, IsPermutation-map}
 use Rattle.swift_executor.proofs.ready.ReadyJobs.raise.Goals as goal
 
@@ -30,19 +30,12 @@ invariant_of-self g c =
     let inside = v.inside in
     let number = v.number in
     let cap = v.behind_room in
-    let tr = v.tasks_room in
-    let many = v.many in
     record {
       counted = counted_raise x.levels.items levels' task c.args.level jobs new below (get_or-set_same x.levels.items c.args.place c.args.level 0 lt)
           (λ t ne. get_or-set_other x.levels.items c.args.place t.0 c.args.level 0 ne) v.counted perm;
-      tasks = λ t. v.tasks t
-          ∙ ap (λ (ts : List TaskId). times t (ts ++ map task_in x.behind.items)) (sym (raised_tasks task p jobs))
-          ∙ sym (times_perm t (map task_of (map (raised task p) jobs) ++ map task_in x.behind.items) (map task_of new ++ map task_in x.behind.items) (IsPermutation-append_left (map task_in x.behind.items) (map task_of (map (raised task p) jobs)) (map task_of new) (IsPermutation-map task_of (map (raised task p) jobs) new perm)));
-      many = omega (arith, many, len);
       inside = omega (arith, inside, len, room);
       number = omega (arith, number, arrived);
       behind_room = omega (arith, cap, room);
-      tasks_room = omega (arith, tr, room);
       levels = length-set x.levels.items c.args.place c.args.level ∙ v.levels;
     }
 

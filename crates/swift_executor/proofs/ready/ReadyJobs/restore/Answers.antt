@@ -6,20 +6,8 @@ use Rattle.swift_types.specs.declared.id.TaskId.{TaskId}
 use Rattle.swift_executor.specs.Queue.{waiting}
 use Rattle.swift_executor.specs.Ready.{CanRestore, ReadyJobsView, ReadyJob, level_at, priority_of, ready_job}
 use Rattle.swift_executor.specs.ReadyInside.{job_of, task_in}
-use Rattle.swift_executor.proofs.ReadyKept.{all_unmap, counted_add, tasks_add}
+use Rattle.swift_executor.proofs.ReadyKept.{all_unmap, counted_add}
 use Rattle.swift_executor.proofs.ready.ReadyJobs.restore.Goals as goal
-
-pub add-requires : goal.add-requires
-add-requires g c =
-    let x = c.self.inside in
-    let v = c.self.invariant in
-    let can : CanRestore (record { front = map job_of x.queue.jobs; behind = x.behind.items; room = x.queue.room; arrived = x.queue.arrived; levels = x.levels.items; counted = x.counted }) c.args.job.task c.args.arrival =
-    subst (λ (r : ReadyJobsView g.row.B.Denot). CanRestore r c.args.job.task c.args.arrival) (sym c.self.view_is) c.requires in
-    let len = length-map x.queue.jobs job_of in
-    let lt = can.room in
-    let many = v.many in
-    let room = v.tasks_room in
-    omega (arith, lt, len, many, room)
 
 pub restore-requires : goal.restore-requires
 restore-requires g c =
@@ -46,10 +34,6 @@ invariant_of-self g c =
     let len = length-map x.queue.jobs job_of in
     let lt = can.room in
     let num = v.number in
-    let ts = length_permutation (c.task-task.result ∷ x.tasks.tasks) c.add.new.self.tasks c.add.ensures.tasks in
-    let many = v.many in
-    let room = v.tasks_room in
-    let kept = c.add.ensures.room in
     let cap = v.behind_room in
     let more = c.restore.ensures.len in
     let qroom = c.restore.ensures.room in
@@ -58,12 +42,9 @@ invariant_of-self g c =
     record {
       counted = counted_add x.levels.items x.queue.jobs c.restore.new.self.jobs w v.counted
           (c.priority_of-priority.ensures ∙ ap priority_of (c.level.ensures ∙ ap (λ (r : ReadyJobsView g.row.B.Denot). level_at r.levels c.task-task.result) (sym c.self.view_is) ∙ ap (level_at x.levels.items) c.task-task.ensures)) c.restore.ensures.jobs;
-      tasks = tasks_add x.queue.jobs c.restore.new.self.jobs w (map task_in x.behind.items) x.tasks.tasks c.add.new.self.tasks v.tasks (subst (λ (t : TaskId). IsPermutation (t ∷ x.tasks.tasks) c.add.new.self.tasks) c.task-task.ensures c.add.ensures.tasks) c.restore.ensures.jobs;
-      many = omega (arith, ts, many, more);
       inside = omega (arith, lt, len, more, qroom);
       number = omega (arith, num, arrived);
       behind_room = omega (arith, cap, qroom);
-      tasks_room = omega (arith, room, kept, qroom);
       levels = v.levels;
     }
 

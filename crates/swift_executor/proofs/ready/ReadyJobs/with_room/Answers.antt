@@ -4,7 +4,6 @@ use Rattle.swift_executor.specs.Queue.{QueueView}
 use Rattle.swift_executor.specs.declared.queue.waiting.Waiting.{Waiting}
 use Rattle.std.proofs.lemmas.List.{length-replicate}
 use Rattle.swift_types.specs.declared.limits.TheConstants.{TASKS}
-use Rattle.swift_executor.specs.Ready.{times}
 use Rattle.swift_executor.specs.ReadyInside.{AreCounted, job_of, task_in, task_of}
 use Rattle.swift_executor.proofs.ready.ReadyJobs.with_room.Goals as goal
 
@@ -21,22 +20,14 @@ invariant_of-result g c =
     let jobs : q.jobs ≡ [] = ap (λ (q : QueueView g.row.B.Denot). q.jobs) c.in_ok-queue.ensures in
     let room : q.room ≡ c.args.room = ap (λ (q : QueueView g.row.B.Denot). q.room) c.in_ok-queue.ensures in
     let arrived : q.arrived ≡ 0 = ap (λ (q : QueueView g.row.B.Denot). q.arrived) c.in_ok-queue.ensures in
-    let tasks = c.in_ok-tasks.ensures.tasks in
     let behind : c.in-Ok.behind.items ≡ [] = c.in-Ok.ensures.items in
     let no_jobs : length q.jobs ≡ 0 = ap length jobs in
-    let no_tasks : length c.in_ok-tasks.tasks.tasks ≡ 0 = ap length tasks in
     let none_behind : length c.in-Ok.behind.items ≡ 0 = ap length behind in
     let capacity = c.in-Ok.ensures.capacity in
-    let tasks_room = c.in_ok-tasks.ensures.room in
-    let same : (map task_of q.jobs ++ map task_in c.in-Ok.behind.items) ≡ [] =
-    ap (λ (js : List (Waiting g.row.B.Denot)). map task_of js ++ map task_in c.in-Ok.behind.items) jobs ∙ ap (λ (js : List (JobView g.row.B.Denot)). map task_in js) behind in
     record {
       counted = subst (AreCounted c.in_ok-levels.levels.items) (sym jobs) (λ k d lt. absurd (omega (arith, lt)));
-      tasks = λ t. ap (times t) (tasks ∙ sym same);
-      many = omega (arith, no_jobs, no_tasks, none_behind);
       inside = omega (arith, no_jobs, none_behind);
       number = omega (arith, arrived, none_behind);
       behind_room = omega (arith, room, capacity);
-      tasks_room = omega (arith, room, tasks_room);
       levels = ap length (c.in_ok-levels.ensures.items_if_clones_equal (λ y is. is)) ∙ length-replicate {A = ℕ} TASKS 0;
     }
