@@ -73,6 +73,8 @@ struct Inside {
     undo: Undo,
     source: Source,
     waker: Option<Waker>,
+    // The buffer of a frame that was left, for the variables of the next one that begins. What it has means nothing.
+    spare: Vec<i64>,
 }
 
 impl Drop for Inside {
@@ -88,6 +90,7 @@ impl Drop for Inside {
             undo,
             source,
             waker,
+            spare,
         } = self;
         drop(script);
         drop(turn);
@@ -97,6 +100,7 @@ impl Drop for Inside {
         drop(undo);
         drop(source);
         drop(waker);
+        drop(spare);
     }
 }
 
@@ -209,6 +213,16 @@ fn answer(
     }
 }
 
+// A copy of the arguments of a call, in a buffer that was kept for them.
+fn args_in(alloc: Global, spare: &mut Vec<i64>, args: &[i64]) -> Result<Vec<i64>, AllocError>
+    ensures { IfOk result (λ copy. copy.items ≡ args.now) }
+{
+    let mut copy = mem::replace(spare, Vec::new(alloc));
+    copy.clear();
+    copy.extend_from_slice(args)?;
+    Ok(copy)
+}
+
 // The kept turn of a frame of a script. `rows` has the rows of those invariants that are tested only where the turn sets their row.
 // `before` becomes the frame from before it, and `saved` the rows that it has set, as they were.
 fn play(
@@ -277,6 +291,7 @@ impl Body {
             undo: Undo::new(alloc),
             source: Source::new(),
             waker: None,
+            spare: Vec::new(alloc),
         };
         match Box::new(alloc, inside) {
             Ok(inside) => Ok(Body { inside }),
@@ -309,6 +324,7 @@ impl Body {
             undo: Undo::new(alloc),
             source: Source::new(),
             waker: None,
+            spare: Vec::new(alloc),
         };
         match Box::new(alloc, inside) {
             Ok(inside) => Ok(Body { inside }),
@@ -585,7 +601,7 @@ impl Body {
         if self.is_full() {
             return Ok(Step::Run(self.actor(), Resume::Fault(Fault::Depth)));
         }
-        let args = invocation.args.to_vec(self.inside.alloc)?;
+        let args = args_in(self.inside.alloc, &mut self.inside.spare, &invocation.args)?;
         self.begin(invocation.method, args)
     }
 
@@ -653,6 +669,8 @@ impl Body {
         caller.made = inside.turn.frame.made;
         caller.opened = inside.turn.frame.opened;
         unbind_all(&mut inside.outer, caller.own.len());
+        // What calls next takes its buffer.
+        mem::swap(&mut inside.turn.frame.variables, &mut inside.spare);
         inside.turn.frame = caller;
         Step::Run(self.actor(), resume)
     }
