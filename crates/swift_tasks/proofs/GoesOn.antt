@@ -1,12 +1,14 @@
 -- A turn that has made nothing, and whose task goes on.
-use Rattle.std.proofs.Common.{◌≡◌, ℕ, ◌+◌, List, [], ◌∷◌, ◌++◌, refl, sym, ◌∙◌, ap, subst, arith, Bool, true, false, ℤ}
+use Rattle.std.proofs.Common.{◌≡◌, ℕ, ◌+◌, List, [], ◌∷◌, ◌++◌, refl, sym, ◌∙◌, ap, subst, arith, ◌<◌, Bool, true, false, ℤ}
 use Rattle.std.specs.Prelude.{Option, ◌==◌, length, map, nat_lt, if◌then◌else◌}
 use Rattle.std.proofs.lemmas.Bool.{eqb-true, false≢true}
 use Rattle.std.proofs.lemmas.List.{append-nil, map-append}
 use Rattle.swift_types.specs.declared.id.ActorId.{ActorId}
 use Rattle.swift_types.specs.declared.id.TaskId.{TaskId}
 use Rattle.swift_types.specs.declared.outcome.Resume.{Resume}
-use Rattle.swift_types.specs.declared.outcome.Resume.TheVariants.{Go, Start, Fault as Raise}
+use Rattle.swift_types.specs.declared.outcome.Resume.TheVariants.{Go, Start, Value as GivenValue, Fault as Raise}
+use Rattle.swift_types.specs.declared.outcome.Ending.{Ending}
+use Rattle.swift_types.specs.declared.outcome.Ending.TheVariants.{Value, Fault as Failed}
 use Rattle.swift_types.specs.declared.outcome.Fault.TheVariants.{Depth}
 use Rattle.swift_types.specs.declared.limits.TheConstants.{FRAMES}
 use Rattle.swift_types.specs.declared.priority.Priority.{Priority}
@@ -17,7 +19,7 @@ use Rattle.swift_interpreter.specs.Turn.{InvocationView, EffectView, ExitView, c
 use Rattle.swift_job.specs.Job.{JobView}
 use Rattle.swift_turn.specs.declared.step.Step.{Step}
 use Rattle.swift_turn.specs.declared.step.Step.TheVariants.{Run, Ended, Await}
-use Rattle.swift_turn.specs.Body.{BodyView, TaskView, Advanced, HasFrames, IsRunning, GoesOn, AdvancesTo, CanAdvance, advanced, runs, opening}
+use Rattle.swift_turn.specs.Body.{BodyView, TaskView, Advanced, HasFrames, IsRunning, GoesOn, AdvancesTo, CanAdvance, advanced, resumed, runs, opening}
 use Rattle.swift_events.specs.declared.event.Event.{Event}
 use Rattle.swift_events.specs.declared.event.Event.TheVariants.{Apply, Give}
 use Rattle.swift_events.specs.Lives.{life_of}
@@ -25,7 +27,7 @@ use Rattle.swift_history.specs.Checks.{counters, fits_turn}
 use Rattle.swift_history.specs.Histories.{begun_priority}
 use Rattle.swift_history.specs.TurnEnds.{JobFacts, WaitingTaskView, TurnEnd, turn_end, resume_at, task}
 use Rattle.swift_tasks.specs.declared.held.WaitingTask.{WaitingTask}
-use Rattle.swift_tasks.specs.ApplyingInside.{CanApply, CanLeave, StepFits, TurnLeaves, next_of, went_on}
+use Rattle.swift_tasks.specs.ApplyingInside.{CanApply, CanLeave, LeadsOn, StepFits, TurnLeaves, next_of, went_on}
 use Rattle.swift_tasks.specs.BookInvariant.{BookInvariant, held_views}
 use Rattle.swift_tasks.specs.Books.{BookView, HoldsWaiting, IsEndOf, end_of_turn}
 use Rattle.swift_history.specs.Jobs.{job_facts}
@@ -136,12 +138,28 @@ called_next : (script : ScriptView) (p : FrameView) (callers : List FrameView) (
 called_next script p callers outer i true = (record { 0 = method_actor script i.method }, Start, refl)
 called_next script p callers outer i false = (record { 0 = method_actor script p.method }, Raise Depth, refl)
 
--- after a call the task goes on
-pub call_runs : (script : ScriptView) (frames : List FrameView) (outer : List (ℕ × ℤ)) (exit : ExitView) (i : InvocationView) (after : Advanced) → HasFrames frames → exit ≡ calling i → AdvancesTo script frames outer exit after → (actor : ActorId) × (next : Resume) × (after.step ≡ Run actor next)
-call_runs script [] outer exit i after there is adv = absurd there
-call_runs script (p ∷ callers) outer exit i after there is adv =
+-- a caller goes on
+caller_next : (script : ScriptView) (p : FrameView) (callers : List FrameView) (outer : List (ℕ × ℤ)) (resume : Resume) (ending : Ending) → 1 < length (p ∷ callers)
+    → (actor : ActorId) × (next : Resume) × ((resumed script p callers outer resume ending).step ≡ Run actor next)
+caller_next script p [] outer resume ending some = absurd (omega (arith, some))
+caller_next script p (q ∷ callers) outer resume ending some = (record { 0 = method_actor script q.method }, resume, refl)
+
+-- after such an exit the task goes on
+pub leads_run : (script : ScriptView) (frames : List FrameView) (outer : List (ℕ × ℤ)) (exit : ExitView) (after : Advanced) → HasFrames frames → LeadsOn frames exit → AdvancesTo script frames outer exit after → (actor : ActorId) × (next : Resume) × (after.step ≡ Run actor next)
+leads_run script [] outer exit after there leads adv = absurd there
+leads_run script (p ∷ callers) outer (calling i) after there leads adv =
     let way = called_next script p callers outer i (nat_lt (length (p ∷ callers)) FRAMES) in
-    (way.0, way.1, ap (λ (a : Advanced). a.step) (adv ∙ ap (advanced script p callers outer) is) ∙ way.2)
+    (way.0, way.1, ap (λ (a : Advanced). a.step) adv ∙ way.2)
+leads_run script (p ∷ callers) outer (returning v) after there leads adv =
+    let way = caller_next script p callers outer (GivenValue v) (Value v) leads in
+    (way.0, way.1, ap (λ (a : Advanced). a.step) adv ∙ way.2)
+leads_run script (p ∷ callers) outer (failing f) after there leads adv =
+    let way = caller_next script p callers outer (Raise f) (Failed f) leads in
+    (way.0, way.1, ap (λ (a : Advanced). a.step) adv ∙ way.2)
+leads_run script (p ∷ callers) outer (waiting t) after there leads adv = absurd leads
+leads_run script (p ∷ callers) outer (asking_next g) after there leads adv = absurd leads
+leads_run script (p ∷ callers) outer (closing g f) after there leads adv = absurd leads
+leads_run script (p ∷ callers) outer yielding after there leads adv = absurd leads
 
 -- a job, taken apart
 abbrev pub Parts : Type 0

@@ -9,7 +9,8 @@ use Rattle.swift_types.specs.declared.outcome.Resume.TheVariants.{Start}
 use Rattle.swift_script.specs.Scripts.{ScriptView, root_count}
 use Rattle.swift_interpreter.specs.declared.effect.TaskName.{TaskName}
 use Rattle.swift_interpreter.specs.declared.effect.TaskName.TheVariants.{Root, Own}
-use Rattle.swift_interpreter.specs.Turn.{EffectView, spawning, detaching, opening, adding, cancelling_task, cancelling_group, ExitView, waiting, asking_next, closing}
+use Rattle.swift_interpreter.specs.Frames.{FrameView}
+use Rattle.swift_interpreter.specs.Turn.{EffectView, spawning, detaching, opening, adding, cancelling_task, cancelling_group, ExitView, calling, waiting, asking_next, closing, returning, failing}
 use Rattle.swift_job.specs.Job.{JobView}
 use Rattle.swift_turn.specs.declared.step.Step.{Step}
 use Rattle.swift_turn.specs.declared.step.Step.TheVariants.{Await}
@@ -57,6 +58,13 @@ add_events roots t g left_out log p = if left_out then Skip (task t) g ∷ [] el
 
 abbrev pub add_jobs : Bool → ℕ → BodyView → List (JobView BodyView)
 add_jobs left_out t body = if left_out then [] else first_of t body ∷ []
+
+-- a task of these frames goes on at once after an exit: it calls, or goes back to a caller
+abbrev pub LeadsOn : List FrameView → ExitView → Type 0
+LeadsOn frames (calling i) = Unit {0}
+LeadsOn frames (returning v) = 1 < length frames
+LeadsOn frames (failing f) = 1 < length frames
+LeadsOn frames _ = ⊥
 
 -- an exit can be followed: what it names is there
 abbrev pub CanLeave : ℕ → List Event → ExitView → Type 0

@@ -1,12 +1,12 @@
 //! What a turn did is taken.
 
-ghost use Rattle.std.specs.Prelude.{◌≡◌, [], None, Some, OnOk, OnErr, IfErr, IsErrAnd, IsOk, IsSome, IsSomeAnd, MatchResult, map};
+ghost use Rattle.std.specs.Prelude.{◌≡◌, [], None, Some, OnOk, OnErr, IfErr, IsErrAnd, IsOk, IsSome, IsSomeAnd, IsTrue, MatchResult, map};
 ghost use Rattle.std.specs.List.{AllByRecursion};
-ghost use Rattle.swift_interpreter.specs.Turn.{InvocationView, calling, yielding};
+ghost use Rattle.swift_interpreter.specs.Turn.{yielding};
 ghost use Rattle.swift_interpreter.specs.Frames.{effect_views};
 ghost use Rattle.swift_interpreter.specs.TurnStates.{exit_view};
 ghost use Rattle.swift_turn.specs.Body.{IsRunning};
-ghost use Rattle.swift_tasks.specs.ApplyingInside.{CanApply};
+ghost use Rattle.swift_tasks.specs.ApplyingInside.{CanApply, LeadsOn};
 ghost use Rattle.swift_tasks.specs.Books.{IsJobOf, IsEndOf};
 ghost use Rattle.swift_history.specs.Jobs.{job_facts};
 ghost use Rattle.swift_tasks.specs.Refusals.{IsRefusal, refusal_of_apply};
@@ -31,6 +31,19 @@ fn put_back(place: &mut Option<Job<Body>>, job: Job<Body>)
     match mem::replace(place, Some(job)) {
         None => {}
         Some(_before) => unreachable!(),
+    }
+}
+
+// Whether the task of a job in its place goes on at once after this exit: it calls, or goes back to a caller.
+fn leads_on(place: &Option<Job<Body>>, exit: &Exit) -> bool
+    requires { IsSomeAnd place.now (λ j. IsRunning j.body) }
+    ensures { IsTrue result → IsSomeAnd place.now (λ j. LeadsOn j.body.task.frames (exit_view exit.now)) }
+{
+    let Some(job) = place else { unreachable!() };
+    match exit {
+        Exit::Call(_) => true,
+        Exit::Return(_) | Exit::Fault(_) => job.body().has_caller(),
+        Exit::Wait(_) | Exit::Next(_) | Exit::Close(_, _) | Exit::Yield => false,
     }
 }
 
@@ -76,16 +89,16 @@ impl Book {
         Ok(())
     }
 
-    // Takes a turn that has done nothing but call, of a job that stands in its place.
+    // Takes a turn that has done nothing but call, or go back to a caller, of a job that stands in its place.
     #[inline(never)]
-    fn call(
+    fn lead_on(
         &mut self,
         place: &mut Option<Job<Body>>,
         exit: &Exit,
         jobs: &mut Vec<Job<Body>>,
     ) -> Result<(), AllocError>
         requires fits { IsSomeAnd place.old (CanApply self.old [] (exit_view exit.now)) }
-        requires calls { (i : InvocationView) × (exit_view exit.now ≡ calling i) }
+        requires leads { IsSomeAnd place.old (λ job. LeadsOn job.body.task.frames (exit_view exit.now)) }
         ensures ok { OnOk result (IsSomeAnd place.old (λ job. IsEndOf self.old (map job_facts jobs.old.items) job [] (exit_view exit.now) self.new.log self.new.held (map job_facts jobs.new.items))) }
         ensures taken { OnOk result (place.new ≡ None) }
         ensures script { self.new.script ≡ self.old.script }
@@ -172,7 +185,7 @@ impl Book {
         if effects.is_empty() {
             match exit {
                 Exit::Yield => return Ok(self.give_way(place, jobs)?),
-                Exit::Call(_) => return Ok(self.call(place, exit, jobs)?),
+                _ if leads_on(place, exit) => return Ok(self.lead_on(place, exit, jobs)?),
                 _ => {}
             }
         }

@@ -429,6 +429,14 @@ impl Body {
         self.inside.running
     }
 
+    /// Whether the frame that runs has a caller, which goes on where it is left. For a task that has not ended (`is_running`).
+    pub fn has_caller(&self) -> bool
+        requires { IsRunning self.now }
+        ensures { IsTrue result ↔ (1 < length self.now.task.frames) }
+    {
+        !self.inside.callers.is_empty()
+    }
+
     /// Whether `put_back` can take this frame: it is of a method of the script.
     pub fn can_put_back(&self, frame: &Frame) -> bool
         ensures { IsTrue result ↔ (frame.now.method.0 < method_count self.now.script) }

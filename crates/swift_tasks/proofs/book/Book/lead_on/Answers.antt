@@ -13,7 +13,7 @@ use Rattle.swift_tasks.specs.BookInvariant.{held_views}
 use Rattle.swift_tasks.specs.Books.{BookView, IsEndOf}
 use Rattle.swift_history.specs.Jobs.{job_facts}
 use Rattle.swift_tasks.proofs.GoesOn.{Next, Parts, can_follow, plain_ends, plain_book, more_views}
-use Rattle.swift_tasks.proofs.book.Book.call.Goals as goal
+use Rattle.swift_tasks.proofs.book.Book.lead_on.Goals as goal
 
 pub advance-requires-clause-call : goal.advance-requires-clause-call
 advance-requires-clause-call c =
