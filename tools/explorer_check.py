@@ -29,7 +29,7 @@ def listed(program: str, script: str, states: int) -> tuple[str, set[str]]:
     ran = subprocess.run([program, "explore", "--limit", str(states)], input=script, capture_output=True, text=True, check=False)
     if ran.returncode not in (0, 1, 5):
         raise subprocess.CalledProcessError(ran.returncode, ran.args, ran.stdout, ran.stderr)
-    head, *parts = re.split(r"\noutcome \d+\nschedule[^\n]*\n", ran.stdout)
+    head, *parts = re.split(r"\noutcome \d+\nschedule[^\n]*\n(?:names[^\n]*\n)?", ran.stdout)
     return next(line for line in head.split("\n") if re.match(r"\d+ outcomes?, ", line)), {part.rstrip("\n") + "\n" for part in parts}
 
 

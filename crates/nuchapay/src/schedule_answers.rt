@@ -9,6 +9,7 @@ use crate::show::show_report;
 use crate::told::{chosen_text, no_run_text};
 use crate::turn_answers::{say_explained, say_no_task};
 use crate::values::AskedTurn;
+use explorer_answers::DOTS;
 use explorer_files::{SavedChoice, SavedSchedule};
 use nuchapay_runs::Explained;
 use nuchapay_tool::{RunForm, SavedPlace, SavedWord, ScheduleChoice, TurnWord};
@@ -196,10 +197,6 @@ fn say_why(rt: &HostRuntime, run: &ScheduledRun, word: Option<TurnWord<'_>>) -> 
         Err(fault) => tell(rt, Err(ToolFault::from(fault))),
     }
 }
-
-// What the dots in the line of a schedule mean.
-const DOTS: &str =
-    "    t0.1.. begins a turn, and ..t0.1 ends it; what stands between runs on other executors\n";
 
 // Writes the line of a run's schedule.
 fn write_line(rt: &HostRuntime, run: &ScheduledRun) -> Result<bool, ToolFault> {

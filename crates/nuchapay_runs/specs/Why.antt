@@ -13,7 +13,7 @@ use Rattle.nuchapay_runs.specs.Formulas.{NamesView, variable_text}
 use Rattle.nuchapay_runs.specs.Noted.{broken_lines}
 use Rattle.nuchapay_runs.specs.Notes.{change_lines, change_text, note_line, note_lines, place_text}
 use Rattle.nuchapay_runs.specs.Statements.{statement_text}
-use Rattle.nuchapay_runs.specs.TaskNames.{task_name}
+use Rattle.task_names.specs.Names.{task_name}
 use Rattle.run_pictures.specs.Values.{ValuesView}
 use Rattle.run_pictures.specs.declared.values.change.Change.{Change}
 use Rattle.run_pictures.specs.declared.values.change.Outcome.{Outcome}

@@ -1,16 +1,25 @@
-//! Names of tasks.
+//! Names of tasks: what people call a task of a run.
+#![tactic(auto)]
 
-ghost use Rattle.std.specs.Prelude.{◌≡◌, ◌++◌, IfOk, IfSome, OnOk};
-ghost use Rattle.nuchapay_runs.specs.TaskNames.{is_made_by, made_of, maker_of, name_within, task_name};
+ghost use Rattle.std.specs.Prelude.{◌≡◌, ◌++◌, IfOk, IfSome, OnOk, decimal};
+ghost use Rattle.task_names.specs.Names.{is_made_by, made_of, maker_of, name_within, task_name};
 
-use crate::number::number;
+use itoa::Buffer;
 use std::alloc::{AllocError, Global};
 use swift_events::Origin;
 use swift_script::Script;
 use swift_types::{Ending, RootId, TaskId};
 
-// The task that has made another one.
-fn maker_of(origin: Origin) -> Option<TaskId>
+// Appends a number in decimal.
+fn number(out: &mut Vec<u8>, value: usize) -> Result<(), AllocError>
+    ensures { OnOk result (out.new.items ≡ out.old.items ++ decimal value) }
+{
+    let mut buffer = Buffer::new();
+    out.extend_from_slice(buffer.format(value).as_bytes())
+}
+
+/// The task that has made another one; none has made a root.
+pub fn maker_of(origin: Origin) -> Option<TaskId>
     ensures { result ≡ maker_of origin }
 {
     match origin {
@@ -64,8 +73,12 @@ fn write_within(
     }
 }
 
-/// Appends the name of a task of a run whose tasks come from there.
-pub(crate) fn write_name(
+/// Appends the name of a task of a run whose tasks come from there, as `task_name` has it.
+///
+/// # Errors
+///
+/// `AllocError` where there is no memory for it; a part of it may be there.
+pub fn put_task_name(
     out: &mut Vec<u8>,
     script: &Script,
     endings: &[(Origin, Ending)],
@@ -93,7 +106,7 @@ pub fn task_name(
     ensures { IfOk result (λ name. name.items ≡ task_name script.now endings.now task.0) }
 {
     let mut name = Vec::new(alloc);
-    write_name(&mut name, script, endings, task)?;
+    put_task_name(&mut name, script, endings, task)?;
     Ok(name)
 }
 

@@ -1,9 +1,9 @@
 use Rattle.std.proofs.Common.{rules, ◌≡◌, ◌++◌, OnOk, ℕ, suc, ◌+◌, ◌-◌, ◌<◌, length, List, take, sym, subst, ap, append_assoc, ◌∙◌, arith}
 use Rattle.std.specs.Prelude.{None, Some, codes, decimal}
 use Rattle.std.proofs.lemmas.Result.{on_ok_weaker}
-use Rattle.nuchapay_runs.specs.TaskNames.{made_of, name_within}
-use Rattle.nuchapay_runs.proofs.TaskNaming.{name_at, put_name}
-use Rattle.nuchapay_runs.proofs.task_names.+write_within.Goals as goal
+use Rattle.task_names.specs.Names.{made_of, name_within}
+use Rattle.task_names.proofs.Naming.{name_at, put_name}
+use Rattle.task_names.proofs.+write_within.Goals as goal
 
 pub returns-in-None : goal.returns-in-None
 returns-in-None t c =

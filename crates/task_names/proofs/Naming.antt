@@ -5,7 +5,7 @@ use Rattle.swift_types.specs.declared.id.TaskId.{TaskId}
 use Rattle.swift_types.specs.declared.outcome.Ending.{Ending}
 use Rattle.swift_events.specs.declared.life.Origin.{Origin}
 use Rattle.swift_script.specs.Scripts.{ScriptView}
-use Rattle.nuchapay_runs.specs.TaskNames.{maker_of, name_by, name_if, name_within}
+use Rattle.task_names.specs.Names.{maker_of, name_by, name_if, name_within}
 
 read_at : (es : List (Origin × Ending)) (t : ℕ) (d : Origin × Ending) → t < length es → slice_get es t ≡ Some (slice_index_or es t d)
 read_at [] t d lt = absurd (omega (arith, lt))
