@@ -4,3 +4,5 @@ pub mod Asking
 pub mod Joining
 pub mod Commenting
 pub mod Resolving
+pub mod Apart
+pub mod OneReading

@@ -11,6 +11,8 @@ mod expectation;
 mod fault;
 // How a run has ended, as expectations see it.
 mod judging;
+// What holds of the definitions.
+pub mod laws;
 // What the names of an expectation stand for.
 mod naming;
 // All that is asked of a script.
