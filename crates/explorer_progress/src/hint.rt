@@ -1,6 +1,6 @@
 //! From a search to a hint.
 
-ghost use Rattle.std.specs.Prelude.{IfOk, IfSome};
+ghost use Rattle.std.specs.Prelude.{◌≡◌, IfOk, IfSome, length, min, take};
 ghost use Rattle.std.specs.Arc.{arc_value};
 ghost use Rattle.explorer_progress.specs.Hints.{Begins, IsHint};
 
@@ -83,13 +83,21 @@ fn turns_of_task(
     Ok(own)
 }
 
+// So many of the first steps of a schedule, or all where there are fewer.
+fn first_steps(alloc: Global, schedule: &[Move], many: usize) -> Result<Vec<Move>, AllocError>
+    ensures { IfOk result (λ steps. steps.items ≡ take (min many (length schedule.now)) schedule.now) }
+{
+    let many = many.min(schedule.len());
+    Vec::from_slice(alloc, &schedule[..many])
+}
+
 // The steps up to the one at a place.
 #[tactic(auto, using(crate::proofs::Prefixes::begins_take))]
 fn steps_to(alloc: Global, schedule: &[Move], step: usize) -> Result<Vec<Move>, AllocError>
     ensures { IfOk result (λ steps. Begins steps.items schedule.now) }
 {
-    let many = step.saturating_add(1).min(schedule.len());
-    Vec::from_slice(alloc, &schedule[..many])
+    let steps = first_steps(alloc, schedule, step.saturating_add(1))?;
+    Ok(steps)
 }
 
 // The report of a schedule, played, and its turns in order.
@@ -216,7 +224,7 @@ fn hint_in(
 }
 
 // What is said where a schedule is led to its end, with a turn of each task that is ready in a circle.
-#[tactic(auto, using(crate::proofs::Prefixes::whole_begins))]
+#[tactic(auto, using(crate::proofs::Prefixes::completion_begins))]
 fn hint_after(
     alloc: Global,
     script: &Arc<Script>,
@@ -225,7 +233,10 @@ fn hint_after(
     ensures { IfOk result (λ o. IfSome o (IsHint (arc_value script.now))) }
 {
     match complete_schedule(alloc, script, start)? {
-        Completion::Whole(whole) => hint_in(alloc, script, &whole),
+        Completion::Whole(whole) => match hint_in(alloc, script, &whole)? {
+            Some(hint) => Ok(Some(hint)),
+            None => Ok(None),
+        },
         Completion::Stopped(_, _) | Completion::Unfinished => Ok(None),
     }
 }
