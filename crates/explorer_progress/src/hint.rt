@@ -92,7 +92,6 @@ fn first_steps(alloc: Global, schedule: &[Move], many: usize) -> Result<Vec<Move
 }
 
 // The steps up to the one at a place.
-#[tactic(auto, using(crate::proofs::Prefixes::begins_take))]
 fn steps_to(alloc: Global, schedule: &[Move], step: usize) -> Result<Vec<Move>, AllocError>
     ensures { IfOk result (λ steps. Begins steps.items schedule.now) }
 {
@@ -224,7 +223,6 @@ fn hint_in(
 }
 
 // What is said where a schedule is led to its end, with a turn of each task that is ready in a circle.
-#[tactic(auto, using(crate::proofs::Prefixes::completion_begins))]
 fn hint_after(
     alloc: Global,
     script: &Arc<Script>,
@@ -233,10 +231,10 @@ fn hint_after(
     ensures { IfOk result (λ o. IfSome o (IsHint (arc_value script.now))) }
 {
     match complete_schedule(alloc, script, start)? {
-        Completion::Whole(whole) => match hint_in(alloc, script, &whole)? {
-            Some(hint) => Ok(Some(hint)),
-            None => Ok(None),
-        },
+        Completion::Whole(whole) => {
+            let found = hint_in(alloc, script, &whole)?;
+            Ok(found)
+        }
         Completion::Stopped(_, _) | Completion::Unfinished => Ok(None),
     }
 }
