@@ -13,4 +13,4 @@ returns-in_ok-found-in-Whole c =
     let found = c.in_ok-found-in-Whole.found in
     let whole : IsWhole script c.args.start.now c.in-Whole.whole.items = subst (λ (r : Completion). IsCompletion script c.args.start.now r) c.in-Whole.is c.in_ok-whole.ensures in
     some_hint script c.args.start.now c.in-Whole.whole.items found whole
-    (subst (λ (w : List Move). IfSome found (λ hint. Begins hint.schedule.items w)) c.deref-in-Whole.ensures.value c.in_ok-found-in-Whole.ensures)
+    (subst (λ (w : List Move). IfSome found (λ hint. Begins hint.schedule.items w)) c.deref.ensures.value c.in_ok-found-in-Whole.ensures)
