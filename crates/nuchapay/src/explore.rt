@@ -6,6 +6,7 @@ ghost use Rattle.explorer_answers.specs.Found.{IsFound};
 ghost use Rattle.explorer_json.specs.AnswerJson.{answer_json as json_of};
 ghost use Rattle.nuchapay.specs.Searches.{IsExplored, IsKept, IsSaidOf};
 
+use crate::progress::say_no_progress;
 use expectations::{Answer, Expectation, ExpectationError, Misread, ask};
 use explorer_answers::{answer_text, answered};
 use explorer_json::answer_json;
@@ -154,7 +155,7 @@ fn kept_of(
 
 /// What a search of the histories of the script that `heading.text` spells says, of which at most `limit` are kept, to the expectations of
 /// these words and of the script's comments, and perhaps that no root ends with a fault; in this format, and where this says so as JSON
-/// beside it, to be kept. How far it is, it says on standard error now and then.
+/// beside it, to be kept. How far it is, it says on standard error now and then, and at its end which tasks repeat their turns, where that is seen.
 pub fn explored(
     rt: &HostRuntime,
     heading: SearchHeading<'_>,
@@ -170,6 +171,7 @@ pub fn explored(
     let script = Arc::new(alloc, read(alloc, heading.text)?)?;
     let asked = ask(alloc, &script, heading.text, words, without_fault)?;
     let found = search_all(rt, &script, limit as usize)?;
+    say_no_progress(rt, &script, &found);
     let answer = answered(alloc, &script, &asked, &found)?;
     let text = said_of(alloc, heading, &script, &asked, &found, format)?;
     let saved = kept_of(alloc, heading.text, &script, &asked, &found, save)?;

@@ -7,6 +7,7 @@ ghost use Rattle.nuchapay.specs.Searches.{IsKept};
 ghost use Rattle.nuchapay.specs.SwiftSearches.{IsSwiftExplored, IsSwiftSaidOf};
 
 use crate::explore::{ExploreFault, SearchAnswer, search_all};
+use crate::progress::say_may_spin;
 use expectations::{Expectation, ask};
 use explorer_answers::{swift_answer_text, swift_answered};
 use explorer_json::swift_answer_json;
@@ -71,6 +72,7 @@ pub fn explored_swift(
     let script = Arc::new(alloc, read(alloc, heading.text)?)?;
     let asked = ask(alloc, &script, heading.text, words, without_fault)?;
     let found = search_all(rt, &script, limit as usize)?;
+    say_may_spin(rt, heading.text, &script, &found);
     let answer = swift_answered(alloc, &script, &asked, &found)?;
     let text = swift_said_of(alloc, heading, &script, &asked, &found, format)?;
     let saved = swift_kept_of(alloc, heading.text, &script, &asked, &found, save)?;

@@ -19,6 +19,8 @@ mod explore_swift;
 mod input;
 // What the program writes, and how it ends.
 mod output;
+// What standard error is told of tasks that repeat their turns.
+mod progress;
 // What is said of runs by a schedule.
 mod schedule_answers;
 // Runs by a schedule.
