@@ -19,6 +19,8 @@ mod explore_swift;
 mod input;
 // What the program writes, and how it ends.
 mod output;
+// From which lines of a Swift file turns are.
+mod places;
 // What standard error is told of tasks that repeat their turns.
 mod progress;
 // What is said of runs by a schedule.
@@ -45,6 +47,7 @@ use crate::explore::explored;
 use crate::explore_swift::explored_swift;
 use crate::input::{is_swift, name_of, say_no_script, script};
 use crate::output::{tell, write_out, write_said};
+use crate::places::{ScriptFile, say_run_places};
 use crate::schedule_answers::{say_broken, say_saved, say_scheduled};
 use crate::scheduled::broken_line;
 use crate::search_answers::say_explored;
@@ -53,7 +56,8 @@ use crate::turn_answers::say_turn;
 use crate::values::{explained_turn, report_of};
 use explorer_page::SearchHeading;
 use nuchapay_tool::{
-    Checked, Question, Request, Topic, check, check_json, explain, page_of, pretty, print, request,
+    Checked, Question, Request, SearchFormat, Topic, check, check_json, explain, page_of, pretty,
+    print, request,
 };
 use std::alloc::{AllocError, AllocGlobal};
 use std::env;
@@ -105,26 +109,37 @@ where
     match request {
         Request::Explain(topic) => tell(host, write_page(host, topic)),
         Request::Ask(source, question) => match script(host, source) {
-            Ok(text) => answer_of(host, rt, name_of(source), &text, question),
+            Ok(read) => {
+                let file = ScriptFile {
+                    name: name_of(source),
+                    text: &read.text,
+                    places: &read.places,
+                };
+                answer_of(host, rt, file, question)
+            }
             Err(why) => say_no_script(host, source, why),
         },
     }
 }
 
-// Answers a question about a script of this name and text. The status to end with.
-fn answer_of<R>(host: &HostRuntime, rt: &R, name: &str, text: &[u8], question: Question<'_>) -> u8
+// Answers a question about a script. The status to end with.
+fn answer_of<R>(host: &HostRuntime, rt: &R, file: ScriptFile<'_>, question: Question<'_>) -> u8
 where
     R: RandomSource + AllocGlobal + Threads + Wait + Sync,
 {
     let out = &mut host.stdout();
+    let ScriptFile { name, text, .. } = file;
     match question {
         Question::Run(workers, quiet) => tell(host, run_text(rt, text, workers, quiet, &Open, out)),
         Question::RunJson(workers, quiet) => {
             tell(host, run_json(rt, text, workers, quiet, &Open, out))
         }
-        Question::Values(workers) => tell(host, write_said(host, report_of(rt, text, workers))),
+        Question::Values(workers) => {
+            let status = tell(host, write_said(host, report_of(rt, text, workers)));
+            say_run_places(host, file, status)
+        }
         Question::Why(word, workers) => {
-            say_turn(host, word, explained_turn(rt, text, word, workers))
+            say_turn(host, file, word, explained_turn(rt, text, word, workers))
         }
         Question::Check(colour) => say_check(host, name, text, colour),
         Question::CheckJson => say_checked(host, check_json(host.alloc(), name, text)),
@@ -134,8 +149,8 @@ where
         Question::Show(workers, format) => {
             tell(host, show_run(rt, text, name, workers, format, out))
         }
-        Question::Scheduled(schedule, form) => say_scheduled(host, name, text, schedule, form),
-        Question::Saved(place, form) => say_saved(host, name, text, place, form),
+        Question::Scheduled(schedule, form) => say_scheduled(host, file, schedule, form),
+        Question::Saved(place, form) => say_saved(host, file, place, form),
         Question::Swift => tell(host, write_swift(host, text)),
         Question::PlainSwift => say_plain(host, text),
         Question::Explore {
@@ -168,7 +183,11 @@ where
                     keeps,
                 )
             };
-            say_explored(host, save, found)
+            let shown = match format {
+                SearchFormat::Text => Some(file),
+                SearchFormat::Json | SearchFormat::Html => None,
+            };
+            say_explored(host, save, found, shown)
         }
         Question::ExploreBroken(limit) => say_broken(host, limit, broken_line(host, text, limit)),
         Question::Difference(limit, pair) => say_difference(host, text, limit, pair),

@@ -2,6 +2,7 @@
 
 use crate::explore::{ExploreFault, SearchAnswer};
 use crate::output::tell;
+use crate::places::{ScriptFile, say_places};
 use expectations::{Answer, Misread};
 use std::fs;
 use swift_report::write_all;
@@ -11,11 +12,13 @@ use swift_workers::RunFault;
 /// Writes what a search says. The status to end with: that of the answer, 2 or 3 for an expectation that is none, of the command line or
 /// of a comment, and 5 where no memory was left.
 ///
-/// What is to be kept goes into the file first, which is made, or cut to nothing where it is there; 4 where that fails.
+/// What is to be kept goes into the file first, which is made, or cut to nothing where it is there; 4 where that fails. Where a script is
+/// given, it is told behind all else from which lines of a Swift file its methods are.
 pub fn say_explored(
     rt: &HostRuntime,
     save: Option<&str>,
     found: Result<SearchAnswer, ExploreFault>,
+    file: Option<ScriptFile<'_>>,
 ) -> u8 {
     match found {
         Ok(
@@ -32,7 +35,10 @@ pub fn say_explored(
                 }
             }
             match write_all(&mut rt.stdout(), &text) {
-                Ok(()) => answer.status(),
+                Ok(()) => match file {
+                    Some(file) => say_places(rt, file, answer.status()),
+                    None => answer.status(),
+                },
                 Err(device) => tell(rt, Err(ToolFault::from(device))),
             }
         }

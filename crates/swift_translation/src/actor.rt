@@ -5,6 +5,7 @@ use crate::naming::{
     PRECONDITION, write_field_name, write_instance, write_name, write_printed, write_unit,
     write_variable,
 };
+use crate::places::{lines_between, place_of_token};
 use crate::value::write_value;
 use crate::writing::Writing;
 use swift_expressions::{Instruction, NONE, Unit, UnitKind};
@@ -89,30 +90,16 @@ fn actor_of(writing: &Writing<'_>, instance: usize) -> Option<usize> {
         .position(|a| writing.are_same(a.name, of))
 }
 
-// The line on which a token begins.
-fn line_of(writing: &Writing<'_>, token: usize) -> usize {
-    let from = match writing.tokens.get(token) {
-        Some(found) => found.from,
-        None => writing.text.len(),
-    };
-    let feeds = writing
-        .text
-        .iter()
-        .take(from)
-        .filter(|b| **b == b'\n')
-        .count();
-    feeds.saturating_add(1)
-}
-
 // From which lines a unit is.
 fn write_lines(writing: &mut Writing<'_>, unit: Unit) {
-    let first = line_of(writing, unit.token);
-    let last = line_of(writing, unit.end);
+    let from = place_of_token(writing.text, writing.tokens, unit.token);
+    let end = place_of_token(writing.text, writing.tokens, unit.end);
+    let found = lines_between(writing.text, from, end);
     let alloc = writing.alloc;
     writing.say("\n    // lines ");
-    writing.out.place(alloc, first);
+    writing.out.place(alloc, found.first);
     writing.say(" to ");
-    writing.out.place(alloc, last);
+    writing.out.place(alloc, found.last);
 }
 
 // The parameters of a unit, in parentheses.

@@ -60,8 +60,8 @@ pub(crate) fn write_instance(writing: &mut Writing<'_>, instance: usize) {
     }
 }
 
-// Which of its kind something is on its line, from 2 on; 0 is the first.
-fn which_of(spot: Spot) -> usize {
+/// Which of its kind something is on its line, from 2 on; 0 is the first.
+pub(crate) fn which_of(spot: Spot) -> usize {
     if spot.before == 0 {
         0
     } else {
