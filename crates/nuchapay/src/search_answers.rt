@@ -36,7 +36,10 @@ pub fn say_explored(
             }
             match write_all(&mut rt.stdout(), &text) {
                 Ok(()) => match file {
-                    Some(file) => say_places(rt, file, answer.status()),
+                    Some(file) => {
+                        say_limit(rt, file, answer);
+                        say_places(rt, file, answer.status())
+                    }
                     None => answer.status(),
                 },
                 Err(device) => tell(rt, Err(ToolFault::from(device))),
@@ -51,6 +54,18 @@ pub fn say_explored(
         }
     }
 }
+
+// Says which loops of a Swift file a search does not come to the end of, where it did not; nothing of a script.
+fn say_limit(rt: &HostRuntime, file: ScriptFile<'_>, answer: Answer) {
+    if matches!(answer, Answer::Undecided) && !file.places.is_empty() {
+        let words = SPINS;
+        let _ = eprintln!(rt; "nuchapay: {words}");
+    }
+}
+
+// What to write for a loop that waits for another task.
+const SPINS: &str =
+    "a loop that waits by Task.yield() until another task changes a field has an order for each of its turns, so no limit may be enough: give it an end, as in `while isBusy && tries < 3 { tries += 1; await Task.yield() }`";
 
 // Says what is wrong with an expectation. The status to end with.
 fn say_misread(rt: &HostRuntime, fault: Misread) -> u8 {

@@ -179,9 +179,7 @@ fn tried(lowering: &mut Lowering<'_>, inner: usize, token: usize, depth: u32) ->
     if depth == 0 {
         return refused(lowering, Rule::TooLarge, token);
     }
-    if !lowering.setting.is_throwing {
-        lowering.refuse(Rule::Try, token);
-    }
+    lowering.refuse_thrown(token);
     // Swift takes a closure with a `try` for one that throws, whatever is tried.
     lowering.setting.has_thrown = true;
     let before = lowering.setting.is_tried;

@@ -1,7 +1,7 @@
 //! Statements with blocks.
 
-use crate::assignment::{end_caught, give};
-use crate::catching::begin_caught;
+use crate::assignment::{begin_given, end_caught, give};
+use crate::catching::{begin_caught, caught_wait};
 use crate::closure::{
     ClosureBody, MadeClosure, begin_closure, direct, end_closure, give_lone, lone_value, want_end,
 };
@@ -267,6 +267,105 @@ fn tasked(lowering: &mut Lowering<'_>, stmt: Stmt, depth: u32) {
     }
 }
 
+// The one statement of a block, if it waits for what may be caught; and for what.
+fn lone_wait(lowering: &Lowering<'_>, first: usize) -> Option<(Stmt, usize)> {
+    let stmt = lowering.tree.stmt(first)?;
+    if stmt.next != 0 {
+        return None;
+    }
+    let place = caught_wait(lowering, stmt)?;
+    Some((stmt, place))
+}
+
+// A `do`. Where it has more than one statement, a variable says whether a fault was caught.
+#[cycle(statement)]
+fn do_catch(lowering: &mut Lowering<'_>, body: usize, caught: usize, token: usize, depth: u32) {
+    if depth == 0 {
+        lowering.refuse(Rule::TooLarge, token);
+        return;
+    }
+    if let Some((stmt, place)) = lone_wait(lowering, body) {
+        let held = begin_caught(lowering, stmt, place, token);
+        block(lowering, caught, depth - 1);
+        end_caught(lowering, held);
+        return;
+    }
+    let flag = lowering.temporary();
+    let zero = lowering.number(0);
+    lowering.put(Instruction::Let(flag, zero));
+    do_block(lowering, body, flag, token, depth - 1);
+    let is_caught = lowering.value(Value::Variable(flag));
+    lowering.put(Instruction::If(is_caught));
+    block(lowering, caught, depth - 1);
+    lowering.put(Instruction::End);
+}
+
+// The block of a `do`, in which names of its own stand. What it throws is caught, so it stands in a unit that does not throw.
+#[cycle(statement)]
+fn do_block(lowering: &mut Lowering<'_>, first: usize, flag: usize, token: usize, depth: u32) {
+    if depth == 0 {
+        lowering.refuse(Rule::TooLarge, token);
+        return;
+    }
+    let start = lowering.scope.len();
+    let outer = lowering.setting;
+    lowering.setting.block_start = start;
+    lowering.setting.blocks = outer.blocks.saturating_add(1);
+    lowering.setting.is_throwing = false;
+    lowering.setting.catching = token;
+    do_statements(lowering, first, flag, token, depth - 1);
+    lowering.setting.catching = outer.catching;
+    lowering.setting.is_throwing = outer.is_throwing;
+    lowering.setting.blocks = outer.blocks;
+    lowering.setting.block_start = outer.block_start;
+    leave(lowering, start);
+}
+
+// The statements of a `do` from a place on. What follows one whose fault is caught is done where there was none.
+#[cycle(statement)]
+fn do_statements(lowering: &mut Lowering<'_>, first: usize, flag: usize, token: usize, depth: u32) {
+    if depth == 0 {
+        lowering.refuse(Rule::TooLarge, token);
+        return;
+    }
+    let within = depth - 1;
+    let mut place = first;
+    for _ in 0..lowering.tree.stmts.len() {
+        let Some(stmt) = lowering.tree.stmt(place) else {
+            return;
+        };
+        place = stmt.next;
+        if let Some(awaited) = caught_wait(lowering, stmt) {
+            let held = begin_caught(lowering, stmt, awaited, token);
+            let one = lowering.number(1);
+            lowering.put(Instruction::Set(flag, one));
+            begin_given(lowering, held);
+            let is_early = place != 0 && returns_early(lowering, stmt);
+            if is_early {
+                lowering.need_done();
+                lowering.put(Instruction::Rest);
+            }
+            do_statements(lowering, place, flag, token, within);
+            if is_early {
+                lowering.put(Instruction::End);
+            }
+            lowering.put(Instruction::End);
+            return;
+        }
+        if let StmtForm::AsyncLet(..) = stmt.form {
+            lowering.refuse(Rule::NotYet, token);
+        }
+        statement(lowering, stmt, within);
+        if place != 0 && returns_early(lowering, stmt) {
+            lowering.need_done();
+            lowering.put(Instruction::Rest);
+            do_statements(lowering, place, flag, token, within);
+            lowering.put(Instruction::End);
+            return;
+        }
+    }
+}
+
 // A statement that is no `async let`.
 #[cycle(statement)]
 fn statement(lowering: &mut Lowering<'_>, stmt: Stmt, depth: u32) {
@@ -290,11 +389,7 @@ fn statement(lowering: &mut Lowering<'_>, stmt: Stmt, depth: u32) {
         }
         StmtForm::Task(..) | StmtForm::AddTask(..) => tasked(lowering, stmt, depth - 1),
         StmtForm::Group(..) | StmtForm::Bind(..) => closed(lowering, stmt, depth - 1),
-        StmtForm::DoCatch(body, caught) => {
-            let held = begin_caught(lowering, body, token);
-            block(lowering, caught, depth - 1);
-            end_caught(lowering, held);
-        }
+        StmtForm::DoCatch(body, caught) => do_catch(lowering, body, caught, token, depth - 1),
         _ => simple(lowering, stmt),
     }
 }

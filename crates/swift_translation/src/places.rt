@@ -2,16 +2,16 @@
 
 ghost use Rattle.std.specs.Prelude.{◌≡◌, ◌≤◌, ◌+◌, All, IfOk, IfSome, IsFalse};
 ghost use Rattle.swift_syntax.specs.Places.{IsTokenOf};
-ghost use Rattle.swift_translation.specs.MethodPlaces.{IsPlaceIn, bytes_of, closure_name, line_of, main_closure_name, method_name};
+ghost use Rattle.swift_translation.specs.MethodPlaces.{IsPlaceIn, bytes_of, closure_name, function_closure_name, function_name, line_of, main_closure_name, method_name};
 ghost use Rattle.swift_translation.specs.Refusals.{feeds};
 
 use crate::line::line_number;
 use crate::naming::which_of;
-use crate::spelling::{spell_closure, spell_main_closure, spell_name};
+use crate::spelling::{spell_closure, spell_function_closure, spell_main_closure, spell_name};
 use crate::writer::Writer;
 use std::alloc::{AllocError, Global};
 use swift_expressions::{Code, NONE, Unit, UnitKind};
-use swift_syntax::{InstanceDecl, Token, Tree};
+use swift_syntax::{InstanceDecl, MethodDecl, Token, Tree};
 
 /// From which lines of a file a method of its script is.
 #[derive(Drop)]
@@ -115,6 +115,31 @@ fn closure_name(
     finished(out)
 }
 
+// What a function outside of actors is called.
+fn function_name(alloc: Global, function: &[u8]) -> Result<Vec<u8>, AllocError>
+    ensures { IfOk result (λ name. name.items ≡ function_name function.now) }
+{
+    let mut out = Writer::new(alloc);
+    out.say("Task.");
+    spell_name(&mut out, function);
+    finished(out)
+}
+
+// What a closure is called that stands in such a function.
+fn function_closure_name(
+    alloc: Global,
+    function: &[u8],
+    line: usize,
+    which: usize,
+) -> Result<Vec<u8>, AllocError>
+    ensures { IfOk result (λ name. name.items ≡ function_closure_name function.now line which) }
+{
+    let mut out = Writer::new(alloc);
+    out.say("Task.");
+    spell_function_closure(&mut out, alloc, function, line, which);
+    finished(out)
+}
+
 // What a closure is called that stands in `main`.
 fn main_closure_name(alloc: Global, line: usize, which: usize) -> Result<Vec<u8>, AllocError>
     ensures { IfOk result (λ name. name.items ≡ main_closure_name line which) }
@@ -186,6 +211,40 @@ fn main_closure_place(
     Ok(MethodPlace { name, first, last })
 }
 
+// A function outside of actors, which ends at a place.
+fn function_place(
+    alloc: Global,
+    text: &[u8],
+    function: Token,
+    end: usize,
+) -> Result<MethodPlace, AllocError>
+    requires { IsTokenOf text.now function }
+    ensures { IfOk result (IsPlaceIn text.now) }
+{
+    let name = function_name(alloc, bytes_of(text, function))?;
+    let Lines { first, last } = lines_between(text, function.from, end);
+    Ok(MethodPlace { name, first, last })
+}
+
+// A closure in such a function, and which one it is on its line.
+fn function_closure_place(
+    alloc: Global,
+    text: &[u8],
+    function: Token,
+    found: Lines,
+    which: usize,
+) -> Result<MethodPlace, AllocError>
+    requires function { IsTokenOf text.now function }
+    requires least { 1 ≤ found.first }
+    requires order { found.first ≤ found.last }
+    requires most { found.last ≤ feeds text.now + 1 }
+    ensures { IfOk result (IsPlaceIn text.now) }
+{
+    let Lines { first, last } = found;
+    let name = function_closure_name(alloc, bytes_of(text, function), first, which)?;
+    Ok(MethodPlace { name, first, last })
+}
+
 // `main` of a type, which ends at a place.
 fn main_place(
     alloc: Global,
@@ -199,6 +258,17 @@ fn main_place(
     let Lines { first, last } = lines_between(text, name.from, end);
     let name = method_name(alloc, bytes_of(text, name), b"main")?;
     Ok(MethodPlace { name, first, last })
+}
+
+// Whether a unit becomes a method of the script. A function outside of actors is put in where it is called, unless it is `async`.
+fn is_method(methods: &[MethodDecl], unit: Unit) -> bool {
+    match unit.kind {
+        UnitKind::Method(place) => match methods.get(place) {
+            Some(method) => method.actor != NONE || method.is_async,
+            None => false,
+        },
+        UnitKind::Closure | UnitKind::Main => true,
+    }
 }
 
 // The method that a unit becomes, of an instance or of none.
@@ -224,7 +294,14 @@ fn unit_place(
             let found = lines_between(text, from, end);
             Some(closure_place(alloc, text, instance, method, found, which)?)
         }
-        (UnitKind::Closure, None, _) => {
+        (UnitKind::Method(_), None, Some(function)) => {
+            Some(function_place(alloc, text, function, end)?)
+        }
+        (UnitKind::Closure, None, Some(function)) => {
+            let found = lines_between(text, from, end);
+            Some(function_closure_place(alloc, text, function, found, which)?)
+        }
+        (UnitKind::Closure, None, None) => {
             let found = lines_between(text, from, end);
             Some(main_closure_place(alloc, text, found, which)?)
         }
@@ -242,6 +319,7 @@ fn add_place(
     alloc: Global,
     text: &[u8],
     tokens: &[Token],
+    methods: &[MethodDecl],
     unit: Unit,
     actor: usize,
     instance: Option<Token>,
@@ -252,7 +330,7 @@ fn add_place(
     requires found { All (IsPlaceIn text.now) found.old.items }
     ensures { All (IsPlaceIn text.now) found.new.items }
 {
-    if unit.actor != actor {
+    if unit.actor != actor || !is_method(methods, unit) {
         return Ok(());
     }
     match unit_place(alloc, text, tokens, instance, unit)? {
@@ -269,6 +347,7 @@ fn add_places(
     alloc: Global,
     text: &[u8],
     tokens: &[Token],
+    methods: &[MethodDecl],
     units: &[Unit],
     actor: usize,
     instance: Option<Token>,
@@ -282,8 +361,8 @@ fn add_places(
     match units {
         [] => Ok(()),
         [unit, rest @ ..] => {
-            add_place(alloc, text, tokens, *unit, actor, instance, found)?;
-            add_places(alloc, text, tokens, rest, actor, instance, found)
+            add_place(alloc, text, tokens, methods, *unit, actor, instance, found)?;
+            add_places(alloc, text, tokens, methods, rest, actor, instance, found)
         }
     }
 }
@@ -326,11 +405,21 @@ fn add_instance(
     if instance.is_none() {
         return Ok(());
     }
-    add_places(alloc, text, tokens, &code.units, actor, instance, found)
+    add_places(
+        alloc,
+        text,
+        tokens,
+        &tree.methods,
+        &code.units,
+        actor,
+        instance,
+        found,
+    )
 }
 
 /// The methods of the script that a file with these tokens, this tree and these instructions becomes, and from which lines each is: those
-/// of each instance, and those of `main`, in the order of the file, the closures last. Methods that read a field are from no lines.
+/// of each instance, then functions outside of actors that are `async`, and `main`, in the order of the file, the closures last. Methods that
+/// read a field are from no lines.
 ///
 /// # Errors
 ///
@@ -349,6 +438,15 @@ pub(crate) fn places(
     for declared in tree.instances.iter() {
         add_instance(alloc, text, tokens, tree, code, *declared, &mut found)?;
     }
-    add_places(alloc, text, tokens, &code.units, NONE, None, &mut found)?;
+    add_places(
+        alloc,
+        text,
+        tokens,
+        &tree.methods,
+        &code.units,
+        NONE,
+        None,
+        &mut found,
+    )?;
     Ok(found)
 }

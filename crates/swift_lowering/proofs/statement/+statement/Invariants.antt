@@ -41,3 +41,12 @@ decreases-tasked l = l.depth
 
 abbrev pub decreases-child : goal.decreases-child
 decreases-child l = l.depth
+
+abbrev pub decreases-do_catch : goal.decreases-do_catch
+decreases-do_catch l = l.depth
+
+abbrev pub decreases-do_block : goal.decreases-do_block
+decreases-do_block l = l.depth
+
+abbrev pub decreases-do_statements : goal.decreases-do_statements
+decreases-do_statements l = l.depth

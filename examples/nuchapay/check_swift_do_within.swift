@@ -3,25 +3,23 @@ enum Failure: Error { case odd }
 actor Box {
     private(set) var x = 0
 
-    func add(_ k: Int) throws -> Int {
+    func add(_ k: Int) throws {
         if k == 3 { throw Failure.odd }
         x += k
-        return x
     }
 }
 
 let box = Box()
 
-@main
-struct Main {
+@main struct Main {
     static func main() async {
-        var y = 0
         do {
-            y = try await box.add(3)
-            y += 1
+            for k in 0..<4 {
+                try await box.add(k)
+            }
+            print(await box.x)
         } catch {
-            y = -1
+            print(-1)
         }
-        print(y)
     }
 }
