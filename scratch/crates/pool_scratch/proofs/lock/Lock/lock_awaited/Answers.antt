@@ -1,0 +1,22 @@
+use Rattle.std.proofs.Common.{rules, subst, sym, ap, ◌∙◌, ◌∷◌}
+use mathlib.Core.Option.{none}
+use Rattle.atomic_table.specs.Table.{step}
+use Rattle.pool_scratch.specs.LockSeat.{LockSeatView, MayLearn}
+use Rattle.pool_scratch.proofs.LockSteps.{locks, swap_holds}
+use Rattle.pool_scratch.proofs.LockCalls.{free_hand, locked_with}
+use Rattle.pool_scratch.proofs.lock.Lock.lock_awaited.Goals as goal
+
+pub swap-found-requires : goal.swap-found-requires
+swap-found-requires g c = (
+  search rules,
+  search rules,
+  locks _ _ _ _ c.seat.inside.token.me g.L.Lesson.fact _ (step c.self.inside.table.shared.table_id.slots 0 2 0 none) swap_holds
+      (subst (λ (s : LockSeatView _ _). MayLearn g.P.LockRule.holds s.known (g.L.Lesson.fact s.known)) (sym c.seat.view_is) c.requires.rule),
+)
+
+pub empty-requires-clause-full : goal.empty-requires-clause-full
+empty-requires-clause-full g c =
+    let me = c.seat.inside.token.me in
+    let took = locked_with g.T.Locked.image g.P.LockRule.holds g.L.Lesson.fact me c.swap-found.new.seat.me c.swap-found.result c.swap-found.ensures.2 c.if-found-ne-FREE.false in
+    let nothing = free_hand g.T.Locked.image g.P.LockRule.holds me.0.held me.1 c.seat.invariant (ap (λ (s : LockSeatView _ _). s.held) c.seat.view_is ∙ c.requires.free) in
+    (took.0, ap (λ m. m.1) took.1 ∙ ap (λ l. (0, Rattle.std.proofs.Common.Some took.0) ∷ l) nothing)

@@ -1,0 +1,7 @@
+use Rattle.std.proofs.Common.{take}
+use Rattle.std.specs.List.{All}
+use Rattle.pool_scratch.specs.PoolsInside.{MayVisit}
+use Rattle.pool_scratch.proofs.pool.are_for.Given as goal
+
+abbrev pub invariant-loop-k : goal.invariant-loop-k
+invariant-loop-k l = All (MayVisit l.script l.workers l.worker) (take l.k l.tokens.items)

@@ -1,0 +1,25 @@
+use Rattle.std.proofs.Common.{◌<◌, ◌≤◌, length, rules, subst}
+use Rattle.std.proofs.lemmas.List.{take_all}
+use Rattle.std.proofs.lemmas.List.Elements.{All-more}
+use Rattle.std.specs.List.{All}
+use Rattle.swift_types.specs.declared.id.ExecId.{ExecId}
+use Rattle.pool_scratch.specs.PoolsInside.{MayVisit}
+use Rattle.pool_scratch.proofs.pool.place_for.Goals as goal
+
+pub loop-place-preserved : goal.loop-place-preserved
+loop-place-preserved c =
+    let other : MayVisit c.args.script.now c.args.workers c.args.worker c.index.result.now → ⊥ = search rules in
+    let within : c.loop-place.place < length c.args.tokens.now.items = search rules in
+    All-more (λ (t : ExecId). MayVisit c.args.script.now c.args.workers c.args.worker t → ⊥) c.args.tokens.now.items c.loop-place.place c.index.result.now
+    within c.loop-place.invariant
+    (subst (λ (t : ExecId). MayVisit c.args.script.now c.args.workers c.args.worker t → ⊥) c.index.ensures other)
+
+pub returns : goal.returns
+returns c =
+    let past : length c.args.tokens.now.items ≤ c.loop-place.place = search rules in
+    record {
+      none = subst (All (λ (t : ExecId). MayVisit c.args.script.now c.args.workers c.args.worker t → ⊥)) (take_all c.loop-place.place c.args.tokens.now.items past) c.loop-place.invariant;
+      within = tt;
+      here = tt;
+      before = tt;
+    }

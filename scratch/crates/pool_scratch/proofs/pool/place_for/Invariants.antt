@@ -1,0 +1,7 @@
+use Rattle.std.proofs.Common.{take}
+use Rattle.std.specs.List.{All}
+use Rattle.pool_scratch.specs.PoolsInside.{MayVisit}
+use Rattle.pool_scratch.proofs.pool.place_for.Given as goal
+
+abbrev pub invariant-loop-place : goal.invariant-loop-place
+invariant-loop-place l = All (λ t. MayVisit l.script l.workers l.worker t → ⊥) (take l.place l.tokens.items)

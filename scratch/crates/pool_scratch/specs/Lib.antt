@@ -1,0 +1,11 @@
+pub mod BellInside
+pub mod LockRule
+pub mod LockSeat
+pub mod LockStepsInside
+pub mod PoolFactsInside
+pub mod PoolRule
+pub mod PoolSeats
+pub mod PoolSeatsInside
+pub mod Pools
+pub mod PoolsInside
+pub mod StandIn
