@@ -67,10 +67,15 @@ def unnamed():
                 yield from (f"crates.txt: no file of {crate} names {name}" for name in below.split() if name not in named)
 
 
-told = [f"{document}: {fault}" for document in DOCUMENTS if os.path.exists(os.path.join(TOP, document)) for fault in faults(document)]
-told += unnamed()
-for line in told:
-    print(line)
-if not told:
-    print("each link of the documents stands, and each crate of a line of crates.txt is named by that line's crate")
-sys.exit(1 if told else 0)
+def main():
+    told = [f"{document}: {fault}" for document in DOCUMENTS if os.path.exists(os.path.join(TOP, document)) for fault in faults(document)]
+    told += unnamed()
+    for line in told:
+        print(line)
+    if not told:
+        print("each link of the documents stands, and each crate of a line of crates.txt is named by that line's crate")
+    sys.exit(1 if told else 0)
+
+
+if __name__ == "__main__":
+    main()

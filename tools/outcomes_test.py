@@ -13,7 +13,7 @@ import sys
 from typing import NamedTuple
 
 from outcomes import explore, histories
-from racy_scripts import Writer
+from random_scripts import Writer
 
 TOP = os.path.dirname(os.path.dirname(os.path.abspath(__file__)))
 

@@ -74,6 +74,10 @@ def faults(program, path, words):
 STATUSES = {"holds": 0, "fails": 1, "undecided": 5}
 
 
+# What the dots of schedules mean.
+LEGEND = "\n    t0.1.. begins a turn, and ..t0.1 ends it; what stands between runs on other executors\n"
+
+
 def turns(steps):
     """The words of a schedule: a turn that ends right after it begins is one, and another one has a word for its begin and one for its end."""
     steps = [step for step in steps if step["is"] != "add"]
@@ -90,9 +94,23 @@ HEADS = {"outcome": "outcome ", "ends": "ends the process: before outcome ", "sp
 HEAD = "|".join(HEADS.values())
 
 
+def names(tasks):
+    """What tasks are called: a root by its name, another by its maker's and its place among those that this made, from 1."""
+    called, made = [], {}
+    for task in tasks:
+        if task["from"] != "root":
+            made[task["by"]] = made.get(task["by"], 0) + 1
+        called.append(task["root"] if task["from"] == "root" else f"{called[task['by']]}/{made[task['by']]}")
+    return called
+
+
 def outcome_lines(outcome, said):
     yield f"{HEADS[said]}{outcome['outcome']}"
     yield " ".join(["schedule", *turns(outcome["schedule"])])
+    tasks = outcome["end"]["tasks"]
+    made = [f"t{number} ({name})" for number, (task, name) in enumerate(zip(tasks, names(tasks))) if task["from"] != "root"]
+    if made:
+        yield " ".join(["names", *made])
     yield from lines(outcome["end"])
 
 
@@ -106,12 +124,16 @@ def search_faults(program, name):
     found = json.loads(ran[1].stdout)
     if STATUSES[found["answer"]] != ran[0].returncode:
         yield f"it answers {found['answer']}"
-    text = ran[0].stdout.decode()
+    # Of a Swift file a list of its methods follows.
+    text = ran[0].stdout.decode().partition("\nmethods\n")[0]
     listed = re.split(rf"(?m)^(?=(?:{HEAD})\d+$)", text)[1:]
     told = list(zip(found.get("swift", ["outcome"] * len(found["outcomes"])), found["outcomes"]))
     made = ["".join(line + "\n" for line in outcome_lines(outcome, said)) for kind in HEADS for said, outcome in told if said == kind]
     if [part.strip() for part in listed] != [part.strip() for part in made]:
         yield "it lists other outcomes"
+    has_dots = any(".." in line for line in text.splitlines() if line.startswith("schedule "))
+    if has_dots != (LEGEND in text):
+        yield "it says what dots mean where there are none, or does not say it"
     undone = found["undone"] and " ".join(["schedule", *turns(found["undone"])])
     if undone and undone not in re.split(rf"(?m)^(?:{HEAD})\d+$", text)[0].splitlines():
         yield "it has another turn that is undone"

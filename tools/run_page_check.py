@@ -69,7 +69,7 @@ def noted(text):
             found[turn] = (True, [])
         elif line.startswith("    would have left "):
             found[turn] = (False, found[turn][1] + [line[len("    would have left "):]])
-        elif line.startswith("    ") and not line.startswith("    invariant "):
+        elif line.startswith("    ") and not re.match(r"    (invariant|t\d+ is) ", line):
             found[turn][1].append(line[4:])
     return found
 

@@ -12,6 +12,7 @@ import stat
 import sys
 import tempfile
 import unittest
+import unittest.mock
 
 sys.dont_write_bytecode = True
 sys.path.insert(0, os.path.dirname(os.path.abspath(__file__)))
@@ -19,10 +20,14 @@ import believe
 import cases
 import counts
 import examples
+import links
 import marks
 import mutants
 import one_core
+import pages
 import random_swift
+import refusals
+import reports
 import swift_in
 
 
@@ -205,6 +210,81 @@ class Mutants(Folder):
         for crate, edits in mutants.of_table().items():
             self.assertTrue(edits, crate)
 
+    def test_the_gate_tries_the_first_edit_of_each_row(self):
+        row = "| a bug | low: [give__{0}](../crates/low/mutants/give__{0}.edit), [give__{1}](../crates/low/mutants/give__{1}.edit) | |\n"
+        page = f"## Planted bugs\n\n{row.format('one', 'two')}{row.format('three', 'four')}\n### Others\n\n{row.format('five', 'six')}"
+        write(self.folder, {"page": "# Theorems\n\n" + page})
+        with unittest.mock.patch.multiple(mutants, TABLE=os.path.join(self.folder, "page"), edits_of=lambda crate, names: (crate, names)):
+            self.assertEqual(mutants.of_table(), {"low": ("low", ["give__one", "give__three"])})
+
+    def tried(self, edits, said):
+        crate = Told(self.folder, said)
+        printed = io.StringIO()
+        with unittest.mock.patch.object(mutants, "Crate", lambda *_: crate), contextlib.redirect_stdout(printed):
+            return mutants.tried("low", edits), crate.tried, printed.getvalue()
+
+    def test_what_passes_beside_others_is_tried_alone(self):
+        edits = [self.edit("second__gives_three", "    2", "    3"), self.edit("third__gives_forty", "    30", "    40")]
+        second, third = ("fn low::%s: not proved: `search` did not prove it\nlogic=not-proved\n" % name for name in ("second", "third"))
+        both, alone = "second__gives_three third__gives_forty", "third__gives_forty"
+        self.assertEqual(self.tried(edits, {both: second, alone: third})[:2], (0, [both, alone]))
+        bad, _, printed = self.tried(edits, {both: second, alone: "logic=proved\n"})
+        self.assertEqual(bad, 1)
+        self.assertIn("low/third__gives_forty: NOT REFUSED\n", printed)
+
+    def test_an_edit_of_a_definition_is_planted_alone(self):
+        write(self.folder, {"specs/Words.antt": "one = 1\n"})
+        law = self.edit("second__speaks_of_two", "one = 1", "one = 2", "specs/Words.antt")
+        self.assertEqual(len(mutants.together(self.folder, [self.edit("third__gives_forty", "    30", "    40"), law])), 2)
+        # Whatever else is not proved then, the law is not.
+        said = "fn low::second: not proved: ..\nfn low::third: not proved: `search` did not prove it\nlogic=not-proved\n"
+        self.assertEqual(Told(self.folder, {law.name: said}).judge([law])[law], "refused")
+
+    def test_functions_in_a_cycle_of_calls_have_one_proof(self):
+        edit = self.edit("second__gives_three", "    2", "    3")
+        write(self.folder, {"src/lib.rt": CODE.replace("fn second", "#[cycle(round)]\nfn second").replace("fn th", "#[cycle(round)]\nfn th")})
+        edit = mutants.Edit(os.path.join(self.folder, "mutants", f"{edit.name}.edit"))
+        self.assertEqual(edit.changes, {"second", "+second", "third", "+round"})
+        said = "proofs/+round/Answers.antt:1:1: error: has no field `x`\nfn low::second: not proved: its answers\nlogic=not-proved\n"
+        self.assertEqual(Told(self.folder, {edit.name: said}).judge([edit])[edit], "refused, perhaps by the form of its proof alone")
+
+    def test_how_the_prover_names_a_function(self):
+        path = lambda name, old, file="src/lib.rt": mutants.path_of(self.folder, self.edit(name, old, "x", file))
+        write(self.folder, {"src/part.rt": "impl<T: Drop> Given<T> {\n    pub fn give(self) -> u32 {\n        5\n    }\n}\n\n"
+                            "impl From<Given> for Kept {\n    fn from(it: Given) -> Kept {\n        Kept(6)\n    }\n}\n\n"
+                            "fn fourth() {\n    7;\n}\n"})
+        self.assertEqual(path("second__gives_three", "    2"), "second")
+        self.assertEqual(path("fourth__gives_eight", "    7;", "src/part.rt"), "part::fourth")
+        self.assertEqual(path("give__six", "        5", "src/part.rt"), "Given::give")
+        self.assertEqual(path("from__seven", "Kept(6)", "src/part.rt"), "KeptFromGiven::from")
+        self.assertEqual(path("fourth__by_another_file", "    2"), "part::fourth")
+
+
+class Links(Folder):
+    def setUp(self):
+        super().setUp()
+        write(os.path.join(self.folder, "crates"), TREE)
+        patch = unittest.mock.patch.object(links, "TOP", self.folder)
+        patch.start()
+        self.addCleanup(patch.stop)
+
+    def faults(self, text):
+        write(self.folder, {"docs/PAGE.md": "# A head, with `code`\n\n" + text})
+        return list(links.faults("docs/PAGE.md"))
+
+    def test_what_stands(self):
+        self.assertEqual(self.faults("[`give`, `Given`](../crates/low/src/part.rt) [crates](../crates) [here](#a-head-with-code)"), [])
+
+    def test_what_does_not(self):
+        self.assertEqual(self.faults("[`gives`](../crates/low/src/part.rt)"), ["../crates/low/src/part.rt has no gives"])
+        self.assertEqual(self.faults("[a](PAGES.md)"), ["PAGES.md is not there"])
+        self.assertEqual(self.faults("[a](#a-foot)"), ["#a-foot: no such heading"])
+        self.assertEqual(self.faults("[a](https://swift.org)"), ["https://swift.org leads out of the repository"])
+
+    def test_what_crates_name(self):
+        write(self.folder, {"crates.txt": "low:\nhigh: low futures # a note\n"})
+        self.assertEqual(list(links.unnamed()), ["crates.txt: no file of high names futures"])
+
 
 class Examples(Folder):
     def faults(self, program, files):
@@ -304,6 +384,63 @@ class Marks(unittest.TestCase):
         self.assertEqual(list(marks.told_faults(mistake, found)), [])
         for name, other in (("code", "S4"), ("column", 5), ("help", "d"), ("second", None), ("expected", "e")):
             self.assertNotEqual(list(marks.told_faults(mistake, {**found, name: other})), [], name)
+
+
+class Reports(unittest.TestCase):
+    def test_a_schedule(self):
+        step = lambda word, task, turn: {"is": word, "task": task, "turn": turn}
+        first, other = [step("begin", 0, 0), step("run", 0, 0)], [step("begin", 1, 0), step("run", 1, 0)]
+        steps = [{"is": "add"}, *first, step("begin", 0, 1), *other, step("run", 0, 1)]
+        self.assertEqual(list(reports.turns(steps)), ["t0.0", "t0.1..", "t1.0", "..t0.1"])
+
+    def test_a_report(self):
+        told = {"tasks": [{"task": 0, "from": "root", "root": "a", "ending": {"is": "value", "value": 7}},
+                          {"task": 1, "from": "spawned", "by": 0, "ending": {"is": "fault", "fault": "thrown", "value": 3}}],
+                "fields": {"A": {"n": 1}}}
+        self.assertEqual(list(reports.lines(told)), ["tasks", "t0 root a value 7", "t1 spawned t0 fault thrown 3", "fields", "A.n 1"])
+        self.assertEqual(reports.names(told["tasks"]), ["a", "a/1"])
+
+    def test_a_turn(self):
+        turn = {"place": 2, "task": 0, "turn": 1, "worker": 3, "method": "A.f", "priority": 2, "cancelled": True,
+                "resume": {"is": "go"}, "exit": {"is": "close", "fault": "overflow"}}
+        self.assertEqual(reports.turn_line(turn), "2 t0.1 w3 A.f p2 c1 go -> close fault overflow")
+
+
+class Pages(Folder):
+    def test_tables(self):
+        write(self.folder, {"docs/LANGUAGE.md": "| A | B |\n|---|---|\n| `a||b` | 1 |\n\ntext\n\n| A | B |\n|---|---|\n| d | 2 |\n"})
+        with unittest.mock.patch.object(pages, "TOP", self.folder):
+            self.assertEqual(pages.tables(), {("A", "B"): [("`a||b`", "1"), ("d", "2")]})
+
+    def test_a_page(self):
+        said = "S9 title\n\nWhen: a\nThen: b\nWhat to do: c\n\nFor example:\n\n    actor A { }\n\nMended:\n\n    actor B { }\n"
+        write(self.folder, {"said": said})
+        page = pages.Page(script(self.folder, "program", f"cat {self.folder}/said\n"), "S9")
+        self.assertEqual((page.title, page.parts["What to do"], page.scripts), ("title", "c", ["actor A { }", "actor B { }"]))
+
+
+class Refusals(Folder):
+    def case(self, program):
+        return refusals.Case(script(self.folder, "program", program), "", "a", "b")
+
+    def test_which_allocations_are_refused(self):
+        for last, count, some in ((300, 300, 150), (301, 215, 108), (3_000, 269, 142)):
+            case = self.case("exit 0\n")
+            case.count = lambda last=last: last
+            numbers = list(case.numbers(False))
+            self.assertEqual((len(numbers), numbers[-1]), (count, last))
+            self.assertIn(some, numbers)
+            self.assertEqual(list(case.numbers(True)), list(range(1, last + 1)))
+
+    def test_how_many_there_are(self):
+        # A program that is refused something where the number is at most 77.
+        self.assertEqual(self.case('[ "$REFUSE" -le 77 ] && echo x >&"$REFUSE_TELL"; echo "== b"\n').count(), 77)
+
+    def test_what_is_wrong(self):
+        self.assertIsNone(self.case('echo "== b"\n').run(1)[1])
+        self.assertEqual(self.case('echo "== c"\n').run(1), (False, "another text"))
+        self.assertEqual(self.case("exit 1\n").run(1), (False, "status 1"))
+        self.assertEqual(self.case('echo x >&"$REFUSE_TELL"; exit 1\n').run(1), (True, refusals.UNREAD))
 
 
 class Counts(Folder):

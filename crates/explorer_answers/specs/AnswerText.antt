@@ -4,23 +4,26 @@ use Rattle.script_code.specs.Seen.{rows_of}
 use Rattle.swift_script.specs.Scripts.{ScriptView}
 use Rattle.swift_explorer.specs.declared.exploration.FoundOutcomes.{FoundOutcomes}
 use Rattle.swift_explorer.specs.declared.outcome.RunOutcome.{RunOutcome}
-use Rattle.swift_explorer.specs.FoundText.{found_text, schedule_text}
+use Rattle.swift_explorer.specs.FoundText.{schedule_text}
 use Rattle.expectations.specs.declared.expectation.Expectation.{Expectation}
 use Rattle.expectations.specs.declared.expectation.Verdict.{Verdict}
 use Rattle.expectations.specs.Answers.{is_so}
 use Rattle.expectations.specs.FailureText.{failure_text}
 use Rattle.expectations.specs.Meaning.{verdict_of}
+use Rattle.explorer_answers.specs.ListText.{found_text}
+use Rattle.explorer_answers.specs.Names.{names_text}
 
 -- what comes of an expectation in an outcome
 abbrev pub verdict_at : ScriptView → Expectation → RunOutcome → Verdict
 verdict_at p e o = verdict_of p o.endings.items (map (λ rows. rows_of rows.items) o.fields.items) e
 
--- An expectation that fails in the outcome at a place: which outcome, from 1, the expectation with what it reads there, and the schedule.
+-- An expectation that fails in the outcome at a place: which outcome, from 1, the expectation with what it reads there, the schedule, and
+-- what the tasks are called.
 abbrev pub fails_text : ScriptView → Expectation → ℕ → RunOutcome → List ℕ
 fails_text p e place o =
     codes "fails in outcome " ++ decimal (place + 1) ++ codes ": "
     ++ failure_text p o.endings.items (map (λ rows. rows_of rows.items) o.fields.items) e (verdict_at p e o)
-    ++ schedule_text o.schedule.items ++ codes "\n"
+    ++ schedule_text o.schedule.items ++ names_text p o.endings.items ++ codes "\n"
 
 -- an expectation in the first of the outcomes from this place on in which it fails; nothing where it fails in none
 abbrev pub first_text : ScriptView → Expectation → ℕ → List RunOutcome → List ℕ

@@ -1,5 +1,8 @@
 pub mod Found
 pub mod Answered
+pub mod Names
+pub mod Dots
+pub mod ListText
 pub mod AnswerText
 pub mod SwiftMeanings
 pub mod SwiftAnswers

@@ -43,8 +43,8 @@ abbrev pub at_limit : List (Origin × Ending) → Bool
 at_limit [] = false
 at_limit (e ∷ es) = meets_limit e.1 || at_limit es
 
--- What an outcome says of Swift: where a task was ended by what ends the process, that it ends before; else, where one was ended by a limit,
--- that it may spin; else that the program may end so.
+-- What an outcome says of Swift: where a task was ended by what ends the process, that it ends before; else, where one was ended by a
+-- limit, that it may spin; else that the program may end so.
 abbrev pub meaning : RunOutcome → SwiftMeaning
 meaning o = if ends_process o.endings.items then swift.EndsProcess else (if at_limit o.endings.items then swift.MaySpin else swift.Outcome)
 

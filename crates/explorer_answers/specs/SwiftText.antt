@@ -6,12 +6,14 @@ use Rattle.swift_script.specs.Scripts.{ScriptView}
 use Rattle.swift_explorer.specs.declared.exploration.FoundOutcomes.{FoundOutcomes}
 use Rattle.swift_explorer.specs.declared.moves.Move.{Move}
 use Rattle.swift_explorer.specs.declared.outcome.RunOutcome.{RunOutcome}
-use Rattle.swift_explorer.specs.FoundText.{end_text, ended_text, many_text, schedule_text}
+use Rattle.swift_explorer.specs.FoundText.{end_text, many_text, schedule_text}
 use Rattle.expectations.specs.declared.expectation.Expectation.{Expectation}
 use Rattle.expectations.specs.Answers.{is_so}
 use Rattle.explorer_answers.specs.declared.meaning.SwiftMeaning.{SwiftMeaning}
 use Rattle.explorer_answers.specs.declared.meaning.SwiftMeaning.TheVariants as swift
 use Rattle.explorer_answers.specs.AnswerText.{fails_text, none_text, or_else, verdict_at}
+use Rattle.explorer_answers.specs.Dots.{with_legend}
+use Rattle.explorer_answers.specs.ListText.{ending_text}
 use Rattle.explorer_answers.specs.SwiftMeanings.{is_outcome, meaning, same}
 
 -- an expectation fails in an outcome that Swift has
@@ -34,7 +36,7 @@ swift_asked_text p asked found = or_else (swift_failures_text p found.outcomes.i
 
 -- how many outcomes the program may end in, and how far the search came
 abbrev pub swift_search_text : FoundOutcomes → List ℕ
-swift_search_text f = many_text (count_by is_outcome f.outcomes.items) (codes "outcome") (codes "outcomes") ++ end_text f ++ many_text f.states (codes "state\n") (codes "states\n")
+swift_search_text f = many_text (count_by is_outcome f.outcomes.items) (codes "outcome") (codes "outcomes") ++ end_text f
 
 -- what is said of whether a turn was found that ends the process since something does not hold
 abbrev pub stopped_head : Bool → List ℕ
@@ -52,9 +54,9 @@ head_text swift.Outcome = codes "\noutcome "
 head_text swift.EndsProcess = codes "\nends the process: before outcome "
 head_text swift.MaySpin = codes "\nmay spin: at a limit in outcome "
 
--- the outcome at a place, with its number, from 1, the schedule to it, how its tasks have ended, and its fields
+-- the outcome at a place, with its number, from 1
 abbrev pub told_text : ScriptView → SwiftMeaning → ℕ → RunOutcome → List ℕ
-told_text p m place o = head_text m ++ decimal (place + 1) ++ codes "\n" ++ schedule_text o.schedule.items ++ ended_text p o
+told_text p m place o = head_text m ++ decimal (place + 1) ++ codes "\n" ++ ending_text p o
 
 -- that, where it has this meaning
 abbrev pub told_if : ScriptView → SwiftMeaning → ℕ → RunOutcome → List ℕ
@@ -65,11 +67,15 @@ abbrev pub told_texts : ScriptView → SwiftMeaning → ℕ → List RunOutcome 
 told_texts p m place [] = []
 told_texts p m place (o ∷ os) = told_if p m place o ++ told_texts p m (place + 1) os
 
--- All that was found: how far the search came, where an invariant or a precondition does not hold, the outcomes that Swift has, then those
--- before which the process ends, and then those at a limit that Swift does not have.
+-- where an invariant or a precondition does not hold, the outcomes that Swift has, then those before which the process ends, and then those
+-- at a limit that Swift does not have
+abbrev pub swift_list_text : ScriptView → FoundOutcomes → List ℕ
+swift_list_text p f =
+    stopped_text f.broken ++ told_texts p swift.Outcome 0 f.outcomes.items ++ told_texts p swift.EndsProcess 0 f.outcomes.items ++ told_texts p swift.MaySpin 0 f.outcomes.items
+
+-- All that was found: how far the search came; and then, after what dots mean, the turns and the outcomes.
 abbrev pub swift_found_text : ScriptView → FoundOutcomes → List ℕ
-swift_found_text p f =
-    swift_search_text f ++ stopped_text f.broken ++ told_texts p swift.Outcome 0 f.outcomes.items ++ told_texts p swift.EndsProcess 0 f.outcomes.items ++ told_texts p swift.MaySpin 0 f.outcomes.items
+swift_found_text p f = swift_search_text f ++ with_legend (swift_list_text p f)
 
 -- the answer: what is said of expectations, and then of all that was found
 abbrev pub swift_answer_text : ScriptView → List Expectation → FoundOutcomes → List ℕ

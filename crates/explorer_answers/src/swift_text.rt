@@ -1,15 +1,19 @@
 //! The answer of a search of a Swift file's script, as a text.
 
 ghost use Rattle.std.specs.Prelude.{◌≡◌, ◌<◌, ◌+◌, ◌++◌, ◌^◌, IfOk, OnOk, count_by, decimal};
-ghost use Rattle.swift_explorer.specs.FoundText.{end_text, ended_text, many_text};
+ghost use Rattle.swift_explorer.specs.FoundText.{end_text, many_text};
+ghost use Rattle.explorer_answers.specs.Dots.{with_legend};
+ghost use Rattle.explorer_answers.specs.ListText.{ending_text};
 ghost use Rattle.explorer_answers.specs.SwiftMeanings.{is_outcome};
-ghost use Rattle.explorer_answers.specs.SwiftText.{fails, head_text, stopped_head, stopped_text, swift_answer_text, swift_asked_text, swift_failures_text, swift_first_text, swift_found_text, swift_search_text, told_if, told_text, told_texts};
+ghost use Rattle.explorer_answers.specs.SwiftText.{fails, head_text, stopped_head, stopped_text, swift_answer_text, swift_asked_text, swift_failures_text, swift_first_text, swift_found_text, swift_list_text, swift_search_text, told_if, told_text, told_texts};
 
+use crate::dots::put_with_legend;
+use crate::list_text::put_ending;
 use crate::meaning::{SwiftMeaning, is_outcome, swift_meaning};
 use crate::text::{none_said, put_fails, put_number, verdict_at};
 use expectations::Expectation;
 use std::alloc::{AllocError, Global};
-use swift_explorer::{FoundOutcomes, RunOutcome, put_ended, put_many, put_schedule, search_end};
+use swift_explorer::{FoundOutcomes, RunOutcome, put_end, put_many, put_schedule};
 use swift_script::Script;
 
 // Whether an expectation fails in an outcome that Swift has.
@@ -102,8 +106,7 @@ fn put_search(out: &mut Vec<u8>, found: &FoundOutcomes) -> Result<(), AllocError
     ensures { OnOk result (out.new.items ≡ out.old.items ++ swift_search_text found.now) }
 {
     put_many(out, many_outcomes(&found.outcomes), b"outcome", b"outcomes")?;
-    out.extend_from_slice(search_end(found))?;
-    put_many(out, found.states, b"state\n", b"states\n")
+    put_end(out, found)
 }
 
 // What is said of whether such a turn was found.
@@ -156,8 +159,7 @@ fn put_told(
     out.extend_from_slice(head(meaning))?;
     put_number(out, place + 1)?;
     out.extend_from_slice(b"\n")?;
-    put_schedule(out, &outcome.schedule)?;
-    put_ended(alloc, out, script, outcome)
+    put_ending(alloc, out, script, outcome)
 }
 
 // An outcome, where it has this meaning.
@@ -194,16 +196,15 @@ fn put_all(
     Ok(())
 }
 
-// All that was found.
-fn put_found(
+// The turns that end the process, and the outcomes.
+fn put_listed(
     alloc: Global,
     out: &mut Vec<u8>,
     script: &Script,
     found: &FoundOutcomes,
 ) -> Result<(), AllocError>
-    ensures { OnOk result (out.new.items ≡ out.old.items ++ swift_found_text script.now found.now) }
+    ensures { OnOk result (out.new.items ≡ out.old.items ++ swift_list_text script.now found.now) }
 {
-    put_search(out, found)?;
     put_stopped(out, found)?;
     put_all(alloc, out, script, SwiftMeaning::Outcome, &found.outcomes)?;
     put_all(
@@ -214,6 +215,21 @@ fn put_found(
         &found.outcomes,
     )?;
     put_all(alloc, out, script, SwiftMeaning::MaySpin, &found.outcomes)
+}
+
+// All that was found.
+fn put_found(
+    alloc: Global,
+    out: &mut Vec<u8>,
+    script: &Script,
+    found: &FoundOutcomes,
+) -> Result<(), AllocError>
+    ensures { OnOk result (out.new.items ≡ out.old.items ++ swift_found_text script.now found.now) }
+{
+    put_search(out, found)?;
+    let mut text = Vec::new(alloc);
+    put_listed(alloc, &mut text, script, found)?;
+    put_with_legend(out, &text)
 }
 
 /// What a search of the script of a Swift file says to expectations (the format is our own), as `answer_text` does, but of outcomes that

@@ -3,10 +3,12 @@
 ghost use Rattle.std.specs.Prelude.{◌≡◌, ◌<◌, ◌+◌, ◌++◌, ◌^◌, IfOk, OnOk, codes, decimal};
 ghost use Rattle.explorer_answers.specs.AnswerText.{answer_text, asked_text, failures_text, fails_text, first_text, none_text, verdict_at};
 
+use crate::list_text::put_found;
+use crate::names::put_names;
 use expectations::{Expectation, Verdict, put_failure, verdict};
 use itoa::Buffer;
 use std::alloc::{AllocError, Global};
-use swift_explorer::{FoundOutcomes, RunOutcome, found_text, put_schedule};
+use swift_explorer::{FoundOutcomes, RunOutcome, put_schedule};
 use swift_script::Script;
 
 pub(crate) fn put_number(out: &mut Vec<u8>, number: usize) -> Result<(), AllocError>
@@ -51,6 +53,7 @@ pub(crate) fn put_fails(
         verdict,
     )?;
     put_schedule(out, &outcome.schedule)?;
+    put_names(alloc, out, script, &outcome.endings)?;
     out.extend_from_slice(b"\n")
 }
 
@@ -150,7 +153,12 @@ fn asked_said(
 }
 
 /// What a search says to expectations (the format is our own): of each that fails the first outcome in which it does, with what it reads
-/// there and the schedule; or that none fails. Then all that was found, as `found_text` says it.
+/// there and the schedule; or that none fails. Then all that was found: how many outcomes, and whether the search came to its end; whether
+/// a turn was undone by `invariant`, with the schedule to one; and each outcome, with the schedule to it that was found, the names of tasks
+/// that are no roots, and how the tasks and the fields end, as a report without journals says it.
+///
+/// A schedule is a line of turns, by task and number. A turn during which others begin or end stands twice: as it begins, with two dots
+/// after it, and as it ends, with two dots before it. Where some do, `DOTS` stands before the list.
 ///
 /// # Errors
 ///
@@ -164,7 +172,6 @@ pub fn answer_text(
     ensures { IfOk result (λ text. text.items ≡ answer_text script.now asked.now found.now) }
 {
     let mut out = asked_said(alloc, script, asked, found)?;
-    let all = found_text(alloc, script, found)?;
-    out.extend_from_slice(&all)?;
+    put_found(alloc, &mut out, script, found)?;
     Ok(out)
 }

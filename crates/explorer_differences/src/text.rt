@@ -137,7 +137,7 @@ fn put_ends(
 
 /// In what two outcomes of a script differ, which have these numbers in the list of a search (the format is our own): the steps that their
 /// schedules begin with, both of them, and how each goes on from there; then a line of each task that ends otherwise and of each field
-/// that has another value, with what each outcome has there. Steps and lines are as `found_text` has them; what is told alike is left out.
+/// that has another value, with what each outcome has there. Steps and lines are as the list of a search has them; what is told alike is left out.
 /// Linear in the tasks and fields, and in the square of the schedules' steps.
 ///
 /// # Errors

@@ -4,6 +4,7 @@ use Rattle.script_sums.specs.Sums.{script_sum}
 use Rattle.swift_script.specs.Scripts.{ScriptView, actor_count}
 use Rattle.swift_explorer.specs.declared.exploration.FoundOutcomes.{FoundOutcomes}
 use Rattle.swift_explorer.specs.declared.outcome.RunOutcome.{RunOutcome}
+use Rattle.swift_explorer.specs.FoundText.{is_at_limit}
 use Rattle.swift_tool.specs.ReportJson.{comma, fields_json, tasks_json}
 use Rattle.expectations.specs.declared.answer.Answer.{Answer}
 use Rattle.expectations.specs.declared.answer.Answer.TheVariants as answer
@@ -72,11 +73,17 @@ start_json text answer = answer_word answer ++ script_json text
 abbrev pub end_json : FoundOutcomes → List ℕ
 end_json f = if f.is_complete then codes ",\n\"search\":\"complete\"" else (if f.met_limit then codes ",\n\"search\":\"limit\"" else (if f.ran_short then codes ",\n\"search\":\"room\"" else codes ",\n\"search\":\"partial\""))
 
--- how far a search came: whether to its end, how many histories were kept, and the schedule to a turn that is undone by `invariant`
-abbrev pub search_json : FoundOutcomes → List ℕ
-search_json f = end_json f ++ codes ",\"states\":" ++ decimal f.states ++ codes ",\n\"undone\":" ++ broken_json f.broken
+-- from how many histories it has still to go on, where it has met its limit
+abbrev pub to_go_json : FoundOutcomes → List ℕ
+to_go_json f = if is_at_limit f then codes ",\"to_go\":" ++ decimal f.to_go else []
 
--- What a search of the script that a text spells says: the answer, the text's sum, how far it came, what comes of each expectation in each outcome, and the outcomes.
+-- how far a search came: whether to its end, how many histories were kept and how many of them are still to go, and the schedule to a turn
+-- that is undone by `invariant`
+abbrev pub search_json : FoundOutcomes → List ℕ
+search_json f = end_json f ++ codes ",\"states\":" ++ decimal f.states ++ to_go_json f ++ codes ",\n\"undone\":" ++ broken_json f.broken
+
+-- What a search of the script that a text spells says: the answer, the text's sum, how far it came, what comes of each expectation in each
+-- outcome, and the outcomes.
 abbrev pub answer_json : List ℕ → ScriptView → List Expectation → FoundOutcomes → List ℕ
 answer_json text p asked found =
     start_json text (answer_of p asked found) ++ search_json found ++ codes ",\n\"expectations\":[" ++ expectations_json p found.outcomes.items 0 asked ++ codes "],\n\"outcomes\":[" ++ outcomes_json p 0 found.outcomes.items ++ codes "]}\n"

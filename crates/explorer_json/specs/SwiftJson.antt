@@ -26,8 +26,8 @@ meanings_json place (o ∷ os) = (comma 0 place ++ meaning_json (meaning o)) ++ 
 abbrev pub swift_head_json : FoundOutcomes → List ℕ
 swift_head_json f = search_json f ++ codes ",\n\"swift\":[" ++ meanings_json 0 f.outcomes.items
 
--- What a search of the script that a text spells says: the answer, the text's sum, how far it came, what each outcome says of Swift, what comes of each expectation in each outcome, and the
--- outcomes.
+-- What a search of the script that a text spells says: the answer, the text's sum, how far it came, what each outcome says of Swift, what
+-- comes of each expectation in each outcome, and the outcomes.
 abbrev pub swift_answer_json : List ℕ → ScriptView → List Expectation → FoundOutcomes → List ℕ
 swift_answer_json text p asked found =
     start_json text (swift_answer_of p asked found) ++ swift_head_json found ++ codes "],\n\"expectations\":[" ++ expectations_json p found.outcomes.items 0 asked ++ codes "],\n\"outcomes\":[" ++ outcomes_json p 0 found.outcomes.items ++ codes "]}\n"

@@ -72,8 +72,9 @@ fn put_answer(
     say(out, b"]}\n")
 }
 
-/// What a search of the script that `text` spells, which a Swift file has become, says to expectations, as `answer_json` has it (the format is our own), with what each outcome
-/// says of Swift: `outcome`, `ends` where the process ends before it, or `spins` where it is at a limit that Swift does not have.
+/// What a search of the script that `text` spells, which a Swift file has become, says to expectations, as `answer_json` has it (the format
+/// is our own), with what each outcome says of Swift: `outcome`, `ends` where the process ends before it, or `spins` where it is at a limit
+/// that Swift does not have.
 ///
 /// # Errors
 ///

@@ -1,7 +1,7 @@
 //! All that a search says.
 
 ghost use Rattle.std.specs.Prelude.{◌≡◌, ◌<◌, ◌^◌, ◌++◌, IfOk, OnOk};
-ghost use Rattle.explorer_json.specs.AnswerJson.{answer_json, answer_word, end_json, outcome_json, outcomes_json, script_json, search_json, start_json, sum_json};
+ghost use Rattle.explorer_json.specs.AnswerJson.{answer_json, answer_word, end_json, outcome_json, outcomes_json, script_json, search_json, start_json, sum_json, to_go_json};
 
 use crate::append::{comma, labelled, say};
 use crate::asked::put_expectations;
@@ -103,12 +103,23 @@ fn end_of(found: &FoundOutcomes) -> &'static [u8]
     }
 }
 
+// From how many histories it has still to go on, where it has met its limit.
+fn put_to_go(out: &mut Vec<u8>, found: &FoundOutcomes) -> Result<(), AllocError>
+    ensures { OnOk result (out.new.items ≡ out.old.items ++ to_go_json found.now) }
+{
+    if found.is_at_limit() {
+        return labelled(out, b",\"to_go\":", found.to_go);
+    }
+    Ok(())
+}
+
 // How far the search came.
 pub(crate) fn put_search(out: &mut Vec<u8>, found: &FoundOutcomes) -> Result<(), AllocError>
     ensures { OnOk result (out.new.items ≡ out.old.items ++ search_json found.now) }
 {
     say(out, end_of(found))?;
     labelled(out, b",\"states\":", found.states)?;
+    put_to_go(out, found)?;
     say(out, b",\n\"undone\":")?;
     put_broken(out, &found.broken)
 }
@@ -135,10 +146,11 @@ fn put_answer(
 }
 
 /// What a search of the script that `text` spells says to expectations, as one JSON value (the format is our own): the answer; the sum of
-/// the text; whether the search came to its end, and how many histories it kept; a schedule to a turn that `invariant` undoes, or `null`; each expectation, with what comes of it in each
-/// outcome; and the outcomes, each with its schedule, and with its tasks and fields as `report_json` has them. All of it is UTF-8 where
-/// the expectations are, and ASCII but for these. Linear in the tasks and fields of the outcomes, times the expectations, and in the
-/// schedules, times the length of each.
+/// the text; whether the search came to its end, how many histories it kept, and from how many it has still to go on, where it met its
+/// limit; a schedule to a turn that `invariant` undoes, or `null`; each expectation, with what comes of it in each outcome; and the
+/// outcomes, each with its schedule, and with its tasks and fields as `report_json` has them. All of it is UTF-8 where the expectations are,
+/// and ASCII but for these. Linear in the tasks and fields of the outcomes, times the expectations, and in the schedules, times the length
+/// of each.
 ///
 /// # Errors
 ///

@@ -49,7 +49,8 @@ function turnsOf(text) {
         else if (record) {
             const [, name, method, , cancelled, resume, exit] = record;
             turns.set(name, turn = { executor, method, cancelled: cancelled === "1", resume, exit, changes: [], losses: [] });
-        } else if (line.startsWith("    would have left ") || line.startsWith("    invariant ")) turn.losses.push(line.slice(4));
+        } else if (/^    t\d+ is /.test(line)) continue;
+        else if (line.startsWith("    would have left ") || line.startsWith("    invariant ")) turn.losses.push(line.slice(4));
         else if (line.startsWith("    ")) turn.changes.push(line.slice(4));
     }
     return turns;

@@ -83,8 +83,8 @@ fn parts(
     back(out)
 }
 
-/// What a search of the script that `heading.text` spells has found, as a page for a browser (the form is our own): the bytes of one file of
-/// HTML, which loads nothing. It shows the outcomes, what is expected of them and which fail, in which order the turns of each run, from
+/// What a search of the script that `heading.text` spells has found, as a page for a browser (the form is our own): the bytes of one file
+/// of HTML, which loads nothing. It shows the outcomes, what is expected of them and which fail, in which order the turns of each run, from
 /// where they part, and of the first 100 what each turn did. In it stand the answer as JSON, and beside it the script's text and the runs.
 ///
 /// Of a Swift file it says, too, before which outcomes the process ends, and which are at a limit that Swift does not have.

@@ -10,7 +10,7 @@ use Rattle.swift_workers.specs.Leaves.{AreEndings, AreReplayed}
 use Rattle.swift_tool.specs.Run.{HoldInvariants, IsRunOf, end_well}
 use Rattle.nuchapay_runs.specs.Notes.{IsAnnotated}
 use Rattle.nuchapay_runs.specs.Explains.{Explains, Tells}
-use Rattle.nuchapay_runs.specs.TaskNames.{task_name}
+use Rattle.task_names.specs.Names.{task_name}
 use Rattle.nuchapay_tool.specs.declared.turn_names.TurnName.{TurnName}
 use Rattle.nuchapay_tool.specs.declared.turn_names.TurnWord.{TurnWord}
 use Rattle.nuchapay_tool.specs.declared.turn_names.TurnWord.TheVariants.{Numbered, Named}

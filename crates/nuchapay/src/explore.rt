@@ -6,6 +6,7 @@ ghost use Rattle.explorer_answers.specs.Found.{IsFound};
 ghost use Rattle.explorer_json.specs.AnswerJson.{answer_json as json_of};
 ghost use Rattle.nuchapay.specs.Searches.{IsExplored, IsKept, IsSaidOf};
 
+use crate::progress::say_no_progress;
 use expectations::{Answer, Expectation, ExpectationError, Misread, ask};
 use explorer_answers::{answer_text, answered};
 use explorer_json::answer_json;
@@ -20,8 +21,11 @@ use swift_workers::RunFault;
 // Each time that a search has gone on from this many histories more, it says how far it is: a small script takes a second for them.
 const PART: usize = 8_192;
 
-// Says on standard error how far a search is. The search goes on where that fails: its list is what was asked for.
+// Says on standard error how far a search is that has still to go on. The search goes on where that fails: its list is what was asked for.
 fn say_progress(rt: &HostRuntime, search: &Exploration) {
+    if search.to_go() == 0 {
+        return;
+    }
     let outcomes = search.outcomes();
     let noun = if outcomes == 1 { "outcome" } else { "outcomes" };
     let _ = eprintln!(rt;
@@ -29,6 +33,18 @@ fn say_progress(rt: &HostRuntime, search: &Exploration) {
         search.gone_on(),
         search.to_go(),
     );
+}
+
+// What a search has found.
+fn found_by(search: Exploration) -> FoundOutcomes
+    ensures { IsFound search.script search.limit result }
+{
+    search.finish()
+}
+
+// By how many steps a search of so many histories dives: it costs a small part of the time.
+fn steps_of_dives(limit: usize) -> usize {
+    (limit / 4).max(1_000)
 }
 
 // What `explore` finds, and how far it is now and then.
@@ -39,12 +55,16 @@ pub(crate) fn search_all(
 ) -> Result<FoundOutcomes, AllocError>
     ensures { IfOk result (IsFound (arc_value script.now) limit) }
 {
-    let mut search = Exploration::new(rt.alloc(), script, limit)?.advance(PART)?;
+    let mut search = Exploration::new(rt.alloc(), script, limit)?;
     'parts: while search.to_go() > 0 {
-        say_progress(rt, &search);
         search = search.advance(PART)?;
+        if search.met_limit() {
+            let dived = search.dive(steps_of_dives(limit))?;
+            return Ok(found_by(dived));
+        }
+        say_progress(rt, &search);
     }
-    Ok(search.finish())
+    Ok(found_by(search))
 }
 
 /// What a search says (our own).
@@ -154,7 +174,8 @@ fn kept_of(
 
 /// What a search of the histories of the script that `heading.text` spells says, of which at most `limit` are kept, to the expectations of
 /// these words and of the script's comments, and perhaps that no root ends with a fault; in this format, and where this says so as JSON
-/// beside it, to be kept. How far it is, it says on standard error now and then.
+/// beside it, to be kept. How far it is, it says on standard error now and then, and at its end which tasks repeat their turns, where that
+/// is seen.
 pub fn explored(
     rt: &HostRuntime,
     heading: SearchHeading<'_>,
@@ -170,6 +191,7 @@ pub fn explored(
     let script = Arc::new(alloc, read(alloc, heading.text)?)?;
     let asked = ask(alloc, &script, heading.text, words, without_fault)?;
     let found = search_all(rt, &script, limit as usize)?;
+    say_no_progress(rt, &script, &found);
     let answer = answered(alloc, &script, &asked, &found)?;
     let text = said_of(alloc, heading, &script, &asked, &found, format)?;
     let saved = kept_of(alloc, heading.text, &script, &asked, &found, save)?;

@@ -7,6 +7,7 @@ ghost use Rattle.nuchapay.specs.Searches.{IsKept};
 ghost use Rattle.nuchapay.specs.SwiftSearches.{IsSwiftExplored, IsSwiftSaidOf};
 
 use crate::explore::{ExploreFault, SearchAnswer, search_all};
+use crate::progress::say_may_spin;
 use expectations::{Expectation, ask};
 use explorer_answers::{swift_answer_text, swift_answered};
 use explorer_json::swift_answer_json;
@@ -16,6 +17,7 @@ use std::alloc::{AllocError, Global};
 use std::sync::Arc;
 use swift_explorer::FoundOutcomes;
 use swift_script::{Script, read};
+use swift_translation::MethodPlace;
 
 // What a search says that has found this, in a format.
 fn swift_said_of(
@@ -55,10 +57,11 @@ fn swift_kept_of(
 }
 
 /// What a search says of the script that a Swift file becomes, as `explored` does of any script; but an outcome counts only where Swift has
-/// it, too.
+/// it, too. The methods of the script are from these lines of the file.
 pub fn explored_swift(
     rt: &HostRuntime,
     heading: SearchHeading<'_>,
+    places: &[MethodPlace],
     limit: u32,
     words: &[&str],
     without_fault: bool,
@@ -71,6 +74,7 @@ pub fn explored_swift(
     let script = Arc::new(alloc, read(alloc, heading.text)?)?;
     let asked = ask(alloc, &script, heading.text, words, without_fault)?;
     let found = search_all(rt, &script, limit as usize)?;
+    say_may_spin(rt, heading.name, places, &script, &found);
     let answer = swift_answered(alloc, &script, &asked, &found)?;
     let text = swift_said_of(alloc, heading, &script, &asked, &found, format)?;
     let saved = swift_kept_of(alloc, heading.text, &script, &asked, &found, save)?;

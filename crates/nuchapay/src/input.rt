@@ -7,7 +7,16 @@ use std::fs::File;
 use std::io;
 use swift_report::write_all;
 use swift_tool::ToolFault;
-use swift_translation::{Translation, refusal_text, translate};
+use swift_translation::{MethodPlace, SwiftScript, Translation, refusal_text, translate};
+
+/// The text of a script, and from which lines of a Swift file its methods are.
+#[derive(Drop)]
+pub struct ReadScript {
+    /// The text.
+    pub text: Vec<u8>,
+    /// The methods that are from lines of a Swift file; none where it is not made of one.
+    pub places: Vec<MethodPlace>,
+}
 
 /// Why there is no script.
 #[derive(Drop)]
@@ -45,15 +54,16 @@ pub fn is_swift(name: &str) -> bool {
     name.ends_with(".swift")
 }
 
-/// The text of a script; of a Swift file that of the script that it becomes.
-pub fn script(rt: &HostRuntime, source: Source<'_>) -> Result<Vec<u8>, NoScript> {
+/// A script; of a Swift file that which it becomes.
+pub fn script(rt: &HostRuntime, source: Source<'_>) -> Result<ReadScript, NoScript> {
     let text = text_of(rt, source)?;
     let name = name_of(source);
     if !is_swift(name) {
-        return Ok(text);
+        let places = Vec::new(rt.alloc());
+        return Ok(ReadScript { text, places });
     }
     match translate(rt.alloc(), &text)? {
-        Translation::Script(script) => Ok(script),
+        Translation::Script(SwiftScript { text, places }) => Ok(ReadScript { text, places }),
         Translation::Refused(refusal) => {
             let said = refusal_text(rt.alloc(), name, &text, refusal)?;
             Err(NoScript::Refused(said))

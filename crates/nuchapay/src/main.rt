@@ -1,10 +1,9 @@
 //! Answers questions about scripts of actors: runs them, checks them, prints them, and explains their refusals and faults.
 //!
 //! Its first argument is a command: `run`, `why`, `check`, `explain`, `print`, `show`, `swift` or `explore`; `--help` and `--version` are
-//! taken too.
-//! Status 0 stands for a run whose tasks all ended with a value, a script that is accepted, outcomes that are as expected, and for help; 1 for
-//! a run with a task that ended with a fault, or an outcome that is not as expected, 2 for words that were refused, 3 for a script that was
-//! refused, 4 for a run that was refused, or a file or device that failed, 5 for a search that decides nothing.
+//! taken too. Status 0 stands for a run whose tasks all ended with a value, a script that is accepted, outcomes that are as expected, and
+//! for help; 1 for a run with a task that ended with a fault, or an outcome that is not as expected, 2 for words that were refused, 3 for a
+//! script that was refused, 4 for a run that was refused, or a file or device that failed, 5 for a search that decides nothing.
 #![tactic(auto)]
 
 // What is said of two outcomes.
@@ -19,6 +18,10 @@ mod explore_swift;
 mod input;
 // What the program writes, and how it ends.
 mod output;
+// From which lines of a Swift file turns are.
+mod places;
+// What standard error is told of tasks that repeat their turns.
+mod progress;
 // What is said of runs by a schedule.
 mod schedule_answers;
 // Runs by a schedule.
@@ -43,6 +46,7 @@ use crate::explore::explored;
 use crate::explore_swift::explored_swift;
 use crate::input::{is_swift, name_of, say_no_script, script};
 use crate::output::{tell, write_out, write_said};
+use crate::places::{ScriptFile, say_run_places};
 use crate::schedule_answers::{say_broken, say_saved, say_scheduled};
 use crate::scheduled::broken_line;
 use crate::search_answers::say_explored;
@@ -51,7 +55,8 @@ use crate::turn_answers::say_turn;
 use crate::values::{explained_turn, report_of};
 use explorer_page::SearchHeading;
 use nuchapay_tool::{
-    Checked, Question, Request, Topic, check, check_json, explain, page_of, pretty, print, request,
+    Checked, Question, Request, SearchFormat, Topic, check, check_json, explain, page_of, pretty,
+    print, request,
 };
 use std::alloc::{AllocError, AllocGlobal};
 use std::env;
@@ -103,26 +108,37 @@ where
     match request {
         Request::Explain(topic) => tell(host, write_page(host, topic)),
         Request::Ask(source, question) => match script(host, source) {
-            Ok(text) => answer_of(host, rt, name_of(source), &text, question),
+            Ok(read) => {
+                let file = ScriptFile {
+                    name: name_of(source),
+                    text: &read.text,
+                    places: &read.places,
+                };
+                answer_of(host, rt, file, question)
+            }
             Err(why) => say_no_script(host, source, why),
         },
     }
 }
 
-// Answers a question about a script of this name and text. The status to end with.
-fn answer_of<R>(host: &HostRuntime, rt: &R, name: &str, text: &[u8], question: Question<'_>) -> u8
+// Answers a question about a script. The status to end with.
+fn answer_of<R>(host: &HostRuntime, rt: &R, file: ScriptFile<'_>, question: Question<'_>) -> u8
 where
     R: RandomSource + AllocGlobal + Threads + Wait + Sync,
 {
     let out = &mut host.stdout();
+    let ScriptFile { name, text, .. } = file;
     match question {
         Question::Run(workers, quiet) => tell(host, run_text(rt, text, workers, quiet, &Open, out)),
         Question::RunJson(workers, quiet) => {
             tell(host, run_json(rt, text, workers, quiet, &Open, out))
         }
-        Question::Values(workers) => tell(host, write_said(host, report_of(rt, text, workers))),
+        Question::Values(workers) => {
+            let status = tell(host, write_said(host, report_of(rt, text, workers)));
+            say_run_places(host, file, status)
+        }
         Question::Why(word, workers) => {
-            say_turn(host, word, explained_turn(rt, text, word, workers))
+            say_turn(host, file, word, explained_turn(rt, text, word, workers))
         }
         Question::Check(colour) => say_check(host, name, text, colour),
         Question::CheckJson => say_checked(host, check_json(host.alloc(), name, text)),
@@ -132,8 +148,8 @@ where
         Question::Show(workers, format) => {
             tell(host, show_run(rt, text, name, workers, format, out))
         }
-        Question::Scheduled(schedule, form) => say_scheduled(host, name, text, schedule, form),
-        Question::Saved(place, form) => say_saved(host, name, text, place, form),
+        Question::Scheduled(schedule, form) => say_scheduled(host, file, schedule, form),
+        Question::Saved(place, form) => say_saved(host, file, place, form),
         Question::Swift => tell(host, write_swift(host, text)),
         Question::PlainSwift => say_plain(host, text),
         Question::Explore {
@@ -149,6 +165,7 @@ where
                 explored_swift(
                     host,
                     heading,
+                    file.places,
                     limit,
                     &expected,
                     without_fault,
@@ -166,7 +183,11 @@ where
                     keeps,
                 )
             };
-            say_explored(host, save, found)
+            let shown = match format {
+                SearchFormat::Text => Some(file),
+                SearchFormat::Json | SearchFormat::Html => None,
+            };
+            say_explored(host, save, found, shown)
         }
         Question::ExploreBroken(limit) => say_broken(host, limit, broken_line(host, text, limit)),
         Question::Difference(limit, pair) => say_difference(host, text, limit, pair),

@@ -1,6 +1,7 @@
 //! What is said of runs by a schedule.
 
 use crate::output::{tell, write_out};
+use crate::places::{ScriptFile, say_method, say_run_places};
 use crate::scheduled::{
     BrokenLine, ChosenRun, NoRun, SavedRun, ScheduledRun, chosen_run, saved_run,
 };
@@ -9,6 +10,7 @@ use crate::show::show_report;
 use crate::told::{chosen_text, no_run_text};
 use crate::turn_answers::{say_explained, say_no_task};
 use crate::values::AskedTurn;
+use explorer_answers::DOTS;
 use explorer_files::{SavedChoice, SavedSchedule};
 use nuchapay_runs::Explained;
 use nuchapay_tool::{RunForm, SavedPlace, SavedWord, ScheduleChoice, TurnWord};
@@ -21,27 +23,21 @@ use swift_tool::ToolFault;
 /// Says this of a run by a schedule. The status to end with.
 pub fn say_scheduled(
     rt: &HostRuntime,
-    path: &str,
-    text: &[u8],
+    file: ScriptFile<'_>,
     schedule: ScheduleChoice<'_>,
     form: RunForm<'_>,
 ) -> u8 {
-    match chosen_run(rt, text, schedule) {
-        Ok(ChosenRun::Run(run)) => say_run(rt, path, text, &run, form),
+    match chosen_run(rt, file.text, schedule) {
+        Ok(ChosenRun::Run(run)) => say_run(rt, file, &run, form),
         Ok(ChosenRun::None(why)) => say_no_run(rt, schedule, why),
         Err(fault) => tell(rt, Err(fault)),
     }
 }
 
-// Says this of a run of the script with this text. The status to end with.
-fn say_run(rt: &HostRuntime, path: &str, text: &[u8], run: &ScheduledRun, form: RunForm<'_>) -> u8 {
-    let heading = Heading {
-        name: path,
-        workers: 1,
-        source: text,
-    };
+// Says this of a run of a script. The status to end with.
+fn say_run(rt: &HostRuntime, file: ScriptFile<'_>, run: &ScheduledRun, form: RunForm<'_>) -> u8 {
     match chosen_text(rt.alloc(), run) {
-        Ok(said) => say_after(rt, heading, run, form, said),
+        Ok(said) => say_after(rt, file, run, form, said),
         Err(fault) => tell(rt, Err(ToolFault::from(fault))),
     }
 }
@@ -57,8 +53,8 @@ pub(crate) fn file_of(rt: &HostRuntime, name: &str) -> Result<Vec<u8>, u8> {
     }
 }
 
-/// The run by the schedule of an outcome of a file, once it is said what was chosen of it, where something was; the status to end with where
-/// there is none, which is said.
+/// The run by the schedule of an outcome of a file, once it is said what was chosen of it, where something was; the status to end with
+/// where there is none, which is said.
 pub(crate) fn run_of_file(
     rt: &HostRuntime,
     path: &str,
@@ -93,8 +89,7 @@ fn with_chosen(rt: &HostRuntime, run: ScheduledRun) -> Result<ScheduledRun, u8> 
 /// Says this of a run by a schedule of a file. The status to end with: 2 where the file is of another script, or has no such schedule.
 pub fn say_saved(
     rt: &HostRuntime,
-    path: &str,
-    text: &[u8],
+    script: ScriptFile<'_>,
     place: SavedPlace<'_>,
     form: RunForm<'_>,
 ) -> u8 {
@@ -106,12 +101,12 @@ pub fn say_saved(
         SavedWord::Outcome(number) => SavedChoice::Outcome(number),
         SavedWord::Broken => SavedChoice::Broken,
     };
-    match saved_run(rt.alloc(), text, &file, choice) {
-        Ok(SavedRun::Followed(ChosenRun::Run(run))) => say_run(rt, path, text, &run, form),
+    match saved_run(rt.alloc(), script.text, &file, choice) {
+        Ok(SavedRun::Followed(ChosenRun::Run(run))) => say_run(rt, script, &run, form),
         Ok(SavedRun::Followed(ChosenRun::None(why))) => {
             say_no_run(rt, ScheduleChoice::Given(""), why)
         }
-        Ok(SavedRun::NotThere(found)) => say_not_there(rt, path, place.path, found),
+        Ok(SavedRun::NotThere(found)) => say_not_there(rt, script.name, place.path, found),
         Err(fault) => tell(rt, Err(fault)),
     }
 }
@@ -142,7 +137,7 @@ fn say_not_there(rt: &HostRuntime, path: &str, name: &str, found: SavedSchedule)
 // Says what was chosen of a run's schedule, where something was, and then this of the run. The status to end with.
 fn say_after(
     rt: &HostRuntime,
-    heading: Heading<'_>,
+    file: ScriptFile<'_>,
     run: &ScheduledRun,
     form: RunForm<'_>,
     chosen: Option<String>,
@@ -150,7 +145,7 @@ fn say_after(
     if let Some(said) = chosen {
         let _ = eprintln!(rt; "nuchapay: {said}");
     }
-    say_form(rt, heading, run, form)
+    say_form(rt, file, run, form)
 }
 
 /// Says why there is no run by a schedule. The status to end with.
@@ -165,15 +160,23 @@ pub(crate) fn say_no_run(rt: &HostRuntime, schedule: ScheduleChoice<'_>, why: No
 }
 
 // Says this of a run. The status to end with.
-fn say_form(rt: &HostRuntime, heading: Heading<'_>, run: &ScheduledRun, form: RunForm<'_>) -> u8 {
+fn say_form(rt: &HostRuntime, file: ScriptFile<'_>, run: &ScheduledRun, form: RunForm<'_>) -> u8 {
     let alloc = rt.alloc();
     match form {
         RunForm::Report(quiet) => tell(rt, write_run(rt, run, run.text(alloc, quiet))),
         RunForm::Json(quiet) => tell(rt, write_run(rt, run, run.json(alloc, quiet))),
-        RunForm::Values => tell(rt, write_run(rt, run, run.values(alloc))),
-        RunForm::Why(word) => say_why(rt, run, word),
+        RunForm::Values => {
+            let status = tell(rt, write_run(rt, run, run.values(alloc)));
+            say_run_places(rt, file, status)
+        }
+        RunForm::Why(word) => say_why(rt, file, run, word),
         RunForm::Line => tell(rt, write_line(rt, run)),
         RunForm::Picture(format) => {
+            let heading = Heading {
+                name: file.name,
+                workers: 1,
+                source: file.text,
+            };
             let shown = show_report(
                 alloc,
                 &run.script,
@@ -188,18 +191,24 @@ fn say_form(rt: &HostRuntime, heading: Heading<'_>, run: &ScheduledRun, form: Ru
 }
 
 // Says what is known of a turn of a run, after the line of its schedule. The status to end with.
-fn say_why(rt: &HostRuntime, run: &ScheduledRun, word: Option<TurnWord<'_>>) -> u8 {
+fn say_why(
+    rt: &HostRuntime,
+    file: ScriptFile<'_>,
+    run: &ScheduledRun,
+    word: Option<TurnWord<'_>>,
+) -> u8 {
     match run.why(rt.alloc(), word) {
-        Ok(AskedTurn::Turn(_name, Explained::Found(said))) => tell(rt, write_after(rt, run, &said)),
-        Ok(AskedTurn::Turn(name, found)) => say_explained(rt, name, found),
+        Ok(AskedTurn::Turn(_name, Explained::Found(said))) => {
+            match tell(rt, write_after(rt, run, &said)) {
+                0 => say_method(rt, file, &said, 0),
+                failed => failed,
+            }
+        }
+        Ok(AskedTurn::Turn(name, found)) => say_explained(rt, file, name, found),
         Ok(AskedTurn::NoTask) => say_no_task(rt, word),
         Err(fault) => tell(rt, Err(ToolFault::from(fault))),
     }
 }
-
-// What the dots in the line of a schedule mean.
-const DOTS: &str =
-    "    t0.1.. begins a turn, and ..t0.1 ends it; what stands between runs on other executors\n";
 
 // Writes the line of a run's schedule.
 fn write_line(rt: &HostRuntime, run: &ScheduledRun) -> Result<bool, ToolFault> {

@@ -256,8 +256,8 @@ fn as_meant(
 }
 
 /// The run of a script by the schedule that is meant of a file, which a search was kept in. The file's steps are followed as those of a
-/// schedule that was given, the report is followed by `legal`, and the last turn of one to a turn that is undone is asked again: of the file
-/// nothing else is believed.
+/// schedule that was given, the report is followed by `legal`, and the last turn of one to a turn that is undone is asked again: of the
+/// file nothing else is believed.
 pub fn saved_run(
     alloc: Global,
     text: &[u8],
@@ -339,11 +339,36 @@ impl ScheduledRun {
     pub fn chosen_turns(&self, alloc: Global) -> Result<Vec<u8>, AllocError> {
         let whole = schedule_text(alloc, &self.schedule)?;
         let given = self.given_line(alloc)?;
-        let from = given.len().saturating_sub(1);
-        let end = whole.len().saturating_sub(1);
-        if from >= end {
-            return Ok(Vec::new(alloc));
-        }
-        Vec::from_slice(alloc, &whole[from..end])
+        rest_of(alloc, without_feed(&whole), without_feed(&given))
     }
+}
+
+// A line without its line feed.
+fn without_feed(line: &[u8]) -> &[u8] {
+    line.split_at(line.len().saturating_sub(1)).0
+}
+
+// The last word of a line.
+fn last_word(line: &[u8]) -> &[u8] {
+    let mut from = 0;
+    for (place, byte) in line.iter().enumerate() {
+        if *byte == b' ' {
+            from = place.saturating_add(1);
+        }
+    }
+    line.get(from..).unwrap_or(line)
+}
+
+// The turns of a schedule after those that were given, both as lines. A turn that was only begun there, with two dots after it, ends here:
+// in the whole schedule it has no dots where that is at once.
+fn rest_of(alloc: Global, whole: &[u8], given: &[u8]) -> Result<Vec<u8>, AllocError> {
+    let mut rest = Vec::new(alloc);
+    let mut shared = given.len();
+    if !whole.starts_with(given) {
+        shared = given.len().saturating_sub(2);
+        rest.extend_from_slice(b" ..")?;
+        rest.extend_from_slice(last_word(given.split_at(shared).0))?;
+    }
+    rest.extend_from_slice(whole.split_at(shared.min(whole.len())).1)?;
+    Ok(rest)
 }

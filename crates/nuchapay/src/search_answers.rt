@@ -2,6 +2,7 @@
 
 use crate::explore::{ExploreFault, SearchAnswer};
 use crate::output::tell;
+use crate::places::{ScriptFile, say_places};
 use expectations::{Answer, Misread};
 use std::fs;
 use swift_report::write_all;
@@ -11,11 +12,13 @@ use swift_workers::RunFault;
 /// Writes what a search says. The status to end with: that of the answer, 2 or 3 for an expectation that is none, of the command line or
 /// of a comment, and 5 where no memory was left.
 ///
-/// What is to be kept goes into the file first, which is made, or cut to nothing where it is there; 4 where that fails.
+/// What is to be kept goes into the file first, which is made, or cut to nothing where it is there; 4 where that fails. Where a script is
+/// given, it is told behind all else from which lines of a Swift file its methods are.
 pub fn say_explored(
     rt: &HostRuntime,
     save: Option<&str>,
     found: Result<SearchAnswer, ExploreFault>,
+    file: Option<ScriptFile<'_>>,
 ) -> u8 {
     match found {
         Ok(
@@ -32,7 +35,13 @@ pub fn say_explored(
                 }
             }
             match write_all(&mut rt.stdout(), &text) {
-                Ok(()) => answer.status(),
+                Ok(()) => match file {
+                    Some(file) => {
+                        say_limit(rt, file, answer);
+                        say_places(rt, file, answer.status())
+                    }
+                    None => answer.status(),
+                },
                 Err(device) => tell(rt, Err(ToolFault::from(device))),
             }
         }
@@ -45,6 +54,18 @@ pub fn say_explored(
         }
     }
 }
+
+// Says which loops of a Swift file a search does not come to the end of, where it did not; nothing of a script.
+fn say_limit(rt: &HostRuntime, file: ScriptFile<'_>, answer: Answer) {
+    if matches!(answer, Answer::Undecided) && !file.places.is_empty() {
+        let words = SPINS;
+        let _ = eprintln!(rt; "nuchapay: {words}");
+    }
+}
+
+// What to write for a loop that waits for another task.
+const SPINS: &str =
+    "a loop that waits by Task.yield() until another task changes a field has an order for each of its turns, so no limit may be enough: give it an end, as in `while isBusy && tries < 3 { tries += 1; await Task.yield() }`";
 
 // Says what is wrong with an expectation. The status to end with.
 fn say_misread(rt: &HostRuntime, fault: Misread) -> u8 {

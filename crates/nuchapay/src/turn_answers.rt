@@ -1,15 +1,21 @@
 //! What is said of a turn.
 
 use crate::output::{tell, write_out};
+use crate::places::{ScriptFile, say_method};
 use crate::values::AskedTurn;
 use nuchapay_runs::Explained;
 use nuchapay_tool::{TurnName, TurnWord};
 use swift_tool::ToolFault;
 
-/// Says what is known of the turn that a word names. The status to end with.
-pub fn say_turn(rt: &HostRuntime, word: TurnWord<'_>, found: Result<AskedTurn, ToolFault>) -> u8 {
+/// Says what is known of the turn of a script that a word names. The status to end with.
+pub fn say_turn(
+    rt: &HostRuntime,
+    file: ScriptFile<'_>,
+    word: TurnWord<'_>,
+    found: Result<AskedTurn, ToolFault>,
+) -> u8 {
     match found {
-        Ok(AskedTurn::Turn(name, found)) => say_explained(rt, name, found),
+        Ok(AskedTurn::Turn(name, found)) => say_explained(rt, file, name, found),
         Ok(AskedTurn::NoTask) => say_no_task(rt, Some(word)),
         Err(fault) => tell(rt, Err(fault)),
     }
@@ -23,11 +29,19 @@ pub fn say_no_task(rt: &HostRuntime, word: Option<TurnWord<'_>>) -> u8 {
     2
 }
 
-/// Says what is known of the turn that was meant. The status to end with.
-pub fn say_explained(rt: &HostRuntime, name: TurnName, found: Explained) -> u8 {
+/// Says what is known of the turn of a script that was meant, and from which lines of a Swift file its method is. The status to end with.
+pub fn say_explained(
+    rt: &HostRuntime,
+    file: ScriptFile<'_>,
+    name: TurnName,
+    found: Explained,
+) -> u8 {
     let TurnName { task, number } = name;
     match found {
-        Explained::Found(said) => tell(rt, write_out(rt, &said)),
+        Explained::Found(said) => match tell(rt, write_out(rt, &said)) {
+            0 => say_method(rt, file, &said, 0),
+            failed => failed,
+        },
         Explained::Folded => {
             let _ = eprintln!(rt;
                 "nuchapay: t{task}.{number} was folded into a checkpoint, which keeps no fields of it"

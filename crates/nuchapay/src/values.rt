@@ -5,7 +5,7 @@ ghost use Rattle.std.specs.Arc.{arc_value};
 ghost use Rattle.swift_tool.specs.Run.{end_well};
 ghost use Rattle.nuchapay.specs.Runs.{IsAsked, IsNotedRunOf, IsOfRun, IsReportOf, IsTurnMeant};
 
-use nuchapay_runs::{Explained, explain_turn, find_task, report_with_values};
+use nuchapay_runs::{Explained, explain_turn, report_with_values};
 use nuchapay_tool::{TurnName, TurnWord};
 use std::alloc::{AllocError, AllocGlobal, Global};
 use std::random::RandomSource;
@@ -17,6 +17,7 @@ use swift_script::{Script, read};
 use swift_tool::ToolFault;
 use swift_types::{Ending, TaskId};
 use swift_workers::{Open, run};
+use task_names::find_task;
 
 /// A text, and whether each task of the run ended with a value.
 #[derive(Drop)]

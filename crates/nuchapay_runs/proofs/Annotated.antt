@@ -1,13 +1,15 @@
 -- A report with what is said of each turn is the report, with lines of notes in it.
 use Rattle.std.proofs.Common.{◌≡◌, ℕ, ◌+◌, ℤ, List, [], ◌∷◌, ◌++◌, length, refl, sym, ap, ap₂, subst, ◌∙◌, append_assoc, append-nil}
 use Rattle.std.specs.Prelude.{codes, false, true, slice_get}
+use Rattle.swift_types.specs.declared.outcome.Ending.{Ending}
+use Rattle.swift_events.specs.declared.life.Origin.{Origin}
 use Rattle.swift_script.specs.Scripts.{ScriptView, actor_count}
 use Rattle.swift_journal.specs.Checkpoints.{CheckpointRoomView}
 use Rattle.swift_journal.specs.Records.{RecordView}
 use Rattle.swift_journal.specs.Replay.{fields_after}
 use Rattle.swift_report.specs.Text.{executor_text, executors_text, fields_text, folded_count, folded_text, heading_text, line_of, report_text, tasks_text, turn_text, turns_text}
 use Rattle.swift_report.specs.declared.report.Report.{Report}
-use Rattle.nuchapay_runs.specs.Noted.{broken_lines, fields_before, front_of, noted_executor, noted_executors, noted_text, noted_turn, noted_turns, notes_text}
+use Rattle.nuchapay_runs.specs.Noted.{broken_lines, fields_before, first_lines, front_of, noted_executor, noted_executors, noted_text, noted_turn, noted_turns, notes_text}
 use Rattle.nuchapay_runs.specs.Notes.{IsAnnotated, NotedPart, change_lines, note_line, note_lines, with_notes, without_notes}
 use Rattle.run_pictures.specs.Values.{ValuesView, turn_values}
 
@@ -43,32 +45,38 @@ notes_are_lines : (p : ScriptView) (e : ℕ) (before : List (List ℤ)) (v : Val
     → note_lines (change_lines p e (front_of v.outcome) v.changes ++ broken_lines p e v.changes before v.outcome) ≡ notes_text p e before v
 notes_are_lines p e before v = lines_append (change_lines p e (front_of v.outcome) v.changes) (broken_lines p e v.changes before v.outcome)
 
-turn_is_noted : (p : ScriptView) (e k : ℕ) (before : List (List ℤ)) (r : RecordView) → IsAnnotated (turn_text p k (line_of r)) (noted_turn p e k before r)
-turn_is_noted p e k before r =
+turn_is_noted : (p : ScriptView) (es : List (Origin × Ending)) (e k : ℕ) (before : List (List ℤ)) (r : RecordView) → IsAnnotated (turn_text p k (line_of r)) (noted_turn p es e k before r)
+turn_is_noted p es e k before r =
     let v = turn_values p before r in
     let line = turn_text p k (line_of r) in
+    let first = first_lines p es r.task r.number in
     let lines = change_lines p e (front_of v.outcome) v.changes ++ broken_lines p e v.changes before v.outcome in
-    subst (λ (notes : List ℕ). IsAnnotated line (line ++ notes)) (notes_are_lines p e before v) (noted line lines)
+    let said : line ++ note_lines (first ++ lines) ≡ noted_turn p es e k before r =
+    ap (λ (x : List ℕ). line ++ x) (lines_append first lines ∙ ap (λ (x : List ℕ). note_lines first ++ x) (notes_are_lines p e before v))
+    ∙ sym (append_assoc line (note_lines first) (notes_text p e before v)) in
+    subst (λ (text : List ℕ). IsAnnotated line text) said (noted line (first ++ lines))
 
-turns_are_noted : (p : ScriptView) (e k : ℕ) (before : List (List ℤ)) (rs : List RecordView) → IsAnnotated (turns_text p k rs) (noted_turns p e k before rs)
-turns_are_noted p e k before [] = ([], refl, refl)
-turns_are_noted p e k before (r ∷ rs) =
-    joined (turn_text p k (line_of r)) (noted_turn p e k before r) (turns_text p (k + 1) rs) (noted_turns p e (k + 1) (fields_after p before r) rs)
-    (turn_is_noted p e k before r)
-    (turns_are_noted p e (k + 1) (fields_after p before r) rs)
+turns_are_noted : (p : ScriptView) (es : List (Origin × Ending)) (e k : ℕ) (before : List (List ℤ)) (rs : List RecordView) → IsAnnotated (turns_text p k rs) (noted_turns p es e k before rs)
+turns_are_noted p es e k before [] = ([], refl, refl)
+turns_are_noted p es e k before (r ∷ rs) =
+    joined (turn_text p k (line_of r)) (noted_turn p es e k before r) (turns_text p (k + 1) rs) (noted_turns p es e (k + 1) (fields_after p before r) rs)
+    (turn_is_noted p es e k before r)
+    (turns_are_noted p es e (k + 1) (fields_after p before r) rs)
 
-executor_is_noted : (p : ScriptView) (e folded : ℕ) (before : List (List ℤ)) (j : List RecordView) → IsAnnotated (executor_text p e folded j) (noted_executor p e folded before j)
-executor_is_noted p e folded before j =
+executor_is_noted : (p : ScriptView) (es : List (Origin × Ending)) (e folded : ℕ) (before : List (List ℤ)) (j : List RecordView)
+    → IsAnnotated (executor_text p e folded j) (noted_executor p es e folded before j)
+executor_is_noted p es e folded before j =
     let front = heading_text p e (folded + length j) ++ folded_text folded in
-    joined front front (turns_text p folded j) (noted_turns p e folded before j) (plain front) (turns_are_noted p e folded before j)
+    joined front front (turns_text p folded j) (noted_turns p es e folded before j) (plain front) (turns_are_noted p es e folded before j)
 
-executors_are_noted : (p : ScriptView) (cs : List CheckpointRoomView) (k : ℕ) (js : List (List RecordView)) → IsAnnotated (executors_text p cs k js) (noted_executors p cs k js)
-executors_are_noted p cs k [] = ([], refl, refl)
-executors_are_noted p cs k (j ∷ js) =
+executors_are_noted : (p : ScriptView) (es : List (Origin × Ending)) (cs : List CheckpointRoomView) (k : ℕ) (js : List (List RecordView))
+    → IsAnnotated (executors_text p cs k js) (noted_executors p es cs k js)
+executors_are_noted p es cs k [] = ([], refl, refl)
+executors_are_noted p es cs k (j ∷ js) =
     let c = slice_get cs k in
-    joined (executor_text p k (folded_count c) j) (noted_executor p k (folded_count c) (fields_before c) j) (executors_text p cs (k + 1) js) (noted_executors p cs (k + 1) js)
-    (executor_is_noted p k (folded_count c) (fields_before c) j)
-    (executors_are_noted p cs (k + 1) js)
+    joined (executor_text p k (folded_count c) j) (noted_executor p es k (folded_count c) (fields_before c) j) (executors_text p cs (k + 1) js) (noted_executors p es cs (k + 1) js)
+    (executor_is_noted p es k (folded_count c) (fields_before c) j)
+    (executors_are_noted p es cs (k + 1) js)
 
 -- a first part, apart from four others
 apart : (j t ts f fs : List ℕ) → (((j ++ t) ++ ts) ++ f) ++ fs ≡ j ++ (((t ++ ts) ++ f) ++ fs)
@@ -83,8 +91,9 @@ noted_is_annotated p r =
     let cs = r.checkpoints.items in
     let js = r.journals.items in
     let front = codes "journals\n" in
+    let es = r.endings.items in
     let rest = report_text p r true in
     let is = apart (front ++ executors_text p cs 0 js) (codes "tasks\n") (tasks_text p 0 r.endings.items) (codes "fields\n") (fields_text p r.fields.items 0 (actor_count p)) in
     subst (λ (text : List ℕ). IsAnnotated text (noted_text p r)) (sym is)
-    (joined (front ++ executors_text p cs 0 js) (front ++ noted_executors p cs 0 js) rest rest
-    (joined front front (executors_text p cs 0 js) (noted_executors p cs 0 js) (plain front) (executors_are_noted p cs 0 js)) (plain rest))
+    (joined (front ++ executors_text p cs 0 js) (front ++ noted_executors p es cs 0 js) rest rest
+    (joined front front (executors_text p cs 0 js) (noted_executors p es cs 0 js) (plain front) (executors_are_noted p es cs 0 js)) (plain rest))

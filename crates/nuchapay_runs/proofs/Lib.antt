@@ -8,4 +8,3 @@ mod Noting
 mod Past
 mod Playing
 mod Standing
-mod TaskNaming

@@ -1,6 +1,8 @@
 -- What is said of turns, one after the other.
 use Rattle.std.proofs.Common.{◌≡◌, ℕ, ◌+◌, ◌<◌, ℤ, List, [], ◌++◌, length, drop, get_or, refl, sym, ap, ap₂, ◌∙◌, arith}
 use Rattle.std.proofs.lemmas.List.{at_drop_more}
+use Rattle.swift_types.specs.declared.outcome.Ending.{Ending}
+use Rattle.swift_events.specs.declared.life.Origin.{Origin}
 use Rattle.swift_script.specs.Scripts.{ScriptView}
 use Rattle.swift_turn.specs.Body.{invariants_at, state_at}
 use Rattle.swift_journal.specs.Records.{RecordView}
@@ -32,14 +34,14 @@ notes_after p e before r =
     ∙ by_outcome p e before w.state.fields (differences 0 before w.state.fields) (outcome_of here w.exit w.state.fields)
 
 -- one turn more
-pub noted_more : (p : ScriptView) (e first i : ℕ) (j : List RecordView) (before after : List (List ℤ)) (old now next : Text) (all : List ℕ) → i < length j
-    → ((d : RecordView) → Says now next (noted_turn p e (first + i) before (get_or j i d))) → ((d : RecordView) → after ≡ fields_after p before (get_or j i d))
-    → UpTo old now (noted_turns p e (first + i) before (drop i j)) all → UpTo old next (noted_turns p e (first + (i + 1)) after (drop (i + 1) j)) all
-noted_more p e first i j before after old now next all lt says is upto =
+pub noted_more : (p : ScriptView) (es : List (Origin × Ending)) (e first i : ℕ) (j : List RecordView) (before after : List (List ℤ)) (old now next : Text) (all : List ℕ) → i < length j
+    → ((d : RecordView) → Says now next (noted_turn p es e (first + i) before (get_or j i d))) → ((d : RecordView) → after ≡ fields_after p before (get_or j i d))
+    → UpTo old now (noted_turns p es e (first + i) before (drop i j)) all → UpTo old next (noted_turns p es e (first + (i + 1)) after (drop (i + 1) j)) all
+noted_more p es e first i j before after old now next all lt says is upto =
     let d = first_of j i lt in
     let x = get_or j i d in
     let next_place : (first + i) + 1 ≡ first + (i + 1) = omega arith in
     more
-    (at_drop_more (λ (l : List RecordView). noted_turns p e (first + i) before l) j i d lt ∙ ap₂ (λ (k : ℕ) (f : List (List ℤ)). noted_turn p e (first + i) before x ++ noted_turns p e k f (drop (i + 1) j)) next_place (sym (is d)))
+    (at_drop_more (λ (l : List RecordView). noted_turns p es e (first + i) before l) j i d lt ∙ ap₂ (λ (k : ℕ) (f : List (List ℤ)). noted_turn p es e (first + i) before x ++ noted_turns p es e k f (drop (i + 1) j)) next_place (sym (is d)))
     upto
     (says d)

@@ -67,8 +67,8 @@ abbrev pub IsLast : List RecordView → ℕ → Option ℕ → Type 0
 IsLast journal place (Some last) = IsLastTurn journal place last
 IsLast journal place None = (earlier : ℕ) → earlier < place → IsOfOther journal place earlier
 
--- This is known of the turn at a place of a journal of executor `e`, which goes on after a checkpoint, where tasks come from there. What its variables are called, and the
--- text of its method, is left open.
+-- This is known of the turn at a place of a journal of executor `e`, which goes on after a checkpoint, where tasks come from there. What
+-- its variables are called, and the text of its method, is left open.
 pub record IsKnown (p : ScriptView) (es : List (Origin × Ending)) (e : ℕ) (c : CheckpointRoomView) (journal : List RecordView) (place : ℕ) (k : KnownTurn) : Type 0 where
   pub script : k.names.script ≡ p
   pub endings : k.endings ≡ es

@@ -1,3 +1,4 @@
+pub mod Broken
 pub mod Explains
 pub mod False
 pub mod Formulas
@@ -9,5 +10,4 @@ pub mod Notes
 pub mod OwnedInside
 pub mod SaysInside
 pub mod Statements
-pub mod TaskNames
 pub mod Why

@@ -13,7 +13,7 @@ use Rattle.nuchapay_runs.specs.Formulas.{NamesView, variable_text}
 use Rattle.nuchapay_runs.specs.Noted.{broken_lines}
 use Rattle.nuchapay_runs.specs.Notes.{change_lines, change_text, note_line, note_lines, place_text}
 use Rattle.nuchapay_runs.specs.Statements.{statement_text}
-use Rattle.nuchapay_runs.specs.TaskNames.{task_name}
+use Rattle.task_names.specs.Names.{task_name}
 use Rattle.run_pictures.specs.Values.{ValuesView}
 use Rattle.run_pictures.specs.declared.values.change.Change.{Change}
 use Rattle.run_pictures.specs.declared.values.change.Outcome.{Outcome}
@@ -145,9 +145,9 @@ abbrev pub place_among : List ℕ → ℕ → ℕ
 place_among [] a = 0
 place_among (b ∷ bs) a = if b == a then 0 else place_among bs a + 1
 
--- A turn that is explained, and what is known of it: how things are called, and where tasks come from; the text of its method, and the instructions; its place among
--- all turns of its executor, those of the journal, and its place among these; what it was; the fields before it, and what it did to them; what
--- each turn of the journal did; and the place there of the last turn of its task, if it has one.
+-- A turn that is explained, and what is known of it: how things are called, and where tasks come from; the text of its method, and the
+-- instructions; its place among all turns of its executor, those of the journal, and its place among these; what it was; the fields before
+-- it, and what it did to them; what each turn of the journal did; and the place there of the last turn of its task, if it has one.
 pub record KnownTurn : Type 0 where
   pub names : NamesView
   pub endings : List (Origin × Ending)

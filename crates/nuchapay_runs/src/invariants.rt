@@ -127,8 +127,13 @@ fn write_left(
     }
 }
 
-// An invariant in words.
-fn write_invariant(out: &mut Text, script: &Script, executor: ExecId, invariant: OwnedInvariant<'_>)
+/// Goes on with an invariant in words.
+pub(crate) fn write_invariant(
+    out: &mut Text,
+    script: &Script,
+    executor: ExecId,
+    invariant: OwnedInvariant<'_>,
+)
     ensures { Says out.old out.new (formula_text (names_of script.now executor.0 invariant.entry.actor.0) (term_of invariant.entry.formula.now)) }
 {
     let names = NamesAt {

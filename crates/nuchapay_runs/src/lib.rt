@@ -2,6 +2,8 @@
 //! of tasks.
 #![tactic(auto)]
 
+// Which invariants turns have broken.
+mod broken;
 // One turn explained.
 mod explained;
 // Fields as a turn leaves them.
@@ -24,8 +26,6 @@ mod printed;
 mod report;
 // Statements in words.
 mod statement;
-// Names of tasks.
-mod task_names;
 // Texts that are being written.
 mod text;
 // What is told of one turn.
@@ -33,7 +33,7 @@ mod why;
 // The words of a text.
 mod words;
 
+pub use broken::broken_invariants;
 pub use explained::{Explained, explain_turn};
 pub use notes::write_change;
 pub use report::report_with_values;
-pub use task_names::{find_task, task_name};

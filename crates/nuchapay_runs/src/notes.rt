@@ -3,7 +3,7 @@
 ghost use Rattle.std.specs.Prelude.{◌≡◌, ◌++◌, OnOk};
 ghost use Rattle.script_code.specs.Seen.{rows_of};
 ghost use Rattle.nuchapay_runs.specs.False.{false_lines, false_text};
-ghost use Rattle.nuchapay_runs.specs.Noted.{broken_lines, front_of, notes_text};
+ghost use Rattle.nuchapay_runs.specs.Noted.{broken_lines, called_text, first_lines, front_of, notes_text};
 ghost use Rattle.nuchapay_runs.specs.Notes.{actor_at as actor_among, change_lines, change_text, note_line, note_lines, place_text};
 ghost use Rattle.nuchapay_runs.specs.OwnedInside.{owned_if, owned_of};
 ghost use Rattle.nuchapay_runs.specs.SaysInside.{Says};
@@ -14,8 +14,9 @@ use crate::number::number;
 use crate::text::Text;
 use run_pictures::{Change, Outcome, TurnValues};
 use std::alloc::{AllocError, Global};
+use swift_events::Origin;
 use swift_script::Script;
-use swift_types::{ActorId, ExecId};
+use swift_types::{ActorId, Ending, ExecId, TaskId};
 
 /// The actor at a place of an executor; the first one where there is none.
 pub(crate) fn actor_at(script: &Script, executor: ExecId, place: usize) -> ActorId
@@ -185,4 +186,29 @@ pub(crate) fn write_notes(
 {
     write_lines(out, script, executor, front_of(turn.outcome), &turn.changes);
     write_broken(out, alloc, script, executor, before, turn)
+}
+
+// Goes on with the line of what a task is called.
+fn write_called(out: &mut Text, script: &Script, endings: &[(Origin, Ending)], task: TaskId)
+    ensures { Says out.old out.new (note_line (called_text script.now endings.now task.0)) }
+{
+    out.say(b"    ");
+    out.called(script, endings, task);
+    out.say(b"\n")
+}
+
+/// Goes on with what is said of the task of a turn with this number: at its first turn what the task is called.
+#[tactic(auto, using(crate::proofs::Joined::one_line))]
+pub(crate) fn write_first(
+    out: &mut Text,
+    script: &Script,
+    endings: &[(Origin, Ending)],
+    task: TaskId,
+    number: u32,
+)
+    ensures { Says out.old out.new (note_lines (first_lines script.now endings.now task.0 number)) }
+{
+    if number == 0 {
+        write_called(out, script, endings, task)
+    }
 }

@@ -153,8 +153,9 @@ fn variable_words(
     Ok(found)
 }
 
-/// The names of that method's variables, those of its `count` parameters first. A variable has the place that follows those which stand where
-/// it is made, so variables of blocks that are not inside one another share places: where their names differ, an empty one stands there.
+/// The names of that method's variables, those of its `count` parameters first. A variable has the place that follows those which stand
+/// where it is made, so variables of blocks that are not inside one another share places: where their names differ, an empty one stands
+/// there.
 pub(crate) fn variables_of<'a>(
     alloc: Global,
     printed: &Words<'a>,

@@ -2,13 +2,13 @@
 
 ghost use Rattle.std.specs.Prelude.{◌≡◌, [], false, true, IfOk};
 ghost use Rattle.swift_report.specs.Text.{exit_text, method_text, resume_text};
+ghost use Rattle.nuchapay_runs.specs.Noted.{called_text};
 ghost use Rattle.nuchapay_runs.specs.Notes.{change_text, place_text};
 ghost use Rattle.nuchapay_runs.specs.SaysInside.{Says};
-ghost use Rattle.nuchapay_runs.specs.TaskNames.{task_name};
+ghost use Rattle.task_names.specs.Names.{task_name};
 
 use crate::notes::{write_change, write_place};
 use crate::number::number;
-use crate::task_names::write_name;
 use itoa::Integer;
 use run_pictures::Change;
 use run_pictures::picture::word;
@@ -17,6 +17,7 @@ use swift_events::Origin;
 use swift_journal::BriefExit;
 use swift_script::Script;
 use swift_types::{Ending, ExecId, MethodId, Resume, TaskId};
+use task_names::put_task_name;
 
 /// A text that is being written. Where memory runs out it ends there, and `into_bytes` says so: who writes it asks at the end alone.
 pub(crate) struct Text {
@@ -108,8 +109,18 @@ impl Text {
         ensures { Says self.old self.new (task_name script.now endings.now task.0) }
     {
         if !self.is_cut {
-            self.is_cut = write_name(&mut self.bytes, script, endings, task).is_err();
+            self.is_cut = put_task_name(&mut self.bytes, script, endings, task).is_err();
         }
+    }
+
+    /// Goes on with what a task is called, beside its number.
+    pub(crate) fn called(&mut self, script: &Script, endings: &[(Origin, Ending)], task: TaskId)
+        ensures { Says self.old self.new (called_text script.now endings.now task.0) }
+    {
+        self.say(b"t");
+        self.number(task.0);
+        self.say(b" is ");
+        self.task(script, endings, task)
     }
 
     /// Goes on with what a turn began with.

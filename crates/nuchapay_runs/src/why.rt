@@ -385,8 +385,8 @@ fn write_changed(
     }
 }
 
-/// Goes on with a line for each change of an actor's field that the turns between two places of a journal made, while a task was waiting, in
-/// a run whose tasks come from there.
+/// Goes on with a line for each change of an actor's field that the turns between two places of a journal made, while a task was waiting,
+/// in a run whose tasks come from there.
 pub(crate) fn write_meanwhile(
     out: &mut Text,
     script: &Script,

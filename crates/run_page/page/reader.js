@@ -17,8 +17,6 @@ function setTheme(name) {
     found("theme").textContent = name === "dark" ? "Light" : "Dark";
 }
 
-const turnTheme = () => setTheme(document.documentElement.dataset.theme === "dark" ? "light" : "dark");
-
 function showKeys(isShown) {
     found("keys").hidden = !isShown;
     found("help").setAttribute("aria-expanded", isShown);
@@ -36,20 +34,12 @@ function stepTask(by) {
 }
 
 const KEYS = {
-    ArrowLeft: () => choose(chosen - 1),
-    ArrowRight: () => choose(chosen + 1),
-    ArrowUp: () => stepTask(-1),
-    ArrowDown: () => stepTask(1),
-    Home: () => choose(0),
-    End: () => choose(cells.length - 1),
-    "+": () => zoomTo(zoom + 1),
-    "=": () => zoomTo(zoom + 1),
-    "-": () => zoomTo(zoom - 1),
-    0: zoomToAll,
+    ArrowLeft: () => choose(chosen - 1), ArrowRight: () => choose(chosen + 1), ArrowUp: () => stepTask(-1), ArrowDown: () => stepTask(1),
+    Home: () => choose(0), End: () => choose(cells.length - 1),
+    "+": () => zoomTo(zoom + 1), "=": () => zoomTo(zoom + 1), "-": () => zoomTo(zoom - 1), 0: zoomToAll,
     f: () => { found("fold").checked = !found("fold").checked; refold(); },
-    d: turnTheme,
-    "?": () => showKeys(found("keys").hidden),
-    Escape: () => showKeys(false),
+    d: () => setTheme(document.documentElement.dataset.theme === "dark" ? "light" : "dark"),
+    "?": () => showKeys(found("keys").hidden), Escape: () => showKeys(false),
 };
 
 function listen() {
@@ -59,9 +49,7 @@ function listen() {
         KEYS[event.key]();
     });
     const buttons = { back: "ArrowLeft", forward: "ArrowRight", smaller: "-", larger: "+", fit: "0", theme: "d", help: "?" };
-    for (const [id, key] of Object.entries(buttons)) {
-        found(id).addEventListener("click", KEYS[key]);
-    }
+    for (const [id, key] of Object.entries(buttons)) found(id).addEventListener("click", KEYS[key]);
     found("fold").addEventListener("change", refold);
     picture.addEventListener("click", (event) => {
         const group = event.target.closest("[data-slot]");
@@ -69,10 +57,9 @@ function listen() {
     });
     view.addEventListener("scroll", drawView);
     view.addEventListener("wheel", (event) => {
-        if (event.ctrlKey) {
-            event.preventDefault();
-            zoomTo(zoom + (event.deltaY < 0 ? 1 : -1));
-        }
+        if (!event.ctrlKey) return;
+        event.preventDefault();
+        zoomTo(zoom + (event.deltaY < 0 ? 1 : -1));
     }, { passive: false });
     overview.addEventListener("pointerdown", (event) => { overview.setPointerCapture(event.pointerId); moveWindow(event); });
     overview.addEventListener("pointermove", (event) => { if (event.buttons) moveWindow(event); });
@@ -94,10 +81,9 @@ function listenToTasks() {
     found("list").addEventListener("click", (event) => {
         const { first, only } = event.target.dataset;
         if (first !== undefined) chooseTurn(taskTurns[first][0]);
-        if (only !== undefined) {
-            report.tasks.forEach((_, number) => hidden.add(number));
-            filter((number) => number === Number(only));
-        }
+        if (only === undefined) return;
+        report.tasks.forEach((_, number) => hidden.add(number));
+        filter((number) => number === Number(only));
     });
 }
 

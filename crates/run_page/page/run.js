@@ -10,16 +10,10 @@ const report = JSON.parse(found("report").textContent.replace(/:(-?\d{16,})(?=[,
 const more = JSON.parse(found("more").textContent);
 const fault = (of) => of.fault + ("value" in of ? " " + of.value : "");
 
-function resumeText(resume) {
-    if (resume.is === "value") return "value " + resume.value;
-    return resume.is === "fault" ? "fault " + fault(resume) : resume.is;
-}
-
-function exitText(exit) {
-    if (exit.is === "call") return "call " + exit.method;
-    if (exit.is === "return") return "return " + exit.value;
-    if (exit.is === "fault") return "fault " + fault(exit);
-    return exit.fault ? exit.is + " fault " + fault(exit) : exit.is;
+// How a turn began or ended, as the journal has it: its word, and what stands after it.
+function stateText(state) {
+    const after = state.method || (state.is === "fault" ? fault(state) : state.fault ? "fault " + fault(state) : state.value);
+    return after === undefined ? state.is : `${state.is} ${after}`;
 }
 
 // A change as the data has it: a field, and its values before and after.
@@ -46,19 +40,13 @@ const MARKS = { open: "opens group ", skip: "skips in group ", "cancel group": "
 // What one event of the log says of turns. The turn in whose block it stands.
 function readEvent([word, task, other], place, doer) {
     const turn = byName.get(`t${task}.${other}`);
-    if (word === "root" || word === "begin") {
-        if (word === "begin" && turn) turn.begin = place;
-        return null;
-    }
-    if (word === "apply") {
-        if (turn) turn.end = place;
-        return turn || null;
-    }
-    if (!doer) return null;
-    if (word === "give") {
-        if (turn) turn.maker = doer;
-        if (task !== doer.task) doer.woke.push(task);
-    } else if (word === "free" || word === "child") doer.made.push(task);
+    if (word === "begin" && turn) turn.begin = place;
+    if (word === "apply" && turn) turn.end = place;
+    if (word === "apply") return turn || null;
+    if (word === "root" || word === "begin" || !doer) return null;
+    if (word === "give" && turn) turn.maker = doer;
+    if (word === "give" && task !== doer.task) doer.woke.push(task);
+    if (word === "free" || word === "child") doer.made.push(task);
     else if (word in MARKS) doer.marks.push(MARKS[word] + (word === "cancel task" ? task : other));
     return doer;
 }
@@ -102,13 +90,10 @@ function nameTasks() {
 
 // The fields at the start: those at the end, with the changes taken back.
 function startFields() {
-    const fields = new Map();
-    for (const [actor, row] of Object.entries(report.fields)) {
-        for (const [field, value] of Object.entries(row)) fields.set(`${actor}.${field}`, String(value));
-    }
-    for (const turn of [...ends].reverse()) {
-        if (turn.outcome === "kept") for (const change of turn.changes) fields.set(change.field, change.before);
-    }
+    const rows = Object.entries(report.fields);
+    const fields = new Map(rows.flatMap(([actor, row]) => Object.entries(row).map(([field, value]) => [`${actor}.${field}`, String(value)])));
+    const kept = [...ends].reverse().filter((turn) => turn.outcome === "kept");
+    for (const { field, before } of kept.flatMap((turn) => [...turn.changes].reverse())) fields.set(field, before);
     return fields;
 }
 
@@ -132,10 +117,8 @@ const folded = report.journals.reduce((sum, journal) => sum + journal.folded, 0)
 // The fields from before a turn.
 function fieldsBefore(chosen) {
     const fields = new Map(atStart);
-    for (const turn of ends) {
-        if (turn.end >= chosen.end) break;
-        if (turn.outcome === "kept") for (const change of turn.changes) fields.set(change.field, change.after);
-    }
+    const kept = ends.filter((turn) => turn.end < chosen.end && turn.outcome === "kept");
+    for (const { field, after } of kept.flatMap((turn) => turn.changes)) fields.set(field, after);
     return fields;
 }
 

@@ -60,7 +60,7 @@ pub use cells::{Cell, cells_of};
 pub use fault::PictureFault;
 pub use quiet::gives_way;
 use std::alloc::{AllocError, Global};
-pub use svg::svg_text;
+pub use svg::{PlayedTurns, played_turns, svg_text};
 use swift_journal::Checkpoint;
 use swift_log::EventLog;
 use swift_report::Report;

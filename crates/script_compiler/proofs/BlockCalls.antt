@@ -3,7 +3,7 @@ use Rattle.std.proofs.Common.{◌≡◌, ℕ, suc, List, length, Option, Some, N
 use Rattle.std.specs.Prelude.{◌==◌}
 use Rattle.std.proofs.lemmas.Bool.{cond_both}
 use Rattle.std.proofs.lemmas.List.{length-map}
-use Rattle.script_grammar.specs.Tree.{CallTree, AwaitedTree, Called, TaskOf, NextOf, WaitTree, ValueTree, Computed, Waited, MakeTree, Spawned, Detached, ActionTree, Let, LetTask, Assign, Await, Makes, Adds, Cancel, Return, Throw, Check, Yield, HeadTree, If, While, Bind, Group, Assume, StmtTree, Do, Headed, IfElse, BlockTree, nothing, first_then}
+use Rattle.script_grammar.specs.Tree.{CallTree, AwaitedTree, Called, TaskOf, NextOf, WaitTree, ValueTree, Computed, Waited, MakeTree, Spawned, Detached, ActionTree, Let, LetTask, Assign, Await, Makes, Adds, HeadTree, If, While, Bind, Group, Assume, StmtTree, Do, Headed, IfElse, BlockTree, nothing, first_then}
 use Rattle.script_names.specs.declared.scope.NameKind.{NameKind}
 use Rattle.script_names.specs.declared.scope.NameKind.TheVariants as kind
 use Rattle.script_names.specs.Texts.{place_of}
@@ -60,11 +60,7 @@ action_fits p s at (Assign n v) e = value_fits p s (suc at) (place_named p s n) 
 action_fits p s at (Await w) e = wait_fits p s at None w e
 action_fits p s at (Makes m) e = (make_fits p s at None m e, tt)
 action_fits p s at (Adds a) e = (target_fits p s (suc at) a.call (earlier_none (at_name at (or_else (group_fault (meaning_of s a.group)) (bind_fault s a.group))) _ e).1, tt)
-action_fits p s at (Cancel n) e = (tt, tt)
-action_fits p s at (Return t) e = (tt, tt)
-action_fits p s at (Throw t) e = (tt, tt)
-action_fits p s at Check e = (tt, tt)
-action_fits p s at Yield e = (tt, tt)
+action_fits p s at _ e = (tt, tt)
 
 headed_fits : (d : DirectoryView) (p : PlanView) (s : ScopeView) (h : HeadTree) (inner : Code) → TargetsFit d inner → TargetsFit d (headed_code p s h inner)
 headed_fits d p s (If t) inner k = (tt, k, tt, tt)

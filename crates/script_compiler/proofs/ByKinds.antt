@@ -9,6 +9,9 @@ use Rattle.script_compiler.specs.Plan.{PlanView, plan_of, defaults_in, executors
 use Rattle.script_printing.specs.Script.{ScriptView, declarations_of, script_in}
 use Rattle.script_printing.proofs.ByKind.{script_again}
 use Rattle.script_compiler.specs.Compiled.{plan_in}
+use Rattle.script_compiler.specs.Checked.{IsChecked}
+use Rattle.script_compiler.specs.PlanInside.{executors_on, plan_from}
+use Rattle.script_compiler.proofs.LoweredInOrder.{same_executors}
 
 -- what a directory has beside actors
 record Named : Type 0 where
@@ -94,17 +97,12 @@ defaults_kinds (Binds l ∷ xs) = ap (λ ds. l.default ∷ ds) (defaults_kinds x
 defaults_kinds (Acts a ∷ xs) = defaults_kinds xs
 defaults_kinds (Roots r ∷ xs) = defaults_kinds xs
 
-names_kinds : (xs : List DeclTree) → executors_in xs ≡ map (λ x. x.name) (script_in xs).executors
+pub names_kinds : (xs : List DeclTree) → executors_in xs ≡ map (λ x. x.name) (script_in xs).executors
 names_kinds [] = refl
 names_kinds (Executes x ∷ xs) = ap (λ ns. x.name ∷ ns) (names_kinds xs)
 names_kinds (Binds l ∷ xs) = names_kinds xs
 names_kinds (Acts a ∷ xs) = names_kinds xs
 names_kinds (Roots r ∷ xs) = names_kinds xs
-
--- the executor of each actor, by the actors alone
-abbrev executors_on : List (List ℕ) → ℕ → List ActorTree → List ℕ
-executors_on declared own [] = []
-executors_on declared own (a ∷ others) = on_executor declared own a.executor (λ next. executors_on declared next others)
 
 on_same : (declared : List (List ℕ)) (own : ℕ) (on : Option (List ℕ)) (f g : ℕ → List ℕ) → ((n : ℕ) → f n ≡ g n) → on_executor declared own on f ≡ on_executor declared own on g
 on_same declared own None f g h = ap (λ ns. own ∷ ns) (h (own + 1))
@@ -131,3 +129,16 @@ plan_kinds xs =
 -- declarations of different kinds commute
 pub same_plan : (xs : List DeclTree) → plan_of xs ≡ plan_in (script_in xs)
 same_plan xs = plan_kinds xs ∙ ap plan_by (sym (script_again (script_in xs))) ∙ sym (plan_kinds (declarations_of (script_in xs)))
+
+-- the plan that is made of declarations by kinds
+pub plan_made : (s : ScriptView) (d : DirectoryView) → IsChecked s d → plan_from d s.locals s.actors ≡ plan_in s
+plan_made s d c =
+    let xs = c.decls in
+    let t = script_in xs in
+    let from : DirectoryView → List (List ℕ) → PlanView = λ x names. record { directory = x; defaults = map (λ l. l.default) t.locals; executors = executors_on names (length names) t.actors } in
+    ap (λ (u : ScriptView). plan_from d u.locals u.actors) c.is
+    ∙ ap (from d) (same_executors d xs c.declared c.names ∙ names_kinds xs)
+    ∙ ap (λ (x : DirectoryView). from x (map (λ e. e.name) t.executors)) (c.declared ∙ directory_kinds xs)
+    ∙ sym (plan_kinds xs)
+    ∙ same_plan xs
+    ∙ ap plan_in (sym c.is)

@@ -6,8 +6,8 @@ pub mod WaitsSame
 pub mod ExecutorsMade
 pub mod ByKinds
 pub mod RootsMade
+pub mod CallsMade
 pub mod InOrder
-pub mod CallsNamed
 pub mod CallsThere
 pub mod MethodsFit
 pub mod Small
@@ -28,7 +28,7 @@ pub mod Parameters
 pub mod BlockCalls
 pub mod Agreed
 pub mod BlockHandles
-pub mod Known
+pub mod New
 pub mod WholeScripts
 pub mod LoweredInOrder
 pub mod Room

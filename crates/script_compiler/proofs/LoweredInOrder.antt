@@ -1,15 +1,13 @@
--- Where the names of a script are in order, few executors and actors are declared, and each executor that is named is.
-use Rattle.std.proofs.Common.{◌≡◌, ◌<◌, ◌≤◌, ◌+◌, ℕ, suc, Bool, true, false, ◌&&◌, nat_le, if◌then◌else◌, List, [], ◌∷◌, length, Option, Some, None, ap, refl, ◌∙◌, arith}
+-- Where the names of a script are in order, few executors and actors are declared.
+use Rattle.std.proofs.Common.{◌≡◌, ◌<◌, ◌≤◌, ◌+◌, ℕ, suc, Bool, true, false, nat_le, List, [], ◌∷◌, length, None, ap, refl, ◌∙◌, arith}
 use Rattle.std.proofs.lemmas.Bool.{leb-false}
 use Rattle.swift_types.specs.declared.limits.TheConstants.{ACTORS, EXECUTORS}
 use Rattle.script_grammar.specs.Tree.{DeclTree, Executes, Binds, Acts, Roots}
 use Rattle.script_names.specs.declared.error.NameErrorKind.{NameErrorKind}
-use Rattle.script_names.specs.declared.error.NameErrorKind.TheVariants.{Unknown, TooMany}
-use Rattle.script_names.specs.Texts.{is_among}
+use Rattle.script_names.specs.declared.error.NameErrorKind.TheVariants.{TooMany}
 use Rattle.script_names.specs.Directory.{DirectoryView, directory_of, executors_in, actors_in}
-use Rattle.script_names.specs.Rules.{SeenView, at_name, where_so, kind_error, repeat_error, on_error, executor_error, actor_error, decl_error, past_decl, seen_after, declarations_error, names_error}
+use Rattle.script_names.specs.Rules.{SeenView, at_name, where_so, repeat_error, executor_error, actor_error, decl_error, past_decl, seen_after, declarations_error, names_error}
 use Rattle.script_names.proofs.LeftOut.{nothing_left_out}
-use Rattle.script_compiler.specs.PlanInside.{has_executor, have_executors}
 use Rattle.script_compiler.proofs.Clear.{earlier_none, at_name_none}
 
 not_so : (b : Bool) (k : NameErrorKind) → where_so b k ≡ None → b ≡ false
@@ -46,38 +44,11 @@ few_actors d seen at (Acts a ∷ xs) e few =
     omega (arith, rest)
 few_actors d seen at (Roots r ∷ xs) e few = few_actors d (seen_after seen (Roots r)) (past_decl (Roots r) at) xs (earlier_none (decl_error d seen at (Roots r)) _ e).1 few
 
-is_declared : (b : Bool) → (if b then None else Some Unknown) ≡ None → b ≡ true
-is_declared true e = refl
-is_declared false e = absurd (cc)
-
-has : (d : DirectoryView) (at : ℕ) (on : Option (List ℕ)) → on_error d at on ≡ None → has_executor d.executors on ≡ true
-has d at None e = refl
-has d at (Some n) e = is_declared (is_among d.executors n) (at_name_none at _ e)
-
-both : (b c : Bool) → b ≡ true → c ≡ true → (b && c) ≡ true
-both true c one two = two
-both false c one two = absurd (cc)
-
-have : (d : DirectoryView) (seen : SeenView) (at : ℕ) (xs : List DeclTree) → declarations_error d seen at xs ≡ None → have_executors d.executors xs ≡ true
-have d seen at [] e = refl
-have d seen at (Executes x ∷ xs) e = have d (seen_after seen (Executes x)) (past_decl (Executes x) at) xs (earlier_none (decl_error d seen at (Executes x)) _ e).1
-have d seen at (Binds l ∷ xs) e = have d (seen_after seen (Binds l)) (past_decl (Binds l) at) xs (earlier_none (decl_error d seen at (Binds l)) _ e).1
-have d seen at (Acts a ∷ xs) e =
-    let parts = earlier_none (actor_error d seen at a) _ e in
-    let named = earlier_none (repeat_error seen.places at a.name) _ parts.0 in
-    let few = earlier_none (at_name at (where_so (nat_le ACTORS seen.actors) TooMany)) _ named.1 in
-    let placed = earlier_none (on_error d (suc at) a.executor) _ few.1 in
-    both _ _ (has d (suc at) a.executor placed.0) (have d (seen_after seen (Acts a)) (past_decl (Acts a) at) xs parts.1)
-have d seen at (Roots r ∷ xs) e = have d (seen_after seen (Roots r)) (past_decl (Roots r) at) xs (earlier_none (decl_error d seen at (Roots r)) _ e).1
-
 pub executors_are_few : (d : DirectoryView) (xs : List DeclTree) → declarations_error d (record { places = []; locals = []; roots = []; executors = 0; actors = 0 }) 0 xs ≡ None → length (executors_in xs) ≤ EXECUTORS
 executors_are_few d xs e = let few = few_executors d (record { places = []; locals = []; roots = []; executors = 0; actors = 0 }) 0 xs e (omega arith) in omega (arith, few)
 
 pub actors_are_few : (d : DirectoryView) (xs : List DeclTree) → declarations_error d (record { places = []; locals = []; roots = []; executors = 0; actors = 0 }) 0 xs ≡ None → length (actors_in xs) ≤ ACTORS
 actors_are_few d xs e = let few = few_actors d (record { places = []; locals = []; roots = []; executors = 0; actors = 0 }) 0 xs e (omega arith) in omega (arith, few)
-
-pub each_has_its_executor : (d : DirectoryView) (xs : List DeclTree) → declarations_error d (record { places = []; locals = []; roots = []; executors = 0; actors = 0 }) 0 xs ≡ None → have_executors d.executors xs ≡ true
-each_has_its_executor d xs e = have d (record { places = []; locals = []; roots = []; executors = 0; actors = 0 }) 0 xs e
 
 -- no executor is left out, and none stands twice
 pub same_executors : (d : DirectoryView) (xs : List DeclTree) → d ≡ directory_of xs → names_error xs ≡ None → d.executors ≡ executors_in xs

@@ -5,7 +5,7 @@ use Rattle.std.proofs.lemmas.List.{length-map}
 use Rattle.std.proofs.lemmas.List.Sums.{sum_by-cons}
 use Rattle.swift_types.specs.declared.limits.TheConstants.{BYTES}
 use Rattle.script_grammar.specs.declared.statement.Stmt.{Stmt}
-use Rattle.script_grammar.specs.Tree.{Computed, Waited, ActionTree, Let, LetTask, Assign, Await, Makes, Adds, Cancel, Return, Throw, Check, Yield, HeadTree, If, While, Bind, Group, Assume, StmtTree, Do, Headed, IfElse, BlockTree, nothing, first_then, block_tree, view_stmt, MethodTree, DeclTree, Executes, Binds, Acts, Roots}
+use Rattle.script_grammar.specs.Tree.{Computed, Waited, ActionTree, Let, LetTask, Assign, HeadTree, If, While, Bind, Group, Assume, StmtTree, Do, Headed, IfElse, BlockTree, nothing, first_then, block_tree, view_stmt, MethodTree, DeclTree, Executes, Binds, Acts, Roots}
 use Rattle.script_grammar.specs.Size.{stmt_size, block_size, methods_size, script_size}
 use Rattle.script_names.specs.declared.scope.NameKind.{NameKind}
 use Rattle.script_names.specs.declared.scope.NameKind.TheVariants as kind
@@ -100,17 +100,7 @@ one_stands ks k = omega (arith, length-append ks (k ∷ []))
 after_stands : (s : ScopeView) (x : StmtTree) → length (scope_after s x).kinds ≤ length s.kinds + stmt_size x
 after_stands s (Do (Let n v)) = omega (arith, one_stands s.kinds kind.Number)
 after_stands s (Do (LetTask n m)) = omega (arith, one_stands s.kinds kind.Task)
-after_stands s (Do (Assign n v)) = omega arith
-after_stands s (Do (Await w)) = omega arith
-after_stands s (Do (Makes m)) = omega arith
-after_stands s (Do (Adds a)) = omega arith
-after_stands s (Do (Cancel n)) = omega arith
-after_stands s (Do (Return e)) = omega arith
-after_stands s (Do (Throw e)) = omega arith
-after_stands s (Do Check) = omega arith
-after_stands s (Do Yield) = omega arith
-after_stands s (Headed h b) = omega arith
-after_stands s (IfElse t a b) = omega arith
+after_stands s _ = omega arith
 
 -- a statement is not empty
 pub not_empty : (x : StmtTree) → 1 ≤ stmt_size x
@@ -135,17 +125,9 @@ stands_through s (x ∷ xs) (suc i) = omega (arith, stands_through (scope_after 
 action_takes : (p : PlanView) (s : ScopeView) (a : ActionTree) → count (action_code p s a) ≤ 2
 action_takes p s (Let n (Computed e)) = omega arith
 action_takes p s (Let n (Waited w)) = omega arith
-action_takes p s (LetTask n m) = omega arith
 action_takes p s (Assign n (Computed e)) = omega arith
 action_takes p s (Assign n (Waited w)) = omega arith
-action_takes p s (Await w) = omega arith
-action_takes p s (Makes m) = omega arith
-action_takes p s (Adds a) = omega arith
-action_takes p s (Cancel n) = omega arith
-action_takes p s (Return e) = omega arith
-action_takes p s (Throw e) = omega arith
-action_takes p s Check = omega arith
-action_takes p s Yield = omega arith
+action_takes p s _ = omega arith
 
 assumed_takes : (b : Bool) (inner : Code) → count (if b then act assume inner else act isolated end) ≤ 2 + count inner
 assumed_takes true inner = omega arith

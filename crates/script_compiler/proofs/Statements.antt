@@ -18,12 +18,11 @@ use Rattle.script_code.specs.declared.instruction.Act.{Act}
 use Rattle.script_code.specs.declared.instruction.Instruction.{Instruction}
 use Rattle.script_names.specs.declared.scope.NameKind.TheVariants as kind
 use Rattle.script_names.specs.declared.scope.Outside.{Outside}
-use Rattle.script_names.specs.Directory.{DirectoryView}
 use Rattle.script_names.specs.Scope.{ScopeView}
 use Rattle.script_names.specs.Rules.{scope_within}
 use Rattle.script_compiler.specs.Plan.{PlanView}
 use Rattle.script_compiler.specs.Lowered.{lowered, headed_code, stmt_code, block_code}
-use Rattle.script_compiler.specs.Known.{expression_known, stmt_known, block_known}
+use Rattle.script_compiler.specs.New.{stmt_new, block_new}
 use Rattle.script_compiler.specs.StandingInside.{outside_of, left}
 use Rattle.script_compiler.specs.HeadsInside.{is_isolated, is_loop}
 use Rattle.script_compiler.proofs.Lines.{IsWritten, choice_lines, choice_start, loop_lines, loop_start}
@@ -46,14 +45,12 @@ else_size x e a b held failed is same same' =
     ∙ ap (λ (ss : List Stmt). suc (block_size (block_tree (map view_stmt ss)) + block_size (block_tree (map view_stmt b.items)))) (sym same)
     ∙ ap (λ (ss : List Stmt). suc (block_size (block_tree (map view_stmt held)) + block_size (block_tree (map view_stmt ss)))) (sym same')
 
--- all that the first block of a test names is known
-pub held_known : (d : DirectoryView) (s : ScopeView) (x : Stmt) (e : Expr) (a b : Vec Stmt) (held : List Stmt) → x ≡ IfElse e a b → held ≡ a.items
-    → stmt_known d s (view_stmt x) ≡ true → block_known d s (block_tree (map view_stmt held)) ≡ true
-held_known d s x e a b held is same known =
-    let whole = sym (ap (stmt_known d s) (ap view_stmt is ∙ view-IfElse e a b)) ∙ known in
-    let blocks = (and_parts (expression_known d (view e)) (block_known d s (block_tree (map view_stmt a.items)) && block_known d s (block_tree (map view_stmt b.items))) whole).1 in
-    ap (λ (ss : List Stmt). block_known d s (block_tree (map view_stmt ss))) same
-    ∙ (and_parts (block_known d s (block_tree (map view_stmt a.items))) (block_known d s (block_tree (map view_stmt b.items))) blocks).0
+-- all that the first block of a test makes is new
+pub held_new : (s : ScopeView) (x : Stmt) (e : Expr) (a b : Vec Stmt) (held : List Stmt) → x ≡ IfElse e a b → held ≡ a.items
+    → stmt_new s (view_stmt x) ≡ true → block_new s (block_tree (map view_stmt held)) ≡ true
+held_new s x e a b held is same new =
+    ap (λ (ss : List Stmt). block_new s (block_tree (map view_stmt ss))) same
+    ∙ (and_parts (block_new s (block_tree (map view_stmt a.items))) (block_new s (block_tree (map view_stmt b.items))) (sym (ap (stmt_new s) (ap view_stmt is ∙ view-IfElse e a b)) ∙ new)).0
 
 -- the code of a block
 abbrev pub code_in : PlanView → ScopeView → List Stmt → Code

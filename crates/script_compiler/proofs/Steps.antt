@@ -5,15 +5,14 @@ use Rattle.std.specs.List.{AllZip}
 use Rattle.std.proofs.lemmas.List.{map_push, take_more}
 use Rattle.std.proofs.lemmas.Bool.{eqb-true, eq-eqb}
 use Rattle.swift_types.specs.declared.id.ActorId.{ActorId}
-use Rattle.script_grammar.specs.Tree.{MethodTree, DeclTree, Executes, Binds, Acts, Roots, view_method, view_decl}
+use Rattle.script_grammar.specs.Tree.{MethodTree, view_method, view_actor}
 use Rattle.script_grammar.specs.declared.declaration.Method.{Method}
-use Rattle.script_grammar.specs.declared.declaration.Decl.{Decl}
+use Rattle.script_grammar.specs.declared.declaration.Actor.{Actor}
 use Rattle.script_compiler.specs.Plan.{PlanView, executor_at}
-use Rattle.script_printing.specs.Script.{script_in}
 use Rattle.script_compiler.specs.declared.compiled.CompiledMethod.{CompiledMethod}
 use Rattle.script_compiler.specs.Compiled.{MethodView, method_of, methods_from}
 use Rattle.script_compiler.specs.IsCompiled.{actor_number, IsMethod}
-use Rattle.script_compiler.specs.MembersInside.{members_below, methods_here, number_after}
+use Rattle.script_compiler.specs.MembersInside.{members_below}
 
 -- the first of what is left
 pub front : {A : Type 0} (xs : List A) (i : ℕ) (x : A) → i < length xs → x ≡ get_or xs i x → drop i xs ≡ x ∷ drop (i + 1) xs
@@ -86,35 +85,28 @@ method_more f ms i m all more x done lt is pushed made before =
     (subst (λ (ys : List CompiledMethod). AllZip IsMethod ys ((done ++ so_far) ++ f (view_method m) ∷ [])) (sym pushed)
     (zip_push IsMethod all (done ++ so_far) x (f (view_method m)) before made))
 
--- the methods of one declaration more
-next_methods : (p : PlanView) (k : ℕ) (d : DeclTree) (ds : List DeclTree) → methods_from p k (script_in (d ∷ ds)).actors ≡ methods_here p k d ++ methods_from p (number_after k d) (script_in ds).actors
-next_methods p k (Executes x) ds = refl
-next_methods p k (Binds l) ds = refl
-next_methods p k (Acts a) ds = ap (λ n. map (method_of p k) a.methods ++ methods_from p n (script_in ds).actors) (sym (add-one k))
-next_methods p k (Roots r) ds = refl
-
 -- So much is done: what is compiled, and with what is left it is the whole.
-pub record AreDone (p : PlanView) (k : ℕ) (all : List CompiledMethod) (left : List Decl) (whole : List MethodView) : Type 0 where
+pub record AreDone (p : PlanView) (k : ℕ) (all : List CompiledMethod) (left : List Actor) (whole : List MethodView) : Type 0 where
   pub views : List MethodView
   pub compiled : AllZip IsMethod all views
-  pub with_left : views ++ methods_from p k (script_in (map view_decl left)).actors ≡ whole
+  pub with_left : views ++ methods_from p k (map view_actor left) ≡ whole
 
-pub decl_more : (p : PlanView) (decls : List Decl) (i : ℕ) (d : Decl) (k next : ℕ) (all more : List CompiledMethod) (whole : List MethodView)
-    → i < length decls → d ≡ get_or decls i d
-    → ((done : List MethodView) → AllZip IsMethod all done → AllZip IsMethod more (done ++ methods_here p k (view_decl d)))
-    → next ≡ number_after k (view_decl d)
-    → AreDone p k all (drop i decls) whole → AreDone p next more (drop (i + 1) decls) whole
-decl_more p decls i d k next all more whole lt is made number before =
-    let left = drop (i + 1) decls in
-    let here = methods_here p k (view_decl d) in
-    let rest : ℕ → List MethodView = λ n. methods_from p n (script_in (map view_decl left)).actors in
+-- the methods of one actor more
+pub actor_more : (p : PlanView) (actors : List Actor) (i : ℕ) (a : Actor) (ms : List Method) (all more : List CompiledMethod) (whole : List MethodView)
+    → i < length actors → a ≡ get_or actors i a → ms ≡ a.methods.items
+    → ((done : List MethodView) → AllZip IsMethod all done → AllZip IsMethod more (done ++ map (method_of p i) (map view_method ms)))
+    → AreDone p i all (drop i actors) whole → AreDone p (i + 1) more (drop (i + 1) actors) whole
+actor_more p actors i a ms all more whole lt is same made before =
+    let left = drop (i + 1) actors in
+    let here = map (method_of p i) (map view_method ms) in
+    let rest : ℕ → List MethodView = λ n. methods_from p n (map view_actor left) in
     record {
       views = before.views ++ here;
       compiled = made before.views before.compiled;
       with_left =
-          ap (λ n. (before.views ++ here) ++ rest n) number
-          ∙ append_assoc before.views here (rest (number_after k (view_decl d)))
-          ∙ ap (λ vs. before.views ++ vs) (sym (next_methods p k (view_decl d) (map view_decl left)))
-          ∙ ap (λ (ds : List Decl). before.views ++ methods_from p k (script_in (map view_decl ds)).actors) (sym (front decls i d lt is))
+          ap (λ n. (before.views ++ here) ++ rest n) (add-one i)
+          ∙ append_assoc before.views here (rest (suc i))
+          ∙ ap (λ (xs : List Method). before.views ++ (map (method_of p i) (map view_method xs) ++ rest (suc i))) same
+          ∙ ap (λ (xs : List Actor). before.views ++ methods_from p i (map view_actor xs)) (sym (front actors i a lt is))
           ∙ before.with_left;
     }

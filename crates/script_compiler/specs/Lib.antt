@@ -1,9 +1,9 @@
 pub mod Compiled
+pub mod Checked
 pub mod Starts
 pub mod IsCompiled
 pub mod MembersInside
 pub mod NamesInside
-pub mod RootsInside
 pub mod RowsInside
 pub mod Waiting
 pub mod Calls
@@ -12,7 +12,7 @@ pub mod ActsInside
 pub mod Plan
 pub mod PlanInside
 pub mod Lowered
-pub mod Known
+pub mod New
 pub mod Counts
 pub mod StandingInside
 pub mod HeadsInside

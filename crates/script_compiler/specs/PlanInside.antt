@@ -1,25 +1,22 @@
 -- What is known of a plan while it is made and kept. No public clause names these words.
-use Rattle.std.specs.Prelude.{ℕ, ◌≤◌, Bool, true, ◌&&◌, Option, Some, None, List, [], ◌∷◌, length}
+use Rattle.std.specs.Prelude.{ℕ, ◌≤◌, List, [], ◌∷◌, length, map}
 use Rattle.swift_types.specs.declared.limits.TheConstants.{ACTORS}
-use Rattle.script_grammar.specs.Tree.{DeclTree, Acts}
-use Rattle.script_names.specs.Texts.{is_among}
+use Rattle.script_grammar.specs.Tree.{LocalTree, ActorTree}
 use Rattle.script_names.specs.Directory.{DirectoryView}
 use Rattle.script_compiler.specs.Few.{HasFewNames}
-use Rattle.script_compiler.specs.Plan.{AreActorPlaces}
-
--- an actor that names an executor names one of these
-abbrev pub has_executor : List (List ℕ) → Option (List ℕ) → Bool
-has_executor executors None = true
-has_executor executors (Some name) = is_among executors name
-
--- so does each actor of a script
-abbrev pub have_executors : List (List ℕ) → List DeclTree → Bool
-have_executors executors [] = true
-have_executors executors (Acts a ∷ xs) = has_executor executors a.executor && have_executors executors xs
-have_executors executors (_ ∷ xs) = have_executors executors xs
+use Rattle.script_compiler.specs.Plan.{PlanView, on_executor, AreActorPlaces}
 
 -- A script declares few names, its actors are as few as it may have, and each has its place among those of its executor.
 pub record IsSmallPlan (d : DirectoryView) (executors places : List ℕ) : Type 0 where
   pub names : HasFewNames d
   pub are : AreActorPlaces executors places
   pub few : length executors ≤ ACTORS
+
+-- the executor of each actor, by the actors alone
+abbrev pub executors_on : List (List ℕ) → ℕ → List ActorTree → List ℕ
+executors_on declared own [] = []
+executors_on declared own (a ∷ others) = on_executor declared own a.executor (λ next. executors_on declared next others)
+
+-- the plan of a script that declares this, by its task locals and actors
+abbrev pub plan_from : DirectoryView → List LocalTree → List ActorTree → PlanView
+plan_from d locals actors = record { directory = d; defaults = map (λ l. l.default) locals; executors = executors_on d.executors (length d.executors) actors }

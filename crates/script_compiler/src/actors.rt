@@ -1,20 +1,17 @@
 //! Actors.
 
-ghost use Rattle.std.specs.Prelude.{◌≡◌, true, map, IfOk};
-ghost use Rattle.script_grammar.specs.Tree.{view_field, view_actor, view_decl, view_if};
+ghost use Rattle.std.specs.Prelude.{◌≡◌, map, IfOk};
+ghost use Rattle.script_grammar.specs.Tree.{view_field, view_actor, view_if};
 ghost use Rattle.script_names.specs.Scope.{fields_alone};
 ghost use Rattle.script_code.specs.Tree.{term_if};
 ghost use Rattle.script_compiler.specs.Lowered.{lowered_if};
-ghost use Rattle.script_compiler.specs.Known.{optional_known};
-ghost use Rattle.script_printing.specs.Script.{script_in};
 ghost use Rattle.script_compiler.specs.Compiled.{actor_of, actors_from};
 ghost use Rattle.script_compiler.specs.IsCompiled.{field_view, actor_view};
-ghost use Rattle.script_compiler.specs.NamesInside.{invariants_known};
 
 use crate::compiled::{CompiledActor, CompiledField};
 use crate::lowering::{Plan, formula};
 use script_code::Formula;
-use script_grammar::{Actor, Decl, Expr, Field};
+use script_grammar::{Actor, Expr, Field};
 use std::alloc::{AllocError, Global};
 use swift_types::ExecId;
 
@@ -45,7 +42,6 @@ fn invariant(
     actor: usize,
     invariant: &Option<Expr>,
 ) -> Result<Option<Formula>, AllocError>
-    requires { optional_known plan.now.directory (view_if invariant.now) ≡ true }
     ensures { IfOk result (λ f. term_if f ≡ lowered_if plan.now (fields_alone plan.now.directory actor) (view_if invariant.now)) }
 {
     match invariant {
@@ -60,7 +56,6 @@ fn compile_actor(
     place: usize,
     actor: &Actor,
 ) -> Result<CompiledActor, AllocError>
-    requires { optional_known plan.now.directory (view_actor actor.now).invariant ≡ true }
     ensures { IfOk result (λ a. actor_view a ≡ actor_of plan.now place (view_actor actor.now)) }
 {
     let name = Vec::from_slice(alloc, &actor.name.text)?;
@@ -74,24 +69,18 @@ fn compile_actor(
     })
 }
 
-/// The actors of a script, in time and memory linear in the declarations and in the fields and invariants.
+/// The actors of a script, in time and memory linear in the fields and invariants.
 pub(crate) fn compile_actors(
     alloc: Global,
     plan: &Plan,
-    decls: &[Decl],
+    actors: &[Actor],
 ) -> Result<Vec<CompiledActor>, AllocError>
-    requires { invariants_known plan.now.directory (map view_decl decls.now) ≡ true }
-    ensures { IfOk result (λ v. map actor_view v.items ≡ actors_from plan.now 0 (script_in (map view_decl decls.now)).actors) }
+    ensures { IfOk result (λ v. map actor_view v.items ≡ actors_from plan.now 0 (map view_actor actors.now)) }
 {
-    let mut actors = Vec::new(alloc);
-    for decl in decls {
-        match decl {
-            Decl::Actor(actor) => {
-                let place = actors.len();
-                actors.push(compile_actor(alloc, plan, place, actor)?)?;
-            }
-            Decl::Executor(_) | Decl::Local(_) | Decl::Root(_) => {}
-        }
+    let mut compiled = Vec::new(alloc);
+    for actor in actors {
+        let place = compiled.len();
+        compiled.push(compile_actor(alloc, plan, place, actor)?)?;
     }
-    Ok(actors)
+    Ok(compiled)
 }

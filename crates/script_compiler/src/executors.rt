@@ -2,10 +2,9 @@
 
 ghost use Rattle.std.specs.Prelude.{◌≡◌, ◌≤◌, ◌++◌, ◌∷◌, [], All, length, map, slice_get, IfOk, OnOk};
 ghost use Rattle.swift_types.specs.declared.limits.TheConstants.{ACTORS};
-ghost use Rattle.script_grammar.specs.Tree.{view_decl};
+ghost use Rattle.script_grammar.specs.Tree.{view_executor, view_actor};
 ghost use Rattle.script_code.specs.Seen.{term_if_lent};
 ghost use Rattle.script_code.specs.Tree.{terms_of};
-ghost use Rattle.script_printing.specs.Script.{script_in};
 ghost use Rattle.script_compiler.specs.Compiled.{own_executors, invariant_if, term_list, invariants_among};
 ghost use Rattle.script_compiler.specs.IsCompiled.{actor_number, actor_view, executor_view, HasInvariants};
 ghost use Rattle.script_compiler.specs.MembersInside.{members_below, executors_by};
@@ -14,7 +13,7 @@ use crate::compiled::{CompiledActor, CompiledExecutor};
 use crate::copy::copy_formula;
 use crate::lowering::Plan;
 use script_code::Formula;
-use script_grammar::Decl;
+use script_grammar::{Actor, Executor};
 use std::alloc::{AllocError, Global};
 use swift_types::{ActorId, ExecutorKind};
 
@@ -123,27 +122,22 @@ fn compile_declared(
     alloc: Global,
     plan: &Plan,
     actors: &[CompiledActor],
-    decls: &[Decl],
+    executors: &[Executor],
 ) -> Result<Vec<CompiledExecutor>, AllocError>
     requires { length actors.now ≤ ACTORS }
-    ensures view { IfOk result (λ v. map executor_view v.items ≡ executors_by plan.now (length actors.now) 0 (script_in (map view_decl decls.now)).executors) }
+    ensures view { IfOk result (λ v. map executor_view v.items ≡ executors_by plan.now (length actors.now) 0 (map view_executor executors.now)) }
     ensures invariants { IfOk result (λ v. All (HasInvariants (map actor_view actors.now)) v.items) }
 {
     let mut all = Vec::new(alloc);
-    for decl in decls {
-        match decl {
-            Decl::Executor(executor) => {
-                add(
-                    alloc,
-                    plan,
-                    actors,
-                    &executor.name.text,
-                    executor.kind,
-                    &mut all,
-                )?
-            }
-            Decl::Local(_) | Decl::Actor(_) | Decl::Root(_) => {}
-        }
+    for executor in executors {
+        add(
+            alloc,
+            plan,
+            actors,
+            &executor.name.text,
+            executor.kind,
+            &mut all,
+        )?;
     }
     Ok(all)
 }
@@ -153,26 +147,24 @@ fn add_own(
     alloc: Global,
     plan: &Plan,
     actors: &[CompiledActor],
-    decls: &[Decl],
+    declared: &[Actor],
     all: &mut Vec<CompiledExecutor>,
 ) -> Result<(), AllocError>
     requires actors { length actors.now ≤ ACTORS }
     requires invariants { All (HasInvariants (map actor_view actors.now)) all.old.items }
-    ensures view { OnOk result (map executor_view all.new.items ≡ map executor_view all.old.items ++ executors_by plan.now (length actors.now) (length all.old.items) (own_executors (script_in (map view_decl decls.now)).actors)) }
+    ensures view { OnOk result (map executor_view all.new.items ≡ map executor_view all.old.items ++ executors_by plan.now (length actors.now) (length all.old.items) (own_executors (map view_actor declared.now))) }
     ensures invariants { OnOk result (All (HasInvariants (map actor_view actors.now)) all.new.items) }
 {
-    for decl in decls {
-        if let Decl::Actor(actor) = decl {
-            if actor.executor.is_none() {
-                add(
-                    alloc,
-                    plan,
-                    actors,
-                    &actor.name.text,
-                    ExecutorKind::Priority,
-                    all,
-                )?;
-            }
+    for actor in declared {
+        if actor.executor.is_none() {
+            add(
+                alloc,
+                plan,
+                actors,
+                &actor.name.text,
+                ExecutorKind::Priority,
+                all,
+            )?;
         }
     }
     Ok(())
@@ -184,14 +176,14 @@ pub(crate) fn compile_executors(
     alloc: Global,
     plan: &Plan,
     actors: &[CompiledActor],
-    decls: &[Decl],
+    executors: &[Executor],
+    declared: &[Actor],
 ) -> Result<Vec<CompiledExecutor>, AllocError>
     requires { length actors.now ≤ ACTORS }
-    ensures view { let script = script_in (map view_decl decls.now) in
-        IfOk result (λ v. map executor_view v.items ≡ executors_by plan.now (length actors.now) 0 (script.executors ++ own_executors script.actors)) }
+    ensures view { IfOk result (λ v. map executor_view v.items ≡ executors_by plan.now (length actors.now) 0 (map view_executor executors.now ++ own_executors (map view_actor declared.now))) }
     ensures invariants { IfOk result (λ v. All (HasInvariants (map actor_view actors.now)) v.items) }
 {
-    let mut all = compile_declared(alloc, plan, actors, decls)?;
-    add_own(alloc, plan, actors, decls, &mut all)?;
+    let mut all = compile_declared(alloc, plan, actors, executors)?;
+    add_own(alloc, plan, actors, declared, &mut all)?;
     Ok(all)
 }

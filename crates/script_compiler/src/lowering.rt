@@ -16,8 +16,6 @@ mod instruction;
 pub mod laws;
 // Whole methods, and invariants.
 mod method;
-// Numbers of names.
-mod number;
 // What lowering knows of a whole script.
 mod plan;
 // What stands at a place of a method.

@@ -3,17 +3,16 @@
 ghost use Rattle.std.specs.Prelude.{◌≡◌, true, ◌≤◌, ◌++◌, List, map, length, IfOk, OnOk};
 ghost use Rattle.std.specs.List.{AllZip};
 ghost use Rattle.swift_types.specs.declared.limits.TheConstants.{ACTORS, BYTES};
-ghost use Rattle.script_grammar.specs.Tree.{view_method, view_decl};
-ghost use Rattle.script_grammar.specs.Size.{method_size, methods_size, decl_size, script_size};
-ghost use Rattle.script_printing.specs.Script.{script_in};
+ghost use Rattle.script_grammar.specs.Tree.{view_method, view_actor};
+ghost use Rattle.script_grammar.specs.Size.{method_size, methods_size};
 ghost use Rattle.script_compiler.specs.Compiled.{MethodView, method_of, methods_from};
 ghost use Rattle.script_compiler.specs.IsCompiled.{IsMethod};
-ghost use Rattle.script_compiler.specs.MembersInside.{methods_here, number_after};
-ghost use Rattle.script_compiler.specs.NamesInside.{method_known, methods_known, declared_methods_known, all_methods_known};
+ghost use Rattle.script_compiler.specs.MembersInside.{actors_size};
+ghost use Rattle.script_compiler.specs.NamesInside.{method_new, methods_new, actors_new};
 
 use crate::compiled::CompiledMethod;
 use crate::lowering::{Plan, lower};
-use script_grammar::{Decl, Method};
+use script_grammar::{Actor, Method};
 use std::alloc::{AllocError, Global};
 use swift_types::ActorId;
 
@@ -23,7 +22,7 @@ fn compile_method(
     actor: ActorId,
     method: &Method,
 ) -> Result<CompiledMethod, AllocError>
-    requires known { method_known plan.now.directory actor.0 (view_method method.now) ≡ true }
+    requires new { method_new plan.now.directory actor.0 (view_method method.now) ≡ true }
     requires size { method_size (view_method method.now) ≤ BYTES }
     ensures { IfOk result (λ m. IsMethod m (method_of plan.now actor.0 (view_method method.now))) }
 {
@@ -48,7 +47,7 @@ fn add_methods(
     methods: &[Method],
     all: &mut Vec<CompiledMethod>,
 ) -> Result<(), AllocError>
-    requires known { methods_known plan.now.directory actor.0 (map view_method methods.now) ≡ true }
+    requires new { methods_new plan.now.directory actor.0 (map view_method methods.now) ≡ true }
     requires size { methods_size (map view_method methods.now) ≤ BYTES }
     ensures { OnOk result ((done : List MethodView) → AllZip IsMethod all.old.items done → AllZip IsMethod all.new.items (done ++ map (method_of plan.now actor.0) (map view_method methods.now))) }
 {
@@ -58,44 +57,21 @@ fn add_methods(
     Ok(())
 }
 
-// The methods of one declaration, where the next actor has this number, and the number of the actor after it.
-fn add_declared(
-    alloc: Global,
-    plan: &Plan,
-    actor: ActorId,
-    decl: &Decl,
-    all: &mut Vec<CompiledMethod>,
-) -> Result<ActorId, AllocError>
-    requires few { number_after actor.0 (view_decl decl.now) ≤ ACTORS }
-    requires known { declared_methods_known plan.now.directory actor.0 (view_decl decl.now) ≡ true }
-    requires size { decl_size (view_decl decl.now) ≤ BYTES }
-    ensures methods { OnOk result ((done : List MethodView) → AllZip IsMethod all.old.items done → AllZip IsMethod all.new.items (done ++ methods_here plan.now actor.0 (view_decl decl.now))) }
-    ensures number { IfOk result (λ next. next.0 ≡ number_after actor.0 (view_decl decl.now)) }
-{
-    match decl {
-        Decl::Actor(declared) => {
-            add_methods(alloc, plan, actor, &declared.methods, all)?;
-            Ok(ActorId(actor.0 + 1))
-        }
-        Decl::Executor(_) | Decl::Local(_) | Decl::Root(_) => Ok(actor),
-    }
-}
-
 /// The methods of a script, actor by actor, in time and memory linear in their statements.
 pub(crate) fn compile_methods(
     alloc: Global,
     plan: &Plan,
-    decls: &[Decl],
+    actors: &[Actor],
 ) -> Result<Vec<CompiledMethod>, AllocError>
-    requires few { length (script_in (map view_decl decls.now)).actors ≤ ACTORS }
-    requires known { all_methods_known plan.now.directory 0 (map view_decl decls.now) ≡ true }
-    requires size { script_size (map view_decl decls.now) ≤ BYTES }
-    ensures { IfOk result (λ v. AllZip IsMethod v.items (methods_from plan.now 0 (script_in (map view_decl decls.now)).actors)) }
+    requires few { length actors.now ≤ ACTORS }
+    requires new { actors_new plan.now.directory 0 (map view_actor actors.now) ≡ true }
+    requires size { actors_size (map view_actor actors.now) ≤ BYTES }
+    ensures { IfOk result (λ v. AllZip IsMethod v.items (methods_from plan.now 0 (map view_actor actors.now))) }
 {
     let mut methods = Vec::new(alloc);
-    let mut actor = ActorId(0);
-    for decl in decls {
-        actor = add_declared(alloc, plan, actor, decl, &mut methods)?;
+    for (place, actor) in actors.iter().enumerate() {
+        let number = ActorId(place as u32);
+        add_methods(alloc, plan, number, &actor.methods, &mut methods)?;
     }
     Ok(methods)
 }

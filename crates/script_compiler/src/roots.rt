@@ -1,18 +1,13 @@
 //! Roots and task locals.
 
-ghost use Rattle.std.specs.Prelude.{◌≡◌, ◌≤◌, true, length, map, IfOk};
-ghost use Rattle.swift_types.specs.declared.limits.TheConstants.{BYTES};
-ghost use Rattle.script_grammar.specs.Tree.{view_local, view_root, view_decl};
-ghost use Rattle.script_names.specs.Directory.{has_method, method_place};
-ghost use Rattle.script_printing.specs.Script.{script_in};
+ghost use Rattle.std.specs.Prelude.{◌≡◌, map, IfOk};
+ghost use Rattle.script_grammar.specs.Tree.{view_local, view_root};
 ghost use Rattle.script_compiler.specs.Compiled.{root_of};
 ghost use Rattle.script_compiler.specs.IsCompiled.{local_view, root_view};
-ghost use Rattle.script_compiler.specs.RootsInside.{has_root_method, have_root_methods};
 
 use crate::compiled::{CompiledLocal, CompiledRoot};
 use crate::lowering::Plan;
-use script_grammar::{Decl, Local, Root};
-use script_names::Declared;
+use script_grammar::{Local, Root};
 use std::alloc::{AllocError, Global};
 use swift_types::MethodId;
 
@@ -26,70 +21,47 @@ fn compile_local(alloc: Global, local: &Local) -> Result<CompiledLocal, AllocErr
     })
 }
 
-/// The task locals of a script, in time and memory linear in the declarations.
+/// The task locals of a script, in time and memory linear in them.
 pub(crate) fn compile_locals(
     alloc: Global,
-    decls: &[Decl],
+    locals: &[Local],
 ) -> Result<Vec<CompiledLocal>, AllocError>
-    ensures { IfOk result (λ v. map local_view v.items ≡ (script_in (map view_decl decls.now)).locals) }
+    ensures { IfOk result (λ v. map local_view v.items ≡ map view_local locals.now) }
 {
-    let mut locals = Vec::new(alloc);
-    for decl in decls {
-        match decl {
-            Decl::Local(local) => locals.push(compile_local(alloc, local)?)?,
-            Decl::Executor(_) | Decl::Actor(_) | Decl::Root(_) => {}
-        }
+    let mut compiled = Vec::new(alloc);
+    for local in locals {
+        compiled.push(compile_local(alloc, local)?)?;
     }
-    Ok(locals)
-}
-
-// The method that a root runs, which is declared.
-fn method_of(
-    alloc: Global,
-    declared: &Declared,
-    actor: &[u8],
-    method: &[u8],
-) -> Result<MethodId, AllocError>
-    requires has { has_method declared.now actor.now method.now ≡ true }
-    requires few { length declared.now.methods ≤ BYTES }
-    ensures { IfOk result (λ m. m.0 ≡ method_place declared.now actor.now method.now) }
-{
-    let Some(place) = declared.method(alloc, actor, method)? else {
-        unreachable!()
-    };
-    Ok(MethodId(place as u32))
+    Ok(compiled)
 }
 
 fn compile_root(alloc: Global, plan: &Plan, root: &Root) -> Result<CompiledRoot, AllocError>
-    requires { has_root_method plan.now.directory (view_root root.now) ≡ true }
     ensures { IfOk result (λ r. root_view r ≡ root_of plan.now (view_root root.now)) }
 {
-    let method = method_of(alloc, plan.declared(), &root.actor.text, &root.method.text)?;
+    let method = plan
+        .declared()
+        .method_or_len(alloc, &root.actor.text, &root.method.text)?;
     let name = Vec::from_slice(alloc, &root.name.text)?;
     let args = Vec::from_slice(alloc, &root.args)?;
     Ok(CompiledRoot {
         name,
-        method,
+        method: MethodId(method as u32),
         args,
         priority: root.priority,
     })
 }
 
-/// The roots of a script, in time and memory linear in the declarations.
+/// The roots of a script, in time and memory linear in them.
 pub(crate) fn compile_roots(
     alloc: Global,
     plan: &Plan,
-    decls: &[Decl],
+    roots: &[Root],
 ) -> Result<Vec<CompiledRoot>, AllocError>
-    requires { have_root_methods plan.now.directory (script_in (map view_decl decls.now)).roots ≡ true }
-    ensures { IfOk result (λ v. map root_view v.items ≡ map (root_of plan.now) (script_in (map view_decl decls.now)).roots) }
+    ensures { IfOk result (λ v. map root_view v.items ≡ map (root_of plan.now) (map view_root roots.now)) }
 {
-    let mut roots = Vec::new(alloc);
-    for decl in decls {
-        match decl {
-            Decl::Root(root) => roots.push(compile_root(alloc, plan, root)?)?,
-            Decl::Executor(_) | Decl::Local(_) | Decl::Actor(_) => {}
-        }
+    let mut compiled = Vec::new(alloc);
+    for root in roots {
+        compiled.push(compile_root(alloc, plan, root)?)?;
     }
-    Ok(roots)
+    Ok(compiled)
 }

@@ -85,6 +85,13 @@ impl Declared {
         self.seed
     }
 
+    /// How many executors there are.
+    pub fn executor_count(&self) -> usize
+        ensures { result ≡ length self.now.executors }
+    {
+        self.executors.len()
+    }
+
     /// The place of an executor among the executors.
     pub fn executor(&self, name: &[u8]) -> Option<usize>
         ensures found { is_some result ≡ is_among self.now.executors name.now }
@@ -119,6 +126,38 @@ impl Declared {
         ensures within { IfSome result (λ n. n < length self.now.actors) }
     {
         self.actors.place(name)
+    }
+
+    /// The place of an executor among the executors, or how many these are.
+    pub fn executor_or_len(&self, name: &[u8]) -> usize
+        ensures place { result ≡ place_of self.now.executors name.now }
+        ensures within { result ≤ length self.now.executors }
+    {
+        self.executors.place_or_len(name)
+    }
+
+    /// The place of a task local among the task locals, or how many these are.
+    pub fn local_or_len(&self, name: &[u8]) -> usize
+        ensures place { result ≡ place_of self.now.locals name.now }
+        ensures within { result ≤ length self.now.locals }
+    {
+        self.locals.place_or_len(name)
+    }
+
+    /// The place of a root among the roots, or how many these are.
+    pub fn root_or_len(&self, name: &[u8]) -> usize
+        ensures place { result ≡ place_of self.now.roots name.now }
+        ensures within { result ≤ length self.now.roots }
+    {
+        self.roots.place_or_len(name)
+    }
+
+    /// The place of an actor among the actors, or how many these are.
+    pub fn actor_or_len(&self, name: &[u8]) -> usize
+        ensures place { result ≡ place_of self.now.actors name.now }
+        ensures within { result ≤ length self.now.actors }
+    {
+        self.actors.place_or_len(name)
     }
 
     /// The fields of the actor at a place.
@@ -167,6 +206,20 @@ impl Declared {
             Some(place) => self.methods.place(alloc, place, method),
             None => Ok(None),
         }
+    }
+
+    /// The place of an actor's method, or how many methods there are. `Err` says that there was no memory.
+    pub fn method_or_len(
+        &self,
+        alloc: Global,
+        actor: &[u8],
+        method: &[u8],
+    ) -> Result<usize, AllocError>
+        ensures place { IfOk result (λ n. n ≡ method_place self.now actor.now method.now) }
+        ensures within { IfOk result (λ n. n ≤ length self.now.methods) }
+    {
+        let place = self.actors.place_or_len(actor);
+        self.methods.place_or_len(alloc, place, method)
     }
 
     /// How many parameters the method at a place has.

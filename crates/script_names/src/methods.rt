@@ -1,6 +1,6 @@
 //! The methods of all actors, each found by its actor's place and its own name.
 
-ghost use Rattle.std.specs.Prelude.{◌≡◌, ◌<◌, [], not, is_some, length, IfOk, IfSome, OnOk};
+ghost use Rattle.std.specs.Prelude.{◌≡◌, ◌<◌, ◌≤◌, [], not, is_some, length, IfOk, IfSome, OnOk};
 ghost use Rattle.script_names.specs.Texts.{is_among, place_of, with_name};
 ghost use Rattle.script_names.specs.Methods.{method_key, key_is};
 
@@ -62,6 +62,20 @@ impl Methods {
     {
         let key = MethodKey::new(alloc, actor, name)?;
         Ok(self.set.get_index_of(&key))
+    }
+
+    /// The place of a method, or how many methods there are.
+    pub(crate) fn place_or_len(
+        &self,
+        alloc: Global,
+        actor: usize,
+        name: &[u8],
+    ) -> Result<usize, AllocError>
+        ensures place { IfOk result (λ n. n ≡ place_of self.now (method_key actor name.now)) }
+        ensures within { IfOk result (λ n. n ≤ length self.now) }
+    {
+        let found = self.place(alloc, actor, name)?;
+        Ok(found.unwrap_or(self.set.len()))
     }
 
     /// Puts a method after the others, and says whether it is new: one that is there stays where it is.

@@ -71,7 +71,8 @@ impl Names {
 
     /// The place of a name, or how many names there are.
     pub(crate) fn place_or_len(&self, name: &[u8]) -> usize
-        ensures { result ≡ place_of self.now name.now }
+        ensures place { result ≡ place_of self.now name.now }
+        ensures within { result ≤ length self.now }
     {
         self.place(name).unwrap_or(self.len())
     }

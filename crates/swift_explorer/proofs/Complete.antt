@@ -18,7 +18,7 @@ use Rattle.swift_digest.specs.Futures.{AreLike}
 use Rattle.swift_history.specs.Orderly.{IsOrderly, IsOrderlyLegal}
 use Rattle.swift_digest.proofs.Outcomes.{Made, NoneFolded, made, outcome_too}
 use Rattle.swift_digest.proofs.SameStands.{all_push}
-use Rattle.swift_reordering.specs.Away.{job_looks_away}
+use Rattle.swift_reordering.specs.Away.{turn_looks_away}
 use Rattle.swift_reordering.specs.FusedSteps.{HasRoom, MayStep}
 use Rattle.swift_reordering.specs.RunAhead.{OneTurn, after_turns, AllRunSilently, LeadAsOne}
 use Rattle.swift_reordering.proofs.AheadWalk.{HasAhead, HasAll, StepsAhead, all_done, first_one, go_run, has_all}
@@ -214,7 +214,7 @@ module _ (script : ScriptView) (x : Search) (hold : StartsHold script) (first : 
   stepped h (added r ∷ []) k may = one_block h (added r) k (record { unfolded = tt; stands = may.stands.0; orderly = may.orderly.0 }) (λ path turn. turn.does)
   stepped h (ran e r ∷ []) k may = run_block h e r k may
   stepped h (begun t n env ∷ []) k may = one_block h (begun t n env) k (record { unfolded = tt; stands = may.stands.0; orderly = may.orderly.0 })
-      (λ path turn. false≢true (sym may.fused ∙ ap (λ (u : ℕ). job_looks_away script ((standing script h).jobs u)) turn.does ∙ turn.away))
+      (λ path turn. false≢true (sym may.fused ∙ ap (turn_looks_away script (standing script h)) turn.does ∙ turn.away))
   stepped h (begun t n env ∷ ran e r ∷ []) k may =
       let b = begun t n env in
       let may_begin : MayFollow script h b = record { unfolded = tt; stands = may.stands.0; orderly = may.orderly.0 } in

@@ -21,7 +21,7 @@ use Rattle.swift_explorer.specs.declared.history.SearchedHistory.{SearchedHistor
 use Rattle.swift_explorer.specs.declared.moves.Move.{Move}
 use Rattle.swift_explorer.specs.declared.moves.Move.TheVariants as step
 use Rattle.swift_steps.specs.NextTurns.{AreOf, given_at, given_view, seat_if, seat_of}
-use Rattle.swift_explorer.specs.HistoryInside.{AreThere, HasEach, HasEachMove, IsBusy, IsHistory, IsMissing, IsMoveOf, IsUnderWay, MayBegin}
+use Rattle.swift_explorer.specs.HistoryInside.{AreThere, HasEach, HasEachMove, IsHistory, IsMissing, IsMoveOf, IsUnderWay, MayBegin}
 use Rattle.swift_explorer.proofs.Ended.{lt_or}
 use Rattle.swift_explorer.proofs.First.{mapped}
 use Rattle.swift_explorer.proofs.Orderly.{before_or_past, seat_is, seat_past}
@@ -50,10 +50,6 @@ kept_push ls ms ns m is kept k has = subst (λ (l : List Move). Contains l k) (s
 -- where a root is missing, not all are there
 pub missing_not_there : (script : ScriptView) (log : List Event) (r : ℕ) → IsMissing script log r → AreThere (root_count script) log → ⊥
 missing_not_there script log r missing there = false≢true (sym (ap is_some missing.missing) ∙ there r missing.below)
-
--- where a turn is under way at the executor, none may begin
-pub busy_may_not : (x : SearchedHistory) (t k : ℕ) → AreOf (arc_value x.steps.script) x.steps.tasks.items → IsBusy x k → seat_of (arc_value x.steps.script) x.steps.tasks.items t ≡ Some k → MayBegin x t → ⊥
-busy_may_not x t k own busy seat may = false≢true (sym (may.free own busy.0 (busy.1 ∙ sym seat)) ∙ busy.2)
 
 -- frames are of an executor
 frames_run : (script : ScriptView) (fs : List FrameView) → HasFrames fs → (k : ℕ) × (frames_executor script fs ≡ Some k)

@@ -32,9 +32,6 @@ push_at (z ∷ xs) x y (suc t) at = elim (push_at xs x y t at) [
   | inr new ↦ inr (ap suc new.0, new.1)
 ]
 
-pub ended_none : (log : List Event) → AreEnded log []
-ended_none log t x at = absurd (none-some x at)
-
 pub push_length : {A : Type 0} (xs : List A) (x : A) → length (xs ++ x ∷ []) ≡ length xs + 1
 push_length [] x = refl
 push_length (y ∷ xs) x =

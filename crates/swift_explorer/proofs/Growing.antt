@@ -10,7 +10,6 @@ use Rattle.swift_explorer.specs.declared.moves.Move.{Move}
 use Rattle.swift_explorer.specs.declared.search.Search.{Search}
 use Rattle.swift_explorer.specs.declared.fused.Step.{Step}
 use Rattle.swift_explorer.specs.declared.fused.Step.TheVariants.{Turn}
-use Rattle.swift_explorer.specs.Outcomes.{RunsShort}
 use Rattle.swift_explorer.specs.SearchInside.{HasGoneOn, HasGrown, HasLike, HasLikeAhead, IsExpandedAt, IsKept, IsSound, StepWasTried, TurnWasTried, WasTried, paths_of}
 use Rattle.swift_explorer.proofs.Ended.{lt_or}
 use Rattle.swift_explorer.proofs.Nodes.{path_there, paths_length}
@@ -101,6 +100,15 @@ gone_one script x y next gone lt grown sound expanded = record {
   ];
 }
 
+-- a search that has gone on from no history more
+pub gone_still : (script : ScriptView) (x y : Search) (next : ℕ) → HasGoneOn script x next → HasGrown x y → IsSound script y → HasGoneOn script y next
+gone_still script x y next gone grown sound = record {
+  sound = sound;
+  first = λ is. like_grown script x y [] grown (gone.first (grown.complete is));
+  within = (let old = gone.within in let more = nodes_grown x y grown in omega (arith, old, more));
+  expanded = λ is place low. expanded_grown script x y place grown (gone.expanded (grown.complete is) place low);
+}
+
 -- a search that leaves a history out for the limit
 
 pub sound_full : (script : ScriptView) (x : Search) → IsSound script x → length x.nodes.items ≡ x.limit → IsSound script (record x { is_complete = false; met_limit = true })
@@ -117,12 +125,3 @@ sound_left script x is = record { script_is = is.script_is; outcomes = is.outcom
 
 pub grown_left : (x : Search) → HasGrown x (record x { is_complete = false })
 grown_left x = record { script = refl; limit = refl; paths = λ i path at. at; outcomes = λ o has. has; broken = λ none. none; complete = λ is. absurd (false≢true is) }
-
--- a search that has met a history without room
-
-pub sound_short : (script : ScriptView) (x : Search) → IsSound script x → RunsShort script → IsSound script (record x { is_complete = false; ran_short = true })
-sound_short script x is short =
-    record { script_is = is.script_is; outcomes = is.outcomes; broken = is.broken; nodes = is.nodes; few = is.few; keys = is.keys; ends = is.ends; keyed = is.keyed; once = is.once; met = is.met; told = is.told; marked = is.marked; hold = is.hold; short = λ _. short; histories = is.histories }
-
-pub grown_short : (x : Search) → HasGrown x (record x { is_complete = false; ran_short = true })
-grown_short x = record { script = refl; limit = refl; paths = λ i path at. at; outcomes = λ o has. has; broken = λ none. none; complete = λ is. absurd (false≢true is) }

@@ -18,6 +18,7 @@ mod KeySets
 mod Keeping
 mod Trying
 mod Noting
+mod Seeing
 mod KnownEnds
 mod Complete
 mod Completing
@@ -30,11 +31,11 @@ pub mod Within
 pub mod Steps
 pub mod CardSteps
 mod CardsNoted
-mod Marks
 mod LooksAway
 mod InvariantsOfActors
 mod StartInvariants
 mod RunningAhead
-mod SilentMarks
+mod MarksRead
+mod FlagsRead
 mod UnnamedRoots
 mod Trial

@@ -1,44 +1,58 @@
--- What is read of methods that look away.
-use Rattle.std.proofs.Common.{◌≡◌, ◌⊎◌, ◌<◌, ℕ, zero, suc, ◌+◌, List, [], ◌∷◌, ◌++◌, drop, length, get_or, take, refl, sym, subst, ap, ◌∙◌, Bool, true, false, inl, inr}
-use Rattle.std.specs.Prelude.{All, Contains, ◌&&◌, slice_index_or}
+-- What is read of turns that look away.
+use Rattle.std.proofs.Common.{◌≡◌, ◌<◌, ℕ, ◌+◌, List, [], ◌∷◌, ◌++◌, drop, length, get_or, refl, sym, subst, ap, ap₂, ◌∙◌, Bool, true, false, inl, inr}
+use Rattle.std.specs.Prelude.{Option, Some, Contains, ◌&&◌}
+use Rattle.std.specs.Option.{option_map}
 use Rattle.std.specs.Arc.{arc_value}
 use Rattle.std.proofs.lemmas.Bool.{false≢true}
-use Rattle.std.proofs.lemmas.List.{drop_more, take_more}
-use Rattle.std.proofs.lemmas.List.Elements.{All-push, Contains-append_left, Contains-push, Contains-push_cases}
+use Rattle.std.proofs.lemmas.List.{drop_more}
+use Rattle.std.proofs.lemmas.List.Elements.{Contains-append_left, Contains-push, Contains-push_cases}
+use Rattle.swift_types.specs.declared.id.TaskId.{TaskId}
 use Rattle.script_code.specs.Tree.{term_of, terms_of}
 use Rattle.script_code.specs.declared.formula.Formula.{Formula}
-use Rattle.script_code.specs.declared.instruction.Instruction.{Instruction}
-use Rattle.swift_script.specs.Scripts.{ScriptView, method_code}
+use Rattle.swift_script.specs.Scripts.{ScriptView}
+use Rattle.swift_interpreter.specs.Frames.{FrameView}
+use Rattle.swift_events.specs.Relations.{is_cancelled}
+use Rattle.swift_history.specs.TurnEnds.{JobFacts}
 use Rattle.swift_history.specs.Histories.{Block}
-use Rattle.swift_reordering.specs.Away.{job_looks_away, code_looks_away, instruction_looks_away, term_looks_away, terms_look_away}
+use Rattle.swift_course.specs.Course.{standing}
+use Rattle.swift_steps.specs.declared.next_turn.NextTurn.{NextTurn}
+use Rattle.swift_steps.specs.NextTurns.{given_at, given_view}
+use Rattle.swift_reordering.specs.Away.{frames_look_away, job_looks_away, term_looks_away, terms_look_away, turn_looks_away}
+use Rattle.swift_reordering.proofs.Flags.{job_stays}
 use Rattle.swift_explorer.specs.declared.moves.Move.{Move}
 use Rattle.swift_explorer.specs.declared.fused.Step.{Step}
 use Rattle.swift_explorer.specs.declared.history.SearchedHistory.{SearchedHistory}
 use Rattle.swift_explorer.specs.declared.fused.Step.TheVariants.{One, Turn}
-use Rattle.swift_explorer.specs.FusedInside.{ArePlansOf, AreTold, HasEachStep, IsChosen, IsPlanOf}
+use Rattle.swift_explorer.specs.declared.marks.MarkKind.TheVariants.{Away, AwayCancelled}
+use Rattle.swift_explorer.specs.FusedInside.{ArePlansOf, HasEachStep, IsChosen, IsPlanOf, LooksAway}
 use Rattle.swift_explorer.specs.HistoryInside.{HasEachMove, IsHistory, IsMoveOf}
+use Rattle.swift_explorer.specs.MarksInside.{NextIs, frames_are}
 
-pub away_from : (xs : List Formula) (i : ℕ) (x : Formula) → i < length xs → x ≡ get_or xs i x → terms_look_away (terms_of (drop i xs)) ≡ (term_looks_away (term_of x) && terms_look_away (terms_of (drop (i + 1) xs)))
-away_from xs i x within is = ap (λ (ys : List Formula). terms_look_away (terms_of ys)) (drop_more xs i x within ∙ ap (λ (y : Formula). y ∷ drop (i + 1) xs) (sym is))
+pub away_from : (cancelled : Bool) (xs : List Formula) (i : ℕ) (x : Formula) → i < length xs → x ≡ get_or xs i x → terms_look_away cancelled (terms_of (drop i xs)) ≡ (term_looks_away cancelled (term_of x) && terms_look_away cancelled (terms_of (drop (i + 1) xs)))
+away_from cancelled xs i x within is = ap (λ (ys : List Formula). terms_look_away cancelled (terms_of ys)) (drop_more xs i x within ∙ ap (λ (y : Formula). y ∷ drop (i + 1) xs) (sym is))
 
-pub lines_push : (xs : List Instruction) (i : ℕ) (x : Instruction) → i < length xs → x ≡ get_or xs i x → All (λ (line : Instruction). instruction_looks_away line ≡ true) (take i xs) → instruction_looks_away x ≡ true
-    → All (λ (line : Instruction). instruction_looks_away line ≡ true) (take (i + 1) xs)
-lines_push xs i x within is all away =
-    subst (All (λ (line : Instruction). instruction_looks_away line ≡ true)) (sym (take_more xs i x within ∙ ap (λ (y : Instruction). take i xs ++ y ∷ []) (sym is)))
-    (All-push (λ (line : Instruction). instruction_looks_away line ≡ true) (take i xs) x all away)
+-- a turn of which marks say that it looks away does
 
--- one more method is told of
-told_at : (away : List Bool) (b : Bool) (m : ℕ) → slice_index_or (away ++ b ∷ []) m false ≡ true → (slice_index_or away m false ≡ true) ⊎ ((m ≡ length away) × (b ≡ true))
-told_at [] b zero is = inr (refl, is)
-told_at [] b (suc m) is = absurd (false≢true is)
-told_at (x ∷ away) b zero is = inl is
-told_at (x ∷ away) b (suc m) is = elim (told_at away b m is) [ inl old ↦ inl old | inr new ↦ inr (ap suc new.0, new.1) ]
+next_looks : (x : SearchedHistory) (t : TaskId) (cancelled : Bool) (g : NextTurn) → given_at x.steps.tasks.items t.0 ≡ Some g → frames_look_away (arc_value x.steps.script) cancelled g.body.task.frames ≡ true
+    → (cancelled ≡ true → is_cancelled t.0 x.steps.book.log ≡ true) → LooksAway x t
+next_looks x t cancelled g given looks flag =
+    let script = arc_value x.steps.script in
+    let one : job_looks_away script cancelled (option_map (given_view t.0) (given_at x.steps.tasks.items t.0)) ≡ true = ap (λ (o : Option NextTurn). job_looks_away script cancelled (option_map (given_view t.0) o)) given ∙ looks in
+    job_stays script cancelled (is_cancelled t.0 x.steps.book.log) (option_map (given_view t.0) (given_at x.steps.tasks.items t.0)) flag one
 
-pub told_push : (script : ScriptView) (away more : List Bool) (b : Bool) → more ≡ away ++ b ∷ [] → AreTold script away → (b ≡ true → code_looks_away (method_code script (length away)) ≡ true) → AreTold script more
-told_push script away more b pushed told new m is = elim (told_at away b m (subst (λ (bs : List Bool). slice_index_or bs m false ≡ true) pushed is)) [
-  | inl old ↦ told m old
-  | inr here ↦ ap (λ (k : ℕ). code_looks_away (method_code script k)) here.0 ∙ new here.1
-]
+frames_away : (script : ScriptView) (ps : List FrameView) → frames_are Away script ps ≡ true → frames_look_away script false ps ≡ true
+frames_away script [] is = is
+frames_away script (p ∷ callers) is = is
+
+frames_away_cancelled : (script : ScriptView) (ps : List FrameView) → frames_are AwayCancelled script ps ≡ true → frames_look_away script true ps ≡ true
+frames_away_cancelled script [] is = is
+frames_away_cancelled script (p ∷ callers) is = is
+
+pub away_always : (x : SearchedHistory) (t : TaskId) → NextIs Away x t → LooksAway x t
+away_always x t next = next_looks x t false next.0 next.1 (frames_away (arc_value x.steps.script) next.0.body.task.frames next.2) (λ is. absurd (false≢true is))
+
+pub away_cancelled : (x : SearchedHistory) (t : TaskId) → NextIs AwayCancelled x t → is_cancelled t.0 x.steps.book.log ≡ true → LooksAway x t
+away_cancelled x t next flag = next_looks x t true next.0 next.1 (frames_away_cancelled (arc_value x.steps.script) next.0.body.task.frames next.2) (λ is. flag)
 
 -- one more step is planned
 pub plans_push : (x : SearchedHistory) (moves more : List Move) (steps steps' : List Step) (m : Move) (s : Step) → more ≡ moves ++ m ∷ [] → steps' ≡ steps ++ s ∷ [] → ArePlansOf x moves steps → IsPlanOf x m s → ArePlansOf x more steps'
@@ -49,9 +63,15 @@ plans_push x moves more steps steps' m s one two are is k has = elim (Contains-p
 
 -- each block is what a planned step does
 
+-- a turn looks away there where it does by what was followed
+pub looks_there : (x : SearchedHistory) (blocks : List Block) (t : TaskId) → IsHistory (arc_value x.steps.script) blocks x → LooksAway x t → turn_looks_away (arc_value x.steps.script) (standing (arc_value x.steps.script) blocks) t.0 ≡ true
+looks_there x blocks t h looks =
+    let script = arc_value x.steps.script in
+    ap₂ (λ (b : Bool) (o : Option JobFacts). job_looks_away script b o) (ap (is_cancelled t.0) (sym h.followed.led.log_is)) (h.followed.led.given t.0) ∙ looks
+
 planned : (x : SearchedHistory) (steps : List Step) (blocks : List Block) (b : Block) (m : Move) (s : Step) → IsHistory (arc_value x.steps.script) blocks x → Contains steps s → IsPlanOf x m s → IsMoveOf m b → IsChosen (arc_value x.steps.script) steps blocks b
 planned x steps blocks b m (One k) h has plan does = inl (k, has, subst (λ (n : Move). IsMoveOf n b) (sym plan) does)
-planned x steps blocks b m (Turn t) h has plan does = inr (t, has, subst (λ (n : Move). IsMoveOf n b) plan.0 does, ap (job_looks_away (arc_value x.steps.script)) (h.followed.led.given t.0) ∙ plan.1)
+planned x steps blocks b m (Turn t) h has plan does = inr (t, has, subst (λ (n : Move). IsMoveOf n b) plan.0 does, looks_there x blocks t h plan.1)
 
 pub each_step : (x : SearchedHistory) (moves : List Move) (steps : List Step) → HasEachMove x moves → ArePlansOf x moves steps → HasEachStep x steps
 each_step x moves steps each plans blocks b h unfolded stands orderly =

@@ -73,9 +73,6 @@ pub sound_noted : (script : ScriptView) (x : Search) (os : Vec RunOutcome Global
 sound_noted script x os ends is outcomes noted keyed once =
     record { script_is = is.script_is; outcomes = outcomes; broken = is.broken; nodes = is.nodes; few = is.few; keys = is.keys; ends = noted; keyed = keyed; once = once; met = is.met; told = is.told; marked = is.marked; hold = is.hold; short = is.short; histories = is.histories }
 
-pub grown_noted : (x : Search) (os : Vec RunOutcome Global) (ends : List (List ℕ)) → ((o : RunOutcome) → Contains x.outcomes.items o → Contains os.items o) → HasGrown x (record x { outcomes = os; ends = ends })
-grown_noted x os ends kept = record { script = refl; limit = refl; paths = λ i path at. at; outcomes = kept; broken = λ none. none; complete = λ is. is }
-
 -- one that has found a broken turn
 
 pub sound_breaks : (script : ScriptView) (x : Search) (broken : Option (Vec Move Global)) → IsSound script x → IfSome broken (λ schedule. IsBrokenAfter script schedule.items) → IsSound script (record x { broken = broken })

@@ -2,6 +2,7 @@
 use Rattle.std.proofs.Common.{◌≡◌, ℕ, ℤ, List, [], ◌∷◌, ◌++◌, append_assoc, append-nil, refl, sym, subst, ap, ◌∙◌, true, false}
 use Rattle.std.specs.Prelude.{Option, Some, None}
 use Rattle.std.specs.Arc.{arc_value}
+use Rattle.std.proofs.lemmas.Option.{same_Some}
 use Rattle.std.proofs.lemmas.Bool.{false≢true}
 use Rattle.swift_types.specs.declared.env.Env.{Env}
 use Rattle.swift_types.specs.declared.id.TaskId.{TaskId}
@@ -26,7 +27,6 @@ use Rattle.swift_laws.proofs.HistoriesCounted.{HasNumber}
 use Rattle.swift_laws.proofs.HistoriesTurns.{after_push, current_is}
 use Rattle.swift_course.specs.Course.{standing, starts}
 use Rattle.swift_digest.proofs.SameStands.{fields_push}
-use Rattle.swift_reordering.specs.Away.{job_looks_away}
 use Rattle.swift_reordering.specs.RunAhead.{OneTurn, after_turn, after_turns}
 use Rattle.swift_reordering.specs.Silent.{frame_is_silent}
 use Rattle.swift_reordering.proofs.Apart.{all_plain, always_apart, apart_first}
@@ -34,6 +34,8 @@ use Rattle.swift_reordering.proofs.Bringing.{number_one}
 use Rattle.swift_reordering.proofs.Holding.{hold_always}
 use Rattle.swift_reordering.proofs.RunAhead.{run_more, turns_more}
 use Rattle.swift_reordering.proofs.SilentPlay.{silent_turn}
+use Rattle.swift_explorer.specs.declared.marks.MarkKind.TheVariants.{Silent}
+use Rattle.swift_explorer.specs.MarksInside.{frames_are}
 use Rattle.swift_explorer.specs.declared.ahead.TurnAhead.{TurnAhead}
 use Rattle.swift_explorer.specs.declared.ahead.TurnAhead.TheVariants.{Lost, Ran, Stays}
 use Rattle.swift_explorer.specs.declared.moves.Move.{Move}
@@ -47,6 +49,7 @@ use Rattle.swift_steps.specs.OpenHistories.{RunsAt}
 use Rattle.swift_explorer.specs.HistoryInside.{GoesOn, IsHistory, IsPath, IsSomeHistory}
 use Rattle.swift_explorer.specs.SearchInside.{IsFollowedAhead, IsFollowedBy}
 use Rattle.swift_explorer.specs.Steps.{AreSteps, BreaksInvariant, IsStep, roots_over}
+use Rattle.swift_explorer.proofs.LooksAway.{looks_there}
 use Rattle.swift_explorer.proofs.First.{mapped}
 use Rattle.swift_explorer.proofs.Paths.{roots_push, steps_push}
 use Rattle.swift_explorer.proofs.Trying.{allowed_last, parted}
@@ -126,7 +129,9 @@ module _ (blocks : List Block) (x w z : SearchedHistory) (t : TaskId) (place : �
       ∙ if_first one.0.body.task.frames runs.stands.runs.0 r.frame (λ p. actor_executor script (method_actor one.0.body.script p.method) ≡ place) frames (at_place.on one.0 one.1)
 
   still : frame_is_silent script r.frame ≡ true
-  still = if_first one.0.body.task.frames runs.stands.runs.0 r.frame (λ p. frame_is_silent script p ≡ true) frames (quiet.silent one.0 one.1)
+  still =
+      let same : one.0 ≡ quiet.silent.0 = same_Some one.0 quiet.silent.0 (sym one.1 ∙ quiet.silent.1) in
+      ap (frames_are Silent script) (sym frames) ∙ ap (λ (g : NextTurn). frames_are Silent script g.body.task.frames) same ∙ quiet.silent.2
 
   abbrev rows : List (List ℤ)
   rows = alone.0
@@ -184,7 +189,7 @@ module _ (blocks : List Block) (x w z : SearchedHistory) (t : TaskId) (place : �
         unnamed = goes.1;
         apart = λ is. always_apart script cps t.0 (goes.1 is) blocks [] h.followed.led.stand (all_plain blocks h.none_folded) (apart_first t.0);
       };
-      away = ap (job_looks_away script) (h.followed.led.given t.0) ∙ quiet.away;
+      away = looks_there x blocks t h quiet.away;
     };
     is = is;
     task_is = refl;

@@ -11,8 +11,7 @@ use Rattle.swift_explorer.specs.declared.queue.KeptHistory.{KeptHistory}
 use Rattle.swift_explorer.specs.declared.search.Node.{Node}
 use Rattle.swift_explorer.specs.declared.search.Search.{Search}
 use Rattle.swift_explorer.specs.AheadInside.{StartsHold}
-use Rattle.swift_explorer.specs.FusedInside.{AreTold}
-use Rattle.swift_explorer.specs.SilentInside.{HaveMarks}
+use Rattle.swift_explorer.specs.MarksInside.{AreTold, HaveSilentMarks}
 use Rattle.swift_explorer.specs.SearchInside.{IsSound}
 use Rattle.swift_script.specs.Scripts.{ScriptView}
 use Rattle.swift_explorer.specs.declared.outcome.RunOutcome.{RunOutcome}
@@ -25,7 +24,7 @@ nothing : {A : Type 0} (x : A) → Contains [] x → ⊥
 nothing x has = let lt = has.1 in omega (arith, lt)
 
 -- a search that has kept and found nothing yet
-pub sound_none : (script : ScriptView) (x : Search) → arc_value x.script ≡ script → x.nodes.items ≡ [] → x.keys ≡ [] → x.outcomes.items ≡ [] → x.ends ≡ [] → x.broken ≡ None → AreTold script x.away.items → HaveMarks script x.marks.items → StartsHold script
+pub sound_none : (script : ScriptView) (x : Search) → arc_value x.script ≡ script → x.nodes.items ≡ [] → x.keys ≡ [] → x.outcomes.items ≡ [] → x.ends ≡ [] → x.broken ≡ None → AreTold script x.away → HaveSilentMarks script x.marks.items → StartsHold script
     → (IsTrue x.met_limit → ⊥) → (IsTrue x.ran_short → ⊥) → x.histories.entries ≡ [] → IsSound script x
 sound_none script x own nodes keys outcomes ends broken told marked hold met short entries = record {
   script_is = own;

@@ -8,11 +8,11 @@ use Rattle.swift_types.specs.declared.priority.Priority.TheVariants.{Background}
 use Rattle.swift_script.specs.Scripts.{ScriptView, executor_invariants}
 use Rattle.swift_interpreter.specs.Frames.{FrameView}
 use Rattle.swift_interpreter.specs.Turn.{ExitView, all_hold}
-use Rattle.swift_turn.specs.Body.{IfRunning, kept_turn}
+use Rattle.swift_turn.specs.Body.{kept_turn}
 use Rattle.swift_history.specs.Histories.{Block, checkpoint_at}
 use Rattle.swift_course.specs.Course.{starts}
 use Rattle.swift_reordering.specs.RunAhead.{OneTurn, after_turn, after_turns, RunsSilently, AllRunSilently}
-use Rattle.swift_reordering.specs.Silent.{frame_is_silent, goes_on_alone}
+use Rattle.swift_reordering.specs.Silent.{goes_on_alone}
 use Rattle.swift_reordering.specs.Unnamed.{IsUnnamed, ends_task}
 use Rattle.swift_explorer.specs.declared.ahead.TurnAhead.{TurnAhead}
 use Rattle.swift_explorer.specs.declared.ahead.TurnAhead.TheVariants.{Lost}
@@ -21,6 +21,8 @@ use Rattle.swift_explorer.specs.declared.moves.Move.TheVariants as step
 use Rattle.swift_steps.specs.declared.next_turn.NextTurn.{NextTurn}
 use Rattle.swift_explorer.specs.declared.history.SearchedHistory.{SearchedHistory}
 use Rattle.swift_explorer.specs.FusedInside.{LooksAway}
+use Rattle.swift_explorer.specs.MarksInside.{NextIs}
+use Rattle.swift_explorer.specs.declared.marks.MarkKind.TheVariants.{Silent}
 use Rattle.swift_steps.specs.NextTurns.{given_at}
 use Rattle.swift_explorer.specs.HistoryInside.{IsHistory, rows_at}
 use Rattle.swift_explorer.specs.Steps.{BreaksInvariant}
@@ -32,7 +34,7 @@ StartsHold script = (e : ℕ) → all_hold (executor_invariants script e) (check
 -- the next turn of a task is silent, and looks away
 pub record IsQuietAt (x : SearchedHistory) (t : TaskId) : Type 0 where
   pub away : LooksAway x t
-  pub silent : (g : NextTurn) → given_at x.steps.tasks.items t.0 ≡ Some g → IfRunning g.body.task.frames (λ p. frame_is_silent (arc_value x.steps.script) p ≡ true)
+  pub silent : NextIs Silent x t
 
 -- in which environment a turn is tried that looks at none
 abbrev pub any_env : Env

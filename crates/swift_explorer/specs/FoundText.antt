@@ -1,7 +1,5 @@
--- The text of what a search has found, as bytes (the format is our own).
-use Rattle.std.specs.Prelude.{ℕ, zero, suc, ◌+◌, ◌-◌, ◌==◌, Bool, false, Option, Some, None, List, [], ◌∷◌, ◌++◌, codes, count_by, decimal, if◌then◌else◌, length, slice_get, take}
-use Rattle.std.specs.declared.vec.Vec.{Vec}
-use Rattle.std.specs.declared.alloc.Global.{Global}
+-- Texts of which what a search has found consists, as bytes (the format is our own).
+use Rattle.std.specs.Prelude.{ℕ, zero, suc, ◌+◌, ◌-◌, ◌==◌, ◌&&◌, not, Bool, false, Option, Some, None, List, [], ◌∷◌, ◌++◌, codes, count_by, decimal, if◌then◌else◌, slice_get, take}
 use Rattle.swift_script.specs.Scripts.{ScriptView, actor_count}
 use Rattle.swift_report.specs.Text.{fields_text, tasks_text}
 use Rattle.swift_explorer.specs.declared.moves.Move.{Move}
@@ -65,31 +63,21 @@ schedule_text path = codes "schedule" ++ steps_text path 0 path ++ codes "\n"
 abbrev pub ended_text : ScriptView → RunOutcome → List ℕ
 ended_text p o = codes "tasks\n" ++ tasks_text p 0 o.endings.items ++ codes "fields\n" ++ fields_text p o.fields.items 0 (actor_count p)
 
--- the outcome at a place, with its number, from 1
-abbrev pub outcome_text : ScriptView → ℕ → RunOutcome → List ℕ
-outcome_text p place o = codes "\noutcome " ++ decimal (place + 1) ++ codes "\n" ++ schedule_text o.schedule.items ++ ended_text p o
-
--- the outcomes from this place on
-abbrev pub outcomes_text : ScriptView → ℕ → List RunOutcome → List ℕ
-outcomes_text p place [] = []
-outcomes_text p place (o ∷ os) = outcome_text p place o ++ outcomes_text p (place + 1) os
-
--- what is known of turns that are undone
-abbrev pub broken_text : Option (Vec Move Global) → List ℕ
-broken_text None = codes "no turn was found that is undone by invariant\n"
-broken_text (Some schedule) = codes "a turn is undone by invariant\n" ++ schedule_text schedule.items
-
 -- that the search came to its end, or why there may be more
-abbrev pub end_text : FoundOutcomes → List ℕ
-end_text f =
+abbrev pub end_words : FoundOutcomes → List ℕ
+end_words f =
     if f.is_complete then codes ", found by a search that came to its end after " else
     (if f.met_limit then codes ", and there may be more: the limit was met after " else
     (if f.ran_short then codes ", and there may be more: the room for tasks ran short after " else codes ", and there may be more: not every history was followed after "))
 
--- how far the search came
-abbrev pub search_text : FoundOutcomes → List ℕ
-search_text f = many_text (length f.outcomes.items) (codes "outcome") (codes "outcomes") ++ end_text f ++ many_text f.states (codes "state\n") (codes "states\n")
+-- the search has left a history out since it could keep no more, and has not come to its end
+abbrev pub is_at_limit : FoundOutcomes → Bool
+is_at_limit f = not f.is_complete && f.met_limit
 
--- What a search has found: how many outcomes and how far it came, the turns that are undone, and each outcome.
-abbrev pub found_text : ScriptView → FoundOutcomes → List ℕ
-found_text p f = search_text f ++ broken_text f.broken ++ outcomes_text p 0 f.outcomes.items
+-- from how many states it has still to go on, where it has met its limit
+abbrev pub to_go_text : FoundOutcomes → List ℕ
+to_go_text f = if is_at_limit f then codes ", " ++ decimal f.to_go ++ codes " of them still to go\n" else codes "\n"
+
+-- how far the search came: whether to its end, after how many states, and how many of them are still to go
+abbrev pub end_text : FoundOutcomes → List ℕ
+end_text f = end_words f ++ many_text f.states (codes "state") (codes "states") ++ to_go_text f

@@ -5,7 +5,8 @@ pub mod FoundText
 pub mod Completions
 pub mod HistoryInside
 pub mod FusedInside
-pub mod SilentInside
+pub mod MarksInside
+pub mod FlagsInside
 pub mod AheadInside
 pub mod QueueInside
 pub mod SearchInside

@@ -9,7 +9,7 @@ use Rattle.swift_course.specs.Course.{standing, starts}
 use Rattle.swift_digest.specs.Explored.{IsNotFolded}
 use Rattle.swift_history.specs.Orderly.{AllAllowed, IsOrderly}
 use Rattle.swift_digest.specs.Futures.{LeadAlike}
-use Rattle.swift_reordering.specs.Away.{job_looks_away}
+use Rattle.swift_reordering.specs.Away.{turn_looks_away}
 use Rattle.swift_reordering.specs.FusedSteps.{HasRoom}
 use Rattle.swift_reordering.specs.RunAhead.{OneTurn, after_turns, AllRunSilently}
 use Rattle.swift_explorer.specs.declared.moves.Move.{Move}
@@ -19,13 +19,14 @@ use Rattle.swift_explorer.specs.declared.history.SearchedHistory.{SearchedHistor
 use Rattle.swift_explorer.specs.declared.history.Followed.{Followed}
 use Rattle.swift_explorer.specs.declared.history.Followed.TheVariants.{Yes}
 use Rattle.swift_explorer.specs.declared.search.Node.{Node}
+use Rattle.swift_explorer.specs.declared.dive.Seen.{Seen}
 use Rattle.swift_explorer.specs.declared.search.Ahead.{Ahead}
 use Rattle.swift_explorer.specs.declared.search.Search.{Search}
 use Rattle.swift_explorer.specs.declared.fused.Step.{Step}
 use Rattle.swift_explorer.specs.declared.fused.Step.TheVariants.{Turn}
 use Rattle.swift_explorer.specs.AheadInside.{AllWhole, StartsHold}
-use Rattle.swift_explorer.specs.FusedInside.{AreTold, IsChosen, first_half, last_half}
-use Rattle.swift_explorer.specs.SilentInside.{HaveMarks}
+use Rattle.swift_explorer.specs.FusedInside.{IsChosen, first_half, last_half}
+use Rattle.swift_explorer.specs.MarksInside.{AreTold, HaveSilentMarks}
 use Rattle.swift_explorer.specs.Outcomes.{EachOnce, IfReached, IsBrokenAfter, IsOutcomeOf, RunsShort}
 use Rattle.swift_explorer.specs.Steps.{AreSteps, IsBroken}
 use Rattle.swift_explorer.specs.HistoryInside.{IsHistory, IsMoveOf, IsPath}
@@ -109,8 +110,8 @@ pub record IsSound (script : ScriptView) (x : Search) : Type 0 where
   pub keyed : AreKeyed x.outcomes.items x.ends
   pub once : EachOnce x.outcomes.items
   pub met : IsTrue x.met_limit → length x.nodes.items ≡ x.limit
-  pub told : AreTold script x.away.items
-  pub marked : HaveMarks script x.marks.items
+  pub told : AreTold script x.away
+  pub marked : HaveSilentMarks script x.marks.items
   pub hold : StartsHold script
   pub short : IsTrue x.ran_short → RunsShort script
   pub histories : AreHistories script (paths_of x.nodes.items) (get nat_eq x.histories)
@@ -123,6 +124,19 @@ pub record HasGrown (old new : Search) : Type 0 where
   pub outcomes : (o : RunOutcome) → Contains old.outcomes.items o → Contains new.outcomes.items o
   pub broken : new.broken ≡ None → old.broken ≡ None
   pub complete : IsTrue new.is_complete → IsTrue old.is_complete
+
+-- What was seen of a history is so: how it has ended, and that the last of some steps breaks an invariant.
+pub record IsSeen (script : ScriptView) (x : Seen) : Type 0 where
+  pub outcome : IfReached (IsOutcomeOf script) x.end
+  pub broken : IfSome x.broken (λ schedule. IsBrokenAfter script schedule.items)
+
+-- A search has seen more, and is sound still: it keeps the histories that it kept, and is as complete as it was.
+pub record HasSeen (old new : Search) : Type 0 where
+  pub grown : HasGrown old new
+  pub sound : IsSound (arc_value old.script) new
+  pub nodes : new.nodes ≡ old.nodes
+  pub met : new.met_limit ≡ old.met_limit
+  pub complete : new.is_complete ≡ old.is_complete
 
 -- a block may follow others, and is in order there
 pub record MayFollow (script : ScriptView) (blocks : List Block) (b : Block) : Type 0 where
@@ -148,7 +162,7 @@ StepWasTried script x path s = WasTriedLast script x (path ++ first_half s) (las
 pub record TurnWasTried (script : ScriptView) (x : Search) (path : List Move) (blocks : List Block) (b : Block) : Type 0 where
   pub task : TaskId
   pub does : IsMoveOf (step.Begin task) b
-  pub away : job_looks_away script ((standing script blocks).jobs task.0) ≡ true
+  pub away : turn_looks_away script (standing script blocks) task.0 ≡ true
   pub tried : StepWasTried script x path (Turn task)
 
 -- A search has gone on from where this path leads: it has the outcome, if that is one; there is room; and it has tried each block that may

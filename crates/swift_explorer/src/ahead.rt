@@ -9,14 +9,13 @@ ghost use Rattle.swift_reordering.specs.Silent.{frame_is_silent};
 ghost use Rattle.swift_reordering.specs.Unnamed.{IsUnnamed};
 ghost use Rattle.swift_steps.specs.declared.next_turn.NextTurn.{NextTurn};
 ghost use Rattle.swift_explorer.specs.AheadInside.{GoesAlone, GoesOnAtOnce, IsAsBefore, IsNotLost, IsQuietAt, RunsAhead, RunsTurn, StartsHold};
-ghost use Rattle.swift_explorer.specs.FusedInside.{AreTold};
 ghost use Rattle.swift_explorer.specs.HistoryInside.{IsSomeHistory, WasDone};
 ghost use Rattle.swift_steps.specs.NextTurns.{given_at};
-ghost use Rattle.swift_explorer.specs.SilentInside.{HaveMarks};
+ghost use Rattle.swift_explorer.specs.MarksInside.{AreTold, HaveSilentMarks};
 
 use crate::history::{Followed, SearchedHistory};
+use crate::marks::AwayMarks;
 use crate::moves::Move;
-use crate::silent::is_marked;
 use crate::unnamed::root_is_unnamed;
 use std::alloc::AllocError;
 use swift_interpreter::Exit;
@@ -74,41 +73,12 @@ fn goes_on(body: &Body, exit: &Exit, script: &Script, task: TaskId) -> Result<bo
     }
 }
 
-// Whether the next turn of a task with these frames is silent.
-fn body_is_silent(body: &Body, marks: &[Vec<bool>]) -> bool
-    requires { IsRunning body.now }
-    ensures { IsTrue result → (script : ScriptView) → HaveMarks script marks.now → IfRunning body.now.task.frames (λ p. frame_is_silent script p ≡ true) }
-{
-    let frame = body.top();
-    if frame.pending.is_some() {
-        return true;
-    }
-    match marks.get(frame.method.0 as usize) {
-        Some(own) => is_marked(own, frame.instruction),
-        None => false,
-    }
-}
-
 impl SearchedHistory {
-    // Whether the next turn of a task is silent.
-    fn is_silent(&self, marks: &[Vec<bool>], task: TaskId) -> bool
-        ensures { IsTrue result → HaveMarks (arc_value self.now.steps.script) marks.now → (g : NextTurn) → given_at self.now.steps.tasks.items task.0 ≡ Some g → IfRunning g.body.task.frames (λ p. frame_is_silent (arc_value self.now.steps.script) p ≡ true) }
-    {
-        let place = task.0 as usize;
-        if place >= self.steps.tasks.len() {
-            return false;
-        }
-        let Some(ready) = &self.steps.tasks[place] else {
-            return false;
-        };
-        ready.body.is_running() && body_is_silent(&ready.body, marks)
-    }
-
     // Whether the next turn of a task is silent, and looks away.
-    fn is_quiet(&self, away: &[bool], marks: &[Vec<bool>], task: TaskId) -> bool
-        ensures { IsTrue result → AreTold (arc_value self.now.steps.script) away.now → HaveMarks (arc_value self.now.steps.script) marks.now → IsQuietAt self.now task }
+    fn is_quiet(&self, away: &AwayMarks, marks: &[Vec<bool>], task: TaskId) -> bool
+        ensures { IsTrue result → AreTold (arc_value self.now.steps.script) away.now → HaveSilentMarks (arc_value self.now.steps.script) marks.now → IsQuietAt self.now task }
     {
-        self.is_silent(marks, task) && self.looks_away(away, task)
+        self.is_marked(marks, task) && self.looks_away(away, task)
     }
 
     // Whether a task goes on at once after its next turn at an executor, where that looks at nothing, or ends unseen. The history is as before.
@@ -151,13 +121,13 @@ impl SearchedHistory {
     #[tactic(auto, using(crate::proofs::Trial::unchanged))]
     fn run_one(
         &mut self,
-        away: &[bool],
+        away: &AwayMarks,
         marks: &[Vec<bool>],
         task: TaskId,
     ) -> Result<TurnAhead, AllocError>
         requires history { IsSomeHistory self.old }
         requires told { AreTold (arc_value self.old.steps.script) away.now }
-        requires marked { HaveMarks (arc_value self.old.steps.script) marks.now }
+        requires marked { HaveSilentMarks (arc_value self.old.steps.script) marks.now }
         requires hold { StartsHold (arc_value self.old.steps.script) }
         ensures script { self.new.steps.script ≡ self.old.steps.script }
         ensures stays { IfOk result (λ a. a ≡ TurnAhead.Stays → IsAsBefore self.old self.new) }
@@ -185,14 +155,14 @@ impl SearchedHistory {
     #[tactic(auto, using(crate::proofs::RunningAhead::stays_ahead, crate::proofs::RunningAhead::ran_ahead))]
     fn run_and_push(
         &mut self,
-        away: &[bool],
+        away: &AwayMarks,
         marks: &[Vec<bool>],
         task: TaskId,
         moves: &mut Vec<Move>,
     ) -> Result<TurnAhead, AllocError>
         requires history { IsSomeHistory self.old }
         requires told { AreTold (arc_value self.old.steps.script) away.now }
-        requires marked { HaveMarks (arc_value self.old.steps.script) marks.now }
+        requires marked { HaveSilentMarks (arc_value self.old.steps.script) marks.now }
         requires hold { StartsHold (arc_value self.old.steps.script) }
         ensures { IfOk result (λ a. IsNotLost a → RunsAhead self.old self.new moves.old.items moves.new.items) }
     {
@@ -210,13 +180,13 @@ impl SearchedHistory {
     // Silent turns run, task by task, and are put to these steps.
     pub(crate) fn run_ahead(
         &mut self,
-        away: &[bool],
+        away: &AwayMarks,
         marks: &[Vec<bool>],
         moves: &mut Vec<Move>,
     ) -> Result<Followed, AllocError>
         requires history { IsSomeHistory self.old }
         requires told { AreTold (arc_value self.old.steps.script) away.now }
-        requires marked { HaveMarks (arc_value self.old.steps.script) marks.now }
+        requires marked { HaveSilentMarks (arc_value self.old.steps.script) marks.now }
         requires hold { StartsHold (arc_value self.old.steps.script) }
         ensures { IfOk result (λ f. WasDone f → RunsAhead self.old self.new moves.old.items moves.new.items) }
     {

@@ -3,7 +3,8 @@
 ghost use Rattle.std.specs.Prelude.{◌≡◌, ℕ, ◌++◌, List, [], ◌∷◌, IfOk, IfSome, IsTrue, None};
 ghost use Rattle.std.specs.Arc.{arc_value};
 ghost use Rattle.swift_explorer.specs.Completions.{IsCompletion, IsFaultOf, IsStepFault, IsStopped};
-ghost use Rattle.swift_explorer.specs.HistoryInside.{IsPath};
+ghost use Rattle.swift_explorer.specs.HistoryInside.{IsPath, WasDone};
+ghost use Rattle.swift_explorer.specs.Outcomes.{IsBrokenAfter};
 ghost use Rattle.swift_explorer.specs.declared.moves.Move.{Move};
 
 use crate::history::{Followed, SearchedHistory};
@@ -131,7 +132,7 @@ fn follow_or_stop(
 }
 
 // The task of a step; none of one that adds a root.
-fn task_of(step: Move) -> Option<TaskId> {
+pub(crate) fn task_of(step: Move) -> Option<TaskId> {
     match step {
         Move::Add => None,
         Move::Begin(task) | Move::Run(task) => Some(task),
@@ -148,7 +149,7 @@ fn is_later(step: Move, last: Option<TaskId>) -> bool {
 
 // The step to choose of those that may follow: of turns that may begin that of the next task after the last one's, in a circle. Those
 // that run come first.
-fn next_in_turn(moves: &[Move], last: Option<TaskId>) -> Option<Move> {
+pub(crate) fn next_in_turn(moves: &[Move], last: Option<TaskId>) -> Option<Move> {
     for step in moves {
         if is_later(*step, last) {
             return Some(*step);
@@ -157,22 +158,24 @@ fn next_in_turn(moves: &[Move], last: Option<TaskId>) -> Option<Move> {
     moves.first().copied()
 }
 
-// Does one more step, and puts it to those before it: whether it may follow.
-fn push_step(
+// Does one more step after these, and puts it to them.
+pub(crate) fn push_step(
     history: &mut SearchedHistory,
     path: &mut Vec<Move>,
     step: Move,
-) -> Result<bool, AllocError>
+) -> Result<Followed, AllocError>
     requires { IsPath (arc_value history.old.steps.script) path.old.items history.old }
     ensures script { history.new.steps.script ≡ history.old.steps.script }
-    ensures path { IfOk result (λ done. IsTrue done → IsPath (arc_value history.old.steps.script) path.new.items history.new) }
-    ensures one { IfOk result (λ done. IsTrue done → path.new.items ≡ path.old.items ++ step ∷ []) }
+    ensures path { IfOk result (λ f. WasDone f → IsPath (arc_value history.old.steps.script) path.new.items history.new) }
+    ensures one { IfOk result (λ f. WasDone f → path.new.items ≡ path.old.items ++ step ∷ []) }
+    ensures broken { IfOk result (λ f. f ≡ Followed.Broken → IsBrokenAfter (arc_value history.old.steps.script) path.new.items) }
 {
-    if let Followed::No = history.step(step)? {
-        return Ok(false);
+    let done = history.step(step)?;
+    if let Followed::No = done {
+        return Ok(Followed::No);
     }
     path.push(step)?;
-    Ok(true)
+    Ok(done)
 }
 
 // Goes on, where these steps have led, until no step may follow: whether that was reached. Each step is put to the others.
@@ -190,7 +193,7 @@ fn go_to_the_end(history: &mut SearchedHistory, path: &mut Vec<Move>) -> Result<
         let Some(step) = next_in_turn(&moves, last) else {
             return Ok(true);
         };
-        if !push_step(history, path, step)? {
+        if let Followed::No = push_step(history, path, step)? {
             return Ok(false);
         }
         last = task_of(step);

@@ -1,6 +1,6 @@
 //! A search that is made in parts.
 
-ghost use Rattle.std.specs.Prelude.{◌≡◌, ◌≤◌, ◌+◌, ◌-◌, ◌↔◌, All, IfOk, IfSome, IsTrue, None, length, min};
+ghost use Rattle.std.specs.Prelude.{◌≡◌, ◌<◌, ◌≤◌, ◌+◌, ◌-◌, ◌↔◌, All, IfOk, IfSome, IsTrue, None, false, length, min};
 ghost use Rattle.std.specs.Arc.{arc_value};
 ghost use Rattle.swift_explorer.specs.Outcomes.{EachOnce, HasEachOutcome, IsBrokenAfter, IsOutcomeOf, NeverBreaks, RunsShort};
 
@@ -24,6 +24,9 @@ pub struct FoundOutcomes {
     pub states: usize,
     /// Whether each step after each history that was kept was tried, and no history was left out.
     pub is_complete: bool,
+    /// From how many of these it has not gone on: none where it came to its end. Where a history was left out since as many were kept as
+    /// may be, that from which it was left out is one of them.
+    pub to_go: usize,
     /// Whether a history was left out since as many were kept as may be.
     pub met_limit: bool,
     /// Whether some history had so many tasks that turns may have less room than they would use: with 16 more for each executor and 16
@@ -67,7 +70,7 @@ impl Model for Exploration {
 
     ghost coded = { Prim.hlevel (codes, expression_code, statement_code (block_code (Prim.hlevel (codes, expression_code)) (Prim.hlevel (codes, expression_code)))) };
 
-    ghost view = { λ x. record { script = arc_value x.search.script; limit = x.search.limit; kept = length x.search.nodes.items; gone_on = x.next; outcomes = length x.search.outcomes.items } };
+    ghost view = { λ x. record { script = arc_value x.search.script; limit = x.search.limit; kept = length x.search.nodes.items; gone_on = x.next; outcomes = length x.search.outcomes.items; met_limit = x.search.met_limit } };
 
     ghost invariant = { λ x. HasGoneOn (arc_value x.search.script) x.search x.next };
 }
@@ -89,7 +92,8 @@ impl Exploration {
         Ok(Exploration { search, next: 0 })
     }
 
-    /// Goes on from `more` more of the histories that are kept, or from all where there are fewer.
+    /// Goes on from `more` more of the histories that are kept, or from all where there are fewer, up to one from which a history is left
+    /// out since as many were kept as may be.
     ///
     /// # Errors
     ///
@@ -98,11 +102,34 @@ impl Exploration {
         ensures script { IfOk result (λ x. x.script ≡ self.script) }
         ensures limit { IfOk result (λ x. x.limit ≡ self.limit) }
         ensures kept { IfOk result (λ x. self.kept ≤ x.kept) }
-        ensures gone_on { IfOk result (λ x. x.gone_on ≡ min (self.gone_on + more) x.kept) }
+        ensures gone_on { IfOk result (λ x. x.met_limit ≡ false → x.gone_on ≡ min (self.gone_on + more) x.kept) }
+        ensures stopped { IfOk result (λ x. (self.gone_on ≤ x.gone_on) × (x.gone_on ≤ min (self.gone_on + more) x.kept)) }
+        ensures left { IfOk result (λ x. IsTrue x.met_limit → self.met_limit ≡ false → x.gone_on < x.kept) }
     {
         let Exploration { mut search, next } = self;
         let next = search.go_through(next, more)?;
         Ok(Exploration { search, next })
+    }
+
+    /// Follows some of the histories from which it has still to go on to an end, at even distances, each by one schedule: each time with the
+    /// turn that is under way, or else with that of the next task in their order, after the last one's, in a circle. It notes the outcomes,
+    /// and a turn that is undone, and keeps no history: so what a search that has met its limit has found is not only what comes first. It
+    /// ends once the schedules that it has followed have `steps` steps, those to where it began too.
+    ///
+    /// # Errors
+    ///
+    /// `AllocError` where no memory was left. The search is given up then.
+    pub fn dive(self, steps: usize) -> Result<Exploration, AllocError>
+        ensures script { IfOk result (λ x. x.script ≡ self.script) }
+        ensures limit { IfOk result (λ x. x.limit ≡ self.limit) }
+        ensures kept { IfOk result (λ x. x.kept ≡ self.kept) }
+        ensures gone_on { IfOk result (λ x. x.gone_on ≡ self.gone_on) }
+        ensures met_limit { IfOk result (λ x. x.met_limit ≡ self.met_limit) }
+    {
+        let Exploration { search, next } = self;
+        let mut seen = search;
+        seen.dive(next, steps)?;
+        Ok(Exploration { search: seen, next })
     }
 
     /// From how many histories it has gone on.
@@ -121,6 +148,13 @@ impl Exploration {
         self.search.nodes.len() - self.next
     }
 
+    /// Whether a history was left out since as many were kept as may be.
+    pub fn met_limit(&self) -> bool
+        ensures { result ≡ self.now.met_limit }
+    {
+        self.search.met_limit
+    }
+
     /// How many outcomes it has found so far.
     pub fn outcomes(&self) -> usize
         ensures { result ≡ self.now.outcomes }
@@ -137,6 +171,8 @@ impl Exploration {
         ensures gone_on { IsTrue result.is_complete → self.gone_on ≡ self.kept }
         ensures once { EachOnce result.outcomes.items }
         ensures states { result.states ≡ self.kept }
+        ensures to_go { result.to_go ≡ self.kept - self.gone_on }
+        ensures met_limit { result.met_limit ≡ self.met_limit }
         ensures limit { IsTrue result.met_limit → result.states ≡ self.limit }
         ensures room { IsTrue result.ran_short → RunsShort self.script }
         ensures counted { length result.outcomes.items ≡ self.outcomes }
@@ -163,6 +199,7 @@ impl Exploration {
             outcomes,
             broken,
             states,
+            to_go: states - next,
             is_complete: is_complete && next >= states,
             met_limit,
             ran_short,

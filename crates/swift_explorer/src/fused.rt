@@ -2,15 +2,14 @@
 
 ghost use Rattle.std.specs.Prelude.{◌≡◌, ◌++◌, ◌↔◌, IfOk, IfSome, IsTrue, OnOk, true};
 ghost use Rattle.std.specs.Arc.{arc_value};
-ghost use Rattle.swift_script.specs.Scripts.{ScriptView};
-ghost use Rattle.swift_turn.specs.Body.{IsRunning};
-ghost use Rattle.swift_reordering.specs.Away.{frames_look_away};
-ghost use Rattle.swift_explorer.specs.FusedInside.{ArePlansOf, AreTold, HasEachStep, IsPlanOf, IsRoomy, LooksAway, first_half, last_half};
+ghost use Rattle.swift_explorer.specs.FusedInside.{ArePlansOf, HasEachStep, IsPlanOf, IsRoomy, LooksAway, first_half, last_half};
+ghost use Rattle.swift_explorer.specs.MarksInside.{AreTold, HaveMarks, NextIs};
 
+use crate::flags::is_cancelled;
 use crate::history::SearchedHistory;
+use crate::marks::{AwayMarks, MarkKind, body_is_marked};
 use crate::moves::Move;
 use std::alloc::{AllocError, Global};
-use swift_turn::Body;
 use swift_types::TaskId;
 use swift_types::limits::{MADE, TASKS};
 
@@ -48,25 +47,10 @@ impl Step {
     }
 }
 
-// Whether the next turn of a task with these frames looks away.
-fn body_looks_away(body: &Body, away: &[bool]) -> bool
-    requires { IsRunning body.now }
-    ensures { IsTrue result → (script : ScriptView) → AreTold script away.now → frames_look_away script body.now.task.frames ≡ true }
-{
-    let frame = body.top();
-    if frame.pending.is_some() {
-        return true;
-    }
-    match away.get(frame.method.0 as usize) {
-        Some(is_away) => *is_away,
-        None => false,
-    }
-}
-
 impl SearchedHistory {
-    // Whether the next turn of a task looks away.
-    pub(crate) fn looks_away(&self, away: &[bool], task: TaskId) -> bool
-        ensures { IsTrue result → AreTold (arc_value self.now.steps.script) away.now → LooksAway self.now task }
+    // Whether marks say it of the next turn of a task.
+    pub(crate) fn is_marked(&self, marks: &[Vec<bool>], task: TaskId) -> bool
+        ensures { IsTrue result → (kind : MarkKind) → HaveMarks kind (arc_value self.now.steps.script) marks.now → NextIs kind self.now task }
     {
         let place = task.0 as usize;
         if place >= self.steps.tasks.len() {
@@ -75,11 +59,34 @@ impl SearchedHistory {
         let Some(ready) = &self.steps.tasks[place] else {
             return false;
         };
-        ready.body.is_running() && body_looks_away(&ready.body, away)
+        ready.body.is_running() && body_is_marked(&ready.body, marks)
+    }
+
+    // Whether the next turn of a task looks away, whatever is known of that.
+    #[tactic(auto, using(crate::proofs::LooksAway::away_always))]
+    fn always_looks_away(&self, away: &AwayMarks, task: TaskId) -> bool
+        ensures { IsTrue result → AreTold (arc_value self.now.steps.script) away.now → LooksAway self.now task }
+    {
+        self.is_marked(&away.any, task)
+    }
+
+    // Whether it does since the task is cancelled.
+    #[tactic(auto, using(crate::proofs::LooksAway::away_cancelled))]
+    fn looks_at_what_stays(&self, away: &AwayMarks, task: TaskId) -> bool
+        ensures { IsTrue result → AreTold (arc_value self.now.steps.script) away.now → LooksAway self.now task }
+    {
+        self.is_marked(&away.cancelled, task) && is_cancelled(&self.steps.book, task)
+    }
+
+    // Whether the next turn of a task looks away.
+    pub(crate) fn looks_away(&self, away: &AwayMarks, task: TaskId) -> bool
+        ensures { IsTrue result → AreTold (arc_value self.now.steps.script) away.now → LooksAway self.now task }
+    {
+        self.always_looks_away(away, task) || self.looks_at_what_stays(away, task)
     }
 
     // The step of a search that does this first.
-    fn plan_of(&self, away: &[bool], step: Move) -> Step
+    fn plan_of(&self, away: &AwayMarks, step: Move) -> Step
         ensures { AreTold (arc_value self.now.steps.script) away.now → IsPlanOf self.now step result }
     {
         match step {
@@ -89,7 +96,7 @@ impl SearchedHistory {
     }
 
     // The same of each of these.
-    fn plans_of(&self, away: &[bool], moves: &[Move]) -> Result<Vec<Step>, AllocError>
+    fn plans_of(&self, away: &AwayMarks, moves: &[Move]) -> Result<Vec<Step>, AllocError>
         ensures { IfOk result (λ steps. AreTold (arc_value self.now.steps.script) away.now → ArePlansOf self.now moves.now steps.items) }
     {
         let mut steps = Vec::with_capacity(self.steps.alloc, moves.len())?;
@@ -101,7 +108,7 @@ impl SearchedHistory {
 
     /// The steps of a search that may follow, in the order of `next`. None is left out. Nothing where there are more tasks than numbers
     /// for them.
-    pub(crate) fn next_fused(&self, away: &[bool]) -> Result<Option<Vec<Step>>, AllocError>
+    pub(crate) fn next_fused(&self, away: &AwayMarks) -> Result<Option<Vec<Step>>, AllocError>
         ensures { IfOk result (λ o. IfSome o (λ steps. AreTold (arc_value self.now.steps.script) away.now → HasEachStep self.now steps.items)) }
     {
         match self.next()? {

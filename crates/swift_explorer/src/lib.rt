@@ -3,12 +3,16 @@
 
 // Silent turns that run at once.
 mod ahead;
-// Which methods look away.
+// Which instructions look away.
 mod away;
 // A schedule that is led to its end.
 mod completion;
+// Histories that are followed to an end.
+mod dive;
 // A search that is made in parts.
 mod exploration;
+// Which tasks are cancelled.
+mod flags;
 // What is left of tasks to do, as numbers.
 mod frames;
 // Steps of a search.
@@ -19,6 +23,8 @@ mod history;
 mod key_set;
 // What decides how a history may go on, as numbers.
 mod keys;
+// Marks of instructions.
+mod marks;
 // Steps of a history.
 mod moves;
 // How a history has ended.
@@ -31,7 +37,7 @@ mod schedule;
 mod search;
 // Which instructions are silent.
 mod silent;
-// What a search has found, as a text.
+// Texts of what a search has found.
 mod text;
 // Roots that no line names.
 mod unnamed;
@@ -42,4 +48,4 @@ pub use keys::laws;
 pub use moves::Move;
 pub use outcome::RunOutcome;
 pub use schedule::schedule_report;
-pub use text::{found_text, put_ended, put_many, put_schedule, schedule_text, search_end};
+pub use text::{put_end, put_ended, put_many, put_schedule, schedule_text};

@@ -1,6 +1,6 @@
 //! The search.
 
-ghost use Rattle.std.specs.Prelude.{◌≡◌, ◌<◌, ◌+◌, ℕ, List, [], ◌∷◌, ◌++◌, All, Contains, IfOk, IfSome, IsTrue, None, OnOk, Some, is_some, length, min, reverse, slice_get, true, false};
+ghost use Rattle.std.specs.Prelude.{◌≡◌, ◌<◌, ◌≤◌, ◌+◌, ℕ, List, [], ◌∷◌, ◌++◌, All, Contains, IfOk, IfSome, IsTrue, None, OnOk, Some, is_some, length, min, reverse, slice_get, true, false};
 ghost use Rattle.std.specs.Arc.{arc_value};
 ghost use Rattle.swift_history.specs.Histories.{Block, ReportView};
 ghost use Rattle.swift_explorer.specs.Outcomes.{EachOnce, IfReached, IsBrokenAfter, IsOutcomeOf, RunsShort, Tells};
@@ -8,21 +8,20 @@ ghost use Rattle.swift_explorer.specs.declared.outcome.RunOutcome.{RunOutcome};
 ghost use Rattle.swift_explorer.specs.HistoryInside.{IsPath, WasDone};
 ghost use Rattle.swift_explorer.specs.EndsInside.{HasEnd, IsKnownEnd};
 ghost use Rattle.swift_explorer.specs.AheadInside.{StartsHold};
-ghost use Rattle.swift_explorer.specs.FusedInside.{AreTold, first_half};
-ghost use Rattle.swift_explorer.specs.SilentInside.{HaveMarks};
+ghost use Rattle.swift_explorer.specs.FusedInside.{first_half};
+ghost use Rattle.swift_explorer.specs.MarksInside.{AreTold, HaveSilentMarks};
 ghost use Rattle.swift_explorer.specs.KeysInside.{IsKeyOf, outcome_bytes, end_numbers};
 ghost use Rattle.swift_explorer.specs.SearchInside.{AreKeyed, GoOn, GoesFrom, HasGoneOn, HasGrown, IsAhead, IsExpandedAt, IsFollowedAhead, IsFollowedBy, IsNoted, IsSound, Keeps, MayGoOn, StepWasTried, WasTriedLast, path_after, paths_of};
 ghost use Rattle.swift_explorer.specs.Numbers.{list_numbers};
 
-use crate::away::methods_look_away;
 use crate::fused::Step;
 use crate::history::{Followed, SearchedHistory};
 use crate::key_set::{Key, KeySet};
 use crate::keys::{pack, put_ending, put_fields, put_origin};
+use crate::marks::{AwayMarks, MarkKind, away_marks, methods_marks};
 use crate::moves::Move;
 use crate::outcome::{End, RunOutcome};
 use crate::queue::{KeptHistory, put_history, spare_copy, take_history};
-use crate::silent::methods_marks;
 use std::alloc::{AllocError, Global};
 use std::collections::HashMap;
 use std::sync::Arc;
@@ -43,8 +42,8 @@ pub(crate) struct Search {
     pub(crate) alloc: Global,
     pub(crate) script: Arc<Script>,
     pub(crate) limit: usize,
-    // Of each method, whether it looks away.
-    pub(crate) away: Vec<bool>,
+    // Which turns look away.
+    pub(crate) away: AwayMarks,
     // Of each method, which of its instructions are silent.
     pub(crate) marks: Vec<Vec<bool>>,
     pub(crate) nodes: Vec<Node>,
@@ -77,7 +76,7 @@ fn push_back(path: &mut Vec<Move>, moves: &[Move]) -> Result<(), AllocError>
 }
 
 // The steps to a node.
-fn path_to(alloc: Global, nodes: &[Node], place: usize) -> Result<Vec<Move>, AllocError>
+pub(crate) fn path_to(alloc: Global, nodes: &[Node], place: usize) -> Result<Vec<Move>, AllocError>
     requires there { place < length nodes.now }
     requires on { GoOn nodes.now }
     ensures { IfOk result (λ path. slice_get (paths_of nodes.now) place ≡ Some path.items) }
@@ -230,7 +229,7 @@ fn followed(
 // Follows one more step than these, which were followed, and then silent turns, which are put to the last steps.
 fn follow_ahead(
     history: &mut SearchedHistory,
-    away: &[bool],
+    away: &AwayMarks,
     marks: &[Vec<bool>],
     path: &[Move],
     last: Move,
@@ -238,7 +237,7 @@ fn follow_ahead(
 ) -> Result<Followed, AllocError>
     requires path { IsPath (arc_value history.old.steps.script) path.now history.old }
     requires told { AreTold (arc_value history.old.steps.script) away.now }
-    requires marked { HaveMarks (arc_value history.old.steps.script) marks.now }
+    requires marked { HaveSilentMarks (arc_value history.old.steps.script) marks.now }
     requires hold { StartsHold (arc_value history.old.steps.script) }
     ensures broken { IfOk result (λ f. f ≡ Followed.Broken → IsBrokenAfter (arc_value history.old.steps.script) (path.now ++ last ∷ [])) }
     ensures ahead { IfOk result (λ f. WasDone f → IsFollowedAhead (arc_value history.old.steps.script) path.now last history.new f moves.old.items moves.new.items) }
@@ -267,7 +266,7 @@ struct Ahead {
 // What comes after these steps, which were followed. Nothing where that is not known.
 fn look_ahead(
     history: &SearchedHistory,
-    away: &[bool],
+    away: &AwayMarks,
     path: &[Move],
 ) -> Result<Option<Ahead>, AllocError>
     requires path { IsPath (arc_value history.now.steps.script) path.now history.now }
@@ -299,8 +298,8 @@ impl Search {
         ensures sound { IfOk result (IsSound (arc_value script.now)) }
     {
         script.facts();
-        let away = methods_look_away(alloc, script)?;
-        let marks = methods_marks(alloc, script)?;
+        let away = away_marks(alloc, script)?;
+        let marks = methods_marks(alloc, MarkKind::Silent, script)?;
         Ok(Search {
             alloc,
             script: Arc::clone(script)?,
@@ -427,7 +426,7 @@ impl Search {
 
     // Writes an outcome, where it is a new one.
     #[tactic(auto, using(crate::proofs::Sound::listed_push))]
-    fn note_outcome(&mut self, outcome: RunOutcome) -> Result<(), AllocError>
+    pub(crate) fn note_outcome(&mut self, outcome: RunOutcome) -> Result<(), AllocError>
         requires outcome { IsOutcomeOf (arc_value self.old.script) outcome }
         requires outcomes { All (IsOutcomeOf (arc_value self.old.script)) self.old.outcomes.items }
         requires ends { (key : List ℕ) → Contains self.old.ends key → IsNoted self.old.outcomes.items key }
@@ -555,7 +554,7 @@ impl Search {
     }
 
     // The history to which these steps lead: the one that was kept at this place, or else one that follows them.
-    fn history_at(
+    pub(crate) fn history_at(
         &mut self,
         place: usize,
         path: &[Move],
@@ -611,19 +610,28 @@ impl Search {
         self.go_on_from(KeptHistory { history }, &path, place)
     }
 
-    // Goes on from the history at a place and from those after it, from `more` at most. The place after the last of these.
+    // Goes on from the history at a place and from those after it, from `more` at most, up to one from which a history is left out since as
+    // many were kept as may be. The place after the last from which none was.
     pub(crate) fn go_through(&mut self, from: usize, more: usize) -> Result<usize, AllocError>
         requires { HasGoneOn (arc_value self.old.script) self.old from }
         ensures grown { OnOk result (HasGrown self.old self.new) }
         ensures gone_on { IfOk result (HasGoneOn (arc_value self.new.script) self.new) }
-        ensures far { IfOk result (λ next. next ≡ min (from + more) (length self.new.nodes.items)) }
+        ensures far { IfOk result (λ next. self.new.met_limit ≡ false → next ≡ min (from + more) (length self.new.nodes.items)) }
+        ensures between { IfOk result (λ next. (from ≤ next) × (next ≤ from + more)) }
+        ensures left { IfOk result (λ next. IsTrue self.new.met_limit → self.old.met_limit ≡ false → next < length self.new.nodes.items) }
     {
         let mut next = from;
         for _ in 0..more {
+            if self.met_limit {
+                return Ok(next);
+            }
             if next >= self.nodes.len() {
                 return Ok(next);
             }
             self.expand(next)?;
+            if self.met_limit {
+                return Ok(next);
+            }
             next += 1;
         }
         Ok(next)

@@ -1,8 +1,8 @@
-//! What a search has found, as a text.
+//! Texts of what a search has found.
 
-ghost use Rattle.std.specs.Prelude.{◌≡◌, ◌<◌, ◌≤◌, ◌^◌, ◌++◌, OnOk, IfOk, decimal, length, map};
+ghost use Rattle.std.specs.Prelude.{◌≡◌, ◌<◌, ◌≤◌, ◌++◌, OnOk, IfOk, decimal, length, map};
 ghost use Rattle.script_code.specs.Seen.{rows_of};
-ghost use Rattle.swift_explorer.specs.FoundText.{begins, began_before, broken_text, end_text, ended_text, found_text, many_text, outcome_text, outcomes_text, runs, runs_at_once, schedule_text, search_text, step_text, steps_text, turn_text, turns_before};
+ghost use Rattle.swift_explorer.specs.FoundText.{begins, began_before, end_text, end_words, ended_text, is_at_limit, many_text, runs, runs_at_once, schedule_text, step_text, steps_text, to_go_text, turn_text, turns_before};
 
 use crate::exploration::FoundOutcomes;
 use crate::moves::Move;
@@ -162,7 +162,7 @@ pub fn put_schedule(out: &mut Vec<u8>, path: &[Move]) -> Result<(), AllocError>
     out.extend_from_slice(b"\n")
 }
 
-/// A schedule, as the line of its turns that `found_text` has, with its line feed (our own).
+/// The line of a schedule, as `put_schedule` has it (our own).
 ///
 /// # Errors
 ///
@@ -209,54 +209,9 @@ pub fn put_ended(
     out.extend_from_slice(&text)
 }
 
-// An outcome, with its number.
-fn put_outcome(
-    alloc: Global,
-    out: &mut Vec<u8>,
-    script: &Script,
-    place: usize,
-    outcome: &RunOutcome,
-) -> Result<(), AllocError>
-    requires { place < 2 ^ 63 }
-    ensures { OnOk result (out.new.items ≡ out.old.items ++ outcome_text script.now place outcome.now) }
-{
-    out.extend_from_slice(b"\noutcome ")?;
-    put_number(out, place + 1)?;
-    out.extend_from_slice(b"\n")?;
-    put_schedule(out, &outcome.schedule)?;
-    put_ended(alloc, out, script, outcome)
-}
-
-fn put_outcomes(
-    alloc: Global,
-    out: &mut Vec<u8>,
-    script: &Script,
-    outcomes: &[RunOutcome],
-) -> Result<(), AllocError>
-    ensures { OnOk result (out.new.items ≡ out.old.items ++ outcomes_text script.now 0 outcomes.now) }
-{
-    for place in 0..outcomes.len() {
-        put_outcome(alloc, out, script, place, &outcomes[place])?;
-    }
-    Ok(())
-}
-
-// What is known of turns that are undone.
-fn put_broken(out: &mut Vec<u8>, found: &FoundOutcomes) -> Result<(), AllocError>
-    ensures { OnOk result (out.new.items ≡ out.old.items ++ broken_text found.now.broken) }
-{
-    match &found.broken {
-        Some(schedule) => {
-            out.extend_from_slice(b"a turn is undone by invariant\n")?;
-            put_schedule(out, schedule)
-        }
-        None => out.extend_from_slice(b"no turn was found that is undone by invariant\n"),
-    }
-}
-
-/// Whether a search came to its end, and else why not.
-pub fn search_end(found: &FoundOutcomes) -> &'static [u8]
-    ensures { result.now ≡ end_text found.now }
+// Whether a search came to its end, and else why not.
+fn end_words(found: &FoundOutcomes) -> &'static [u8]
+    ensures { result.now ≡ end_words found.now }
 {
     if found.is_complete {
         b", found by a search that came to its end after "
@@ -269,34 +224,37 @@ pub fn search_end(found: &FoundOutcomes) -> &'static [u8]
     }
 }
 
-// How far the search came.
-fn put_search(out: &mut Vec<u8>, found: &FoundOutcomes) -> Result<(), AllocError>
-    ensures { OnOk result (out.new.items ≡ out.old.items ++ search_text found.now) }
-{
-    put_many(out, found.outcomes.len(), b"outcome", b"outcomes")?;
-    out.extend_from_slice(search_end(found))?;
-    put_many(out, found.states, b"state\n", b"states\n")
+impl FoundOutcomes {
+    /// Whether the search has left a history out since it could keep no more, and has not come to its end.
+    pub fn is_at_limit(&self) -> bool
+        ensures { result ≡ is_at_limit self.now }
+    {
+        !self.is_complete && self.met_limit
+    }
 }
 
-/// What a search has found: how many outcomes, and whether the search came to its end; whether a turn was undone by `invariant`, with
-/// the schedule to one that was found; and each outcome, with the schedule to it that was found, as a report without journals (our own).
-///
-/// A schedule is a line of turns, by task and number. A turn during which others begin or end stands twice: as it begins, with two dots
-/// after it, and as it ends, with two dots before it.
+// From how many states a search has still to go on, where it has met its limit; and the end of the line.
+fn put_to_go(out: &mut Vec<u8>, found: &FoundOutcomes) -> Result<(), AllocError>
+    ensures { OnOk result (out.new.items ≡ out.old.items ++ to_go_text found.now) }
+{
+    if !found.is_at_limit() {
+        return out.extend_from_slice(b"\n");
+    }
+    out.extend_from_slice(b", ")?;
+    put_number(out, found.to_go)?;
+    out.extend_from_slice(b" of them still to go\n")
+}
+
+/// Appends how far a search came, to the end of the line: whether to its end, and else why not; after how many states; and, where it has
+/// met its limit, from how many of them it has still to go on.
 ///
 /// # Errors
 ///
-/// `AllocError` where no memory is left for the text.
-pub fn found_text(
-    alloc: Global,
-    script: &Script,
-    found: &FoundOutcomes,
-) -> Result<Vec<u8>, AllocError>
-    ensures { IfOk result (λ text. text.items ≡ found_text script.now found.now) }
+/// `AllocError` where no memory is left for it, of which a part may be there.
+pub fn put_end(out: &mut Vec<u8>, found: &FoundOutcomes) -> Result<(), AllocError>
+    ensures { OnOk result (out.new.items ≡ out.old.items ++ end_text found.now) }
 {
-    let mut out = Vec::new(alloc);
-    put_search(&mut out, found)?;
-    put_broken(&mut out, found)?;
-    put_outcomes(alloc, &mut out, script, &found.outcomes)?;
-    Ok(out)
+    out.extend_from_slice(end_words(found))?;
+    put_many(out, found.states, b"state", b"states")?;
+    put_to_go(out, found)
 }

@@ -2,7 +2,9 @@
 
 use crate::code::{Instruction, Kind, NONE, Target, UnitKind, Value, Wait};
 use crate::lowering::{Fallback, Lowering};
-use crate::naming::{actor_of, instance_named, method_at, method_named, refuse_hidden};
+use crate::naming::{
+    actor_of, function_named, instance_named, is_hidden, method_at, method_named, refuse_hidden,
+};
 use crate::operands::Operands;
 use crate::scope::{Standing, binding_at, find};
 use crate::typed::{Typed, kind_of, refused, with_kind};
@@ -14,7 +16,7 @@ use swift_syntax::{Access, MethodDecl, Receiver, Rule};
 pub(crate) enum Called {
     /// Nothing, where a refusal was noted.
     Nothing,
-    /// A method of the own actor.
+    /// A method of the own actor, or a function outside of actors.
     Own(usize),
     /// A method of an instance.
     Other(usize, usize),
@@ -62,6 +64,18 @@ fn own_method(lowering: &mut Lowering<'_>, token: usize) -> Method {
     }
 }
 
+// A method of the own actor; else a function outside of actors, which it would hide.
+fn own_or_function(lowering: &mut Lowering<'_>, token: usize) -> Method {
+    let actor = lowering.setting.actor;
+    if method_named(lowering, actor, token).is_none() {
+        if let Some(place) = function_named(lowering, token) {
+            refuse_hidden(lowering, token);
+            return as_method(Called::Own(place));
+        }
+    }
+    own_method(lowering, token)
+}
+
 // Why nothing of this name can be called.
 fn rule_of_unknown(lowering: &Lowering<'_>, token: usize) -> Rule {
     if lowering
@@ -72,7 +86,7 @@ fn rule_of_unknown(lowering: &Lowering<'_>, token: usize) -> Rule {
     {
         return Rule::ActorValue;
     }
-    if lowering.setting.is_closure {
+    if lowering.setting.is_closure && is_hidden(lowering, token) {
         Rule::Captured
     } else {
         Rule::UnknownName
@@ -124,7 +138,7 @@ pub(crate) fn method_of(lowering: &mut Lowering<'_>, receiver: Receiver, token: 
             if find(lowering, token).is_some() {
                 lowering.refuse(Rule::NameTwice, token);
             }
-            return own_method(lowering, token);
+            return own_or_function(lowering, token);
         }
         Receiver::Own => return own_method(lowering, token),
         Receiver::Named(of) => of,
@@ -192,7 +206,7 @@ pub fn want_arguments(
     }
 }
 
-// A call of a method of the own actor.
+// A call of a method of the own actor, or of a function.
 fn call_own(
     lowering: &mut Lowering<'_>,
     place: usize,
@@ -208,6 +222,10 @@ fn call_own(
         if !declared.is_async {
             lowering.refuse(Rule::NotYet, token);
         }
+        return wait(lowering, Wait::Own(place, given.first), kind);
+    }
+    // A function that is `async` runs outside of the actor that calls it.
+    if declared.is_async && declared.actor == NONE {
         return wait(lowering, Wait::Own(place, given.first), kind);
     }
     if kind == Kind::Void {

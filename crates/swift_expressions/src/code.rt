@@ -61,7 +61,7 @@ pub enum Wait {
     Method(usize, usize, usize),
     /// A field of an instance.
     Getter(usize, usize),
-    /// A method of the own instance, with the first of its operands.
+    /// A method of the own instance, or a function outside of actors, with the first of its operands.
     Own(usize, usize),
     /// A method that a closure became, with the first of its operands.
     Unit(usize, usize),
@@ -74,7 +74,7 @@ pub enum Wait {
 /// What a task runs, with the first of its operands.
 #[derive(Clone, Copy)]
 pub enum Callee {
-    /// A method of an instance.
+    /// A method of an instance; of `NONE`, a function outside of actors.
     Method(usize, usize, usize),
     /// A method that a closure became.
     Unit(usize, usize),
@@ -95,7 +95,7 @@ pub enum Instruction {
     Require(usize, usize),
     /// A wait; the value stands for its result where it ends with a fault, unless there is none.
     Wait(Target, Wait, usize),
-    /// A method of the own actor, with the first of its operands, is put in here.
+    /// A method of the own actor, or a function, with the first of its operands, is put in here.
     Inline(Target, usize, usize, usize),
     /// A task begins: the variable that names it, whether it is detached, and its priority where it has one of its own.
     Make(usize, bool, Callee, Option<Priority>),
@@ -132,7 +132,7 @@ pub enum Instruction {
 /// What a unit is.
 #[derive(Clone, Copy)]
 pub enum UnitKind {
-    /// A method of an actor.
+    /// A method of an actor, or a function outside of actors.
     Method(usize),
     /// A closure.
     Closure,

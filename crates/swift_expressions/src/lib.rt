@@ -36,8 +36,8 @@ pub use lines::Spot;
 pub use lowering::{Fallback, Lowering, Returns, Setting, setting_of};
 pub use name::{field_kind, local_kind, priority_named};
 pub use naming::{
-    actor_of, constant_named, field_at, field_named, has_member, instance_at, instance_named,
-    is_hidden, is_kept, local_named, method_at, method_named, refuse_hidden,
+    actor_of, constant_named, field_at, field_named, function_named, has_member, instance_at,
+    instance_named, is_hidden, is_kept, local_named, method_at, method_named, refuse_hidden,
 };
 pub use operands::Operands;
 pub use scope::{

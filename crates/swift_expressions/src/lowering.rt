@@ -40,6 +40,8 @@ pub struct Setting {
     pub is_async: bool,
     /// Whether the unit may throw.
     pub is_throwing: bool,
+    /// The token of the `do` that catches what is thrown here, or `NONE`.
+    pub catching: usize,
     /// Whether it is a closure, or `main`.
     pub is_closure: bool,
     /// Whether it is an expectation: then it reads fields of instances as they are at the end.
@@ -101,6 +103,7 @@ pub fn setting_of(unit: usize, actor: usize) -> Setting {
         boundary: 0,
         is_async: false,
         is_throwing: false,
+        catching: NONE,
         is_closure: false,
         is_expectation: false,
         is_awaited: false,
@@ -139,6 +142,18 @@ impl<'a> Lowering<'a> {
     pub fn refuse(&mut self, rule: Rule, place: usize) {
         if self.refused.is_none() {
             self.refused = Some(Breach { rule, token: place });
+        }
+    }
+
+    /// Refuses what is thrown at a token where its unit may not throw. What a `do` catches is a wait of its own.
+    pub fn refuse_thrown(&mut self, place: usize) {
+        if self.setting.is_throwing {
+            return;
+        }
+        if self.setting.catching == NONE {
+            self.refuse(Rule::Try, place);
+        } else {
+            self.refuse(Rule::NotYet, self.setting.catching);
         }
     }
 

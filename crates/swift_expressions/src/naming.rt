@@ -6,6 +6,19 @@ use swift_syntax::{FieldDecl, InstanceDecl, MethodDecl, Rule};
 
 /// The place of the method of an actor with the bytes of a token.
 pub fn method_named(lowering: &Lowering<'_>, actor: usize, token: usize) -> Option<usize> {
+    if actor == NONE {
+        return None;
+    }
+    declared_in(lowering, actor, token)
+}
+
+/// The place of the function outside of actors with the bytes of a token.
+pub fn function_named(lowering: &Lowering<'_>, token: usize) -> Option<usize> {
+    declared_in(lowering, NONE, token)
+}
+
+// The place of the method of an actor, or of the function where that is `NONE`, with the bytes of a token.
+fn declared_in(lowering: &Lowering<'_>, actor: usize, token: usize) -> Option<usize> {
     lowering
         .tree
         .methods

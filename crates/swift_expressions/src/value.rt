@@ -53,15 +53,12 @@ fn binary(
     token: usize,
     depth: u32,
 ) -> Typed {
-    if depth == 0 {
-        return refused(lowering, Rule::TooLarge, token);
-    }
     let is_changing = acts(lowering, right);
-    let mut first = value(lowering, left, depth - 1);
+    let mut first = value(lowering, left, depth);
     if is_changing {
         first = keep(lowering, first);
     }
-    let second = value(lowering, right, depth - 1);
+    let second = value(lowering, right, depth);
     let kind = result_kind(lowering, operator, first, second, token);
     with_kind(
         lowering,
@@ -101,10 +98,7 @@ fn shortcut(
     token: usize,
     depth: u32,
 ) -> Typed {
-    if depth == 0 {
-        return refused(lowering, Rule::TooLarge, token);
-    }
-    let first = value(lowering, left, depth - 1);
+    let first = value(lowering, left, depth);
     want(lowering, first, Kind::Bool, token);
     let variable = lowering.temporary();
     lowering.put(Instruction::Let(variable, first.value));
@@ -117,7 +111,7 @@ fn shortcut(
     // It is an autoclosure, which an `await` on its left does not cover; one of its own stands only behind a comma.
     let before = lowering.setting.is_awaited;
     lowering.setting.is_awaited = false;
-    let second = value(lowering, right, depth - 1);
+    let second = value(lowering, right, depth);
     lowering.setting.is_awaited = before;
     want(lowering, second, Kind::Bool, token);
     lowering.put(Instruction::Set(variable, second.value));
@@ -138,19 +132,16 @@ fn choice(
     token: usize,
     depth: u32,
 ) -> Typed {
-    if depth == 0 {
-        return refused(lowering, Rule::TooLarge, token);
-    }
-    let found = value(lowering, test, depth - 1);
+    let found = value(lowering, test, depth);
     want(lowering, found, Kind::Bool, token);
     let variable = lowering.temporary();
     let zero = lowering.number(0);
     lowering.put(Instruction::Let(variable, zero));
     lowering.put(Instruction::If(found.value));
-    let first = value(lowering, held, depth - 1);
+    let first = value(lowering, held, depth);
     lowering.put(Instruction::Set(variable, first.value));
     lowering.put(Instruction::Else);
-    let second = value(lowering, failed, depth - 1);
+    let second = value(lowering, failed, depth);
     lowering.put(Instruction::Set(variable, second.value));
     lowering.put(Instruction::End);
     want(lowering, second, first.kind, token);
@@ -160,15 +151,12 @@ fn choice(
 // A value that `await` covers.
 #[cycle(value)]
 fn awaited(lowering: &mut Lowering<'_>, inner: usize, token: usize, depth: u32) -> Typed {
-    if depth == 0 {
-        return refused(lowering, Rule::TooLarge, token);
-    }
     if !lowering.setting.is_async {
         lowering.refuse(Rule::Await, token);
     }
     let before = lowering.setting.is_awaited;
     lowering.setting.is_awaited = true;
-    let found = value(lowering, inner, depth - 1);
+    let found = value(lowering, inner, depth);
     lowering.setting.is_awaited = before;
     found
 }
@@ -176,17 +164,12 @@ fn awaited(lowering: &mut Lowering<'_>, inner: usize, token: usize, depth: u32) 
 // A value that `try` covers.
 #[cycle(value)]
 fn tried(lowering: &mut Lowering<'_>, inner: usize, token: usize, depth: u32) -> Typed {
-    if depth == 0 {
-        return refused(lowering, Rule::TooLarge, token);
-    }
-    if !lowering.setting.is_throwing {
-        lowering.refuse(Rule::Try, token);
-    }
+    lowering.refuse_thrown(token);
     // Swift takes a closure with a `try` for one that throws, whatever is tried.
     lowering.setting.has_thrown = true;
     let before = lowering.setting.is_tried;
     lowering.setting.is_tried = true;
-    let found = value(lowering, inner, depth - 1);
+    let found = value(lowering, inner, depth);
     lowering.setting.is_tried = before;
     found
 }
@@ -200,10 +183,7 @@ fn prefixed(
     token: usize,
     depth: u32,
 ) -> Typed {
-    if depth == 0 {
-        return refused(lowering, Rule::TooLarge, token);
-    }
-    let found = value(lowering, inner, depth - 1);
+    let found = value(lowering, inner, depth);
     if is_not {
         want(lowering, found, Kind::Bool, token);
         with_kind(lowering, Value::Not(found.value), Kind::Bool)
@@ -247,21 +227,18 @@ fn otherwise(
     token: usize,
     depth: u32,
 ) -> Typed {
-    if depth == 0 {
-        return refused(lowering, Rule::TooLarge, token);
-    }
     let (inner, is_caught) = caught(lowering, left);
     want_wait(lowering, inner);
     if is_acting(lowering, right) {
         lowering.refuse(Rule::NotYet, token);
     }
-    let fallback = value(lowering, right, depth - 1);
+    let fallback = value(lowering, right, depth);
     lowering.setting.fallback = if is_caught {
         Fallback::Fault(fallback.value)
     } else {
         Fallback::Nil(fallback.value)
     };
-    let found = value(lowering, inner, depth - 1);
+    let found = value(lowering, inner, depth);
     // It was taken by the wait.
     if !matches!(lowering.setting.fallback, Fallback::None) {
         lowering.refuse(Rule::NotYet, token);
@@ -274,16 +251,12 @@ fn otherwise(
 #[cycle(value)]
 fn lower_operands(lowering: &mut Lowering<'_>, first: usize, depth: u32) -> Operands {
     let mut found = Operands::none();
-    if depth == 0 {
-        lowering.refuse(Rule::TooLarge, 0);
-        return found;
-    }
     let mut place = first;
     for _ in 0..lowering.tree.arguments.len() {
         let Some(argument) = lowering.tree.argument(place) else {
             return found;
         };
-        let mut given = value(lowering, argument.value, depth - 1);
+        let mut given = value(lowering, argument.value, depth);
         if argument.next != 0 {
             given = keep(lowering, given);
         }

@@ -227,9 +227,7 @@ fn thrown(lowering: &mut Lowering<'_>, place: usize) -> i64 {
 /// `throw e`
 pub(crate) fn throw(lowering: &mut Lowering<'_>, place: usize) {
     lowering.setting.has_thrown = true;
-    if !lowering.setting.is_throwing {
-        lowering.refuse(Rule::Try, lowering.tree.expr(place).token);
-    }
+    lowering.refuse_thrown(lowering.tree.expr(place).token);
     let number = thrown(lowering, place);
     let value = lowering.number(number);
     lowering.put(Instruction::Throw(value));
@@ -237,6 +235,14 @@ pub(crate) fn throw(lowering: &mut Lowering<'_>, place: usize) {
 
 /// Gives what came in a `do` to where it goes.
 pub(crate) fn end_caught(lowering: &mut Lowering<'_>, held: Option<Held>) {
+    begin_given(lowering, held);
+    if held.is_some() {
+        lowering.put(Instruction::End);
+    }
+}
+
+/// The beginning of what is done where what came in a `do` was given to where it goes.
+pub(crate) fn begin_given(lowering: &mut Lowering<'_>, held: Option<Held>) {
     let Some(held) = held else {
         return;
     };
@@ -246,5 +252,4 @@ pub(crate) fn end_caught(lowering: &mut Lowering<'_>, held: Option<Held>) {
         StmtForm::Value(into, _) => give(lowering, into, held.found, held.stmt),
         _ => {}
     }
-    lowering.put(Instruction::End);
 }

@@ -8,7 +8,7 @@ use swift_expressions::{
     Fallback, Instruction, Kind, Lowering, NONE, Target, Typed, Value, Wait, count_down, count_up,
     expression, want_wait, with_kind,
 };
-use swift_syntax::{Assigning, ExprForm, Into, Rule, Stmt, StmtForm};
+use swift_syntax::{Assigning, ExprForm, Rule, Stmt, StmtForm};
 use swift_types::Operator;
 
 /// What was caught or came.
@@ -20,21 +20,15 @@ pub(crate) struct Held {
     pub stmt: Stmt,
 }
 
-// The one statement of a block, with what it waits for.
-fn lone_wait(lowering: &Lowering<'_>, first: usize) -> Option<(Stmt, usize)> {
-    let Some(stmt) = lowering.tree.stmt(first) else {
-        return None;
-    };
-    if stmt.next != 0 {
-        return None;
-    }
+/// What a statement of a `do` waits for, if a fault of that is caught.
+pub(crate) fn caught_wait(lowering: &Lowering<'_>, stmt: Stmt) -> Option<usize> {
     let place = match stmt.form {
-        StmtForm::Value(Into::Nothing | Into::Return, place) => place,
+        StmtForm::Value(_, place) => place,
         StmtForm::Assign(Assigning::Set, _, place) => place,
         _ => return None,
     };
     match lowering.tree.expr(place).form {
-        ExprForm::Try(inner) => Some((stmt, inner)),
+        ExprForm::Try(inner) => Some(inner),
         _ => None,
     }
 }
@@ -165,12 +159,13 @@ fn lower_wait(lowering: &mut Lowering<'_>, place: usize) -> Typed {
     found
 }
 
-/// The beginning of what is done where a fault is caught.
-pub(crate) fn begin_caught(lowering: &mut Lowering<'_>, body: usize, token: usize) -> Option<Held> {
-    let Some((stmt, place)) = lone_wait(lowering, body) else {
-        lowering.refuse(Rule::NotYet, token);
-        return None;
-    };
+/// Waits as a statement of the `do` at a token does. The beginning of what is done where a fault is caught.
+pub(crate) fn begin_caught(
+    lowering: &mut Lowering<'_>,
+    stmt: Stmt,
+    place: usize,
+    token: usize,
+) -> Option<Held> {
     let before = lowering.here();
     let found = lower_wait(lowering, place);
     // A wait of the statement itself, and not of one before it.

@@ -4,7 +4,7 @@ use swift_expressions::{
     Kind, Lowering, NONE, actor_of, field_kind, has_label, has_member, instance_at, instance_named,
     is_kept, kind_of, literal,
 };
-use swift_syntax::{ExprForm, FieldDecl, FieldStart, Rule, ValueType};
+use swift_syntax::{ExprForm, FieldDecl, FieldStart, MethodDecl, Rule, ValueType};
 
 // Refuses a name that a table has twice, by its places.
 fn refuse_same(lowering: &mut Lowering<'_>, left: usize, right: usize) {
@@ -81,6 +81,19 @@ fn check_global(lowering: &mut Lowering<'_>, name: usize) {
     refuse_kept(lowering, name);
 }
 
+// Whether a name has what stands before the line in that of a closure.
+fn has_line(name: &[u8]) -> bool {
+    (0..name.len()).any(|place| name[place..].starts_with(b"_line"))
+}
+
+// Refuses the name of a function that another declaration has, or that could be a closure's.
+fn check_function(lowering: &mut Lowering<'_>, method: MethodDecl) {
+    check_global(lowering, method.name);
+    if method.is_async && has_line(lowering.bytes(method.name)) {
+        lowering.refuse(Rule::NameTwice, method.name);
+    }
+}
+
 /// Refuses global names that are there twice, or are kept.
 pub(crate) fn check_globals(lowering: &mut Lowering<'_>) {
     let tree = lowering.tree;
@@ -105,6 +118,11 @@ pub(crate) fn check_globals(lowering: &mut Lowering<'_>) {
             if case.of == other.of {
                 refuse_same(lowering, case.name, other.name);
             }
+        }
+    }
+    for method in tree.methods.iter() {
+        if method.actor == NONE {
+            check_function(lowering, *method);
         }
     }
     for local in tree.locals.iter() {

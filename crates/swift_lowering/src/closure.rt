@@ -4,8 +4,8 @@ use crate::capture::{capture_all, refuse_unknown};
 use crate::returns::exits;
 use swift_expressions::{
     Callee, Instruction, Kind, Lowering, NONE, Setting, Standing, UnitKind, actor_of,
-    call_operands, constant_named, expression, instance_named, is_hidden, kind_of, leave,
-    method_at, method_named, setting_of, standing_at, want_arguments,
+    call_operands, constant_named, expression, function_named, instance_named, is_hidden, kind_of,
+    leave, method_at, method_named, setting_of, standing_at, want_arguments,
 };
 use swift_syntax::{Access, ExprForm, Into, MethodDecl, Receiver, Rule, StmtForm};
 
@@ -140,7 +140,7 @@ fn called_instance(lowering: &Lowering<'_>, place: usize) -> Option<usize> {
     }
 }
 
-// A call of a method of an instance, with the first of its arguments and the token of its name.
+// A call of a method of an instance, or of a function for that of `NONE`, with the first of its arguments and the token of its name.
 #[derive(Clone, Copy)]
 struct InstanceCall {
     instance: usize,
@@ -150,8 +150,38 @@ struct InstanceCall {
     token: usize,
 }
 
+// The function that is all that a closure calls, with values that are the same wherever they are computed.
+fn called_function(lowering: &Lowering<'_>, place: usize) -> Option<InstanceCall> {
+    let expr = lowering.tree.expr(place);
+    let ExprForm::Call(Receiver::Nobody, first) = expr.form else {
+        return None;
+    };
+    let token = expr.token;
+    if standing_at(lowering, token).is_some()
+        || is_hidden(lowering, token)
+        || !are_fixed(lowering, first)
+    {
+        return None;
+    }
+    let method = function_named(lowering, token)?;
+    let declared = method_at(lowering, method)?;
+    if !declared.is_async {
+        return None;
+    }
+    Some(InstanceCall {
+        instance: NONE,
+        method,
+        declared,
+        first,
+        token,
+    })
+}
+
 // What a closure calls, if that is all that it does.
 fn called(lowering: &Lowering<'_>, place: usize) -> Option<InstanceCall> {
+    if let Some(call) = called_function(lowering, place) {
+        return Some(call);
+    }
     let instance = called_instance(lowering, place)?;
     let expr = lowering.tree.expr(place);
     let ExprForm::Call(_, first) = expr.form else {
@@ -169,14 +199,15 @@ fn called(lowering: &Lowering<'_>, place: usize) -> Option<InstanceCall> {
     })
 }
 
-/// A closure that only calls a method of an instance is that method.
+/// A closure that only calls a method of an instance is that method; one that only calls a function that is `async` is that function, which
+/// runs outside of actors as the closure does.
 pub(crate) fn direct(lowering: &mut Lowering<'_>, body: ClosureBody) -> Option<MadeClosure> {
     refuse_unknown(lowering, body.captures);
-    if body.is_among_others {
-        return None;
-    }
     let (place, is_awaited, is_tried) = uncovered(lowering, body.value);
     let call = called(lowering, place)?;
+    if body.is_among_others && call.instance != NONE {
+        return None;
+    }
     let is_tried = is_tried && body.may_throw;
     if !body.is_implicit && (!is_awaited || (call.declared.is_throwing && !is_tried)) {
         return None;
@@ -184,7 +215,7 @@ pub(crate) fn direct(lowering: &mut Lowering<'_>, body: ClosureBody) -> Option<M
     Some(hand_over(lowering, call, is_tried))
 }
 
-// The method of an instance as what a task runs.
+// What is called as what a task runs.
 fn hand_over(lowering: &mut Lowering<'_>, call: InstanceCall, is_tried: bool) -> MadeClosure {
     let InstanceCall {
         instance,

@@ -73,7 +73,7 @@ fn lower_method(lowering: &mut Lowering<'_>, unit: usize, method: MethodDecl) {
     }
 }
 
-// The instructions of methods, then those of `main`.
+// The instructions of methods and functions, then those of `main`.
 fn lower_methods(lowering: &mut Lowering<'_>) {
     let tree = lowering.tree;
     for (place, method) in tree.methods.iter().enumerate() {

@@ -95,6 +95,7 @@ pub(crate) fn require(lowering: &mut Lowering<'_>, first: usize, token: usize) {
     let outer = lowering.setting;
     lowering.setting.is_async = false;
     lowering.setting.is_throwing = false;
+    lowering.setting.catching = NONE;
     lowering.setting.is_awaited = false;
     lowering.setting.is_tried = false;
     let found = expression(lowering, argument.value);

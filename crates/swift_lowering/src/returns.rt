@@ -25,22 +25,19 @@ fn block_returns(tree: &Tree, first: usize, depth: u32) -> bool {
 // Whether a statement may return out of the unit.
 #[cycle(returns)]
 fn returns(tree: &Tree, stmt: Stmt, depth: u32) -> bool {
-    if depth == 0 {
-        return true;
-    }
     match stmt.form {
         StmtForm::Return
         | StmtForm::Value(Into::Return, _)
         | StmtForm::Group(Into::Return, ..)
         | StmtForm::Bind(Into::Return, ..) => true,
         StmtForm::If(_, held, failed) | StmtForm::DoCatch(held, failed) => {
-            block_returns(tree, held, depth - 1) || block_returns(tree, failed, depth - 1)
+            block_returns(tree, held, depth) || block_returns(tree, failed, depth)
         }
         StmtForm::Guard(_, body)
         | StmtForm::While(_, body)
         | StmtForm::For(_, _, _, body)
         | StmtForm::ForAwait(_, _, body)
-        | StmtForm::WhileNext(_, _, body) => block_returns(tree, body, depth - 1),
+        | StmtForm::WhileNext(_, _, body) => block_returns(tree, body, depth),
         StmtForm::Value(..)
         | StmtForm::Assign(..)
         | StmtForm::Toggle(_)

@@ -1,7 +1,7 @@
 //! Statements with blocks.
 
-use crate::assignment::{end_caught, give};
-use crate::catching::begin_caught;
+use crate::assignment::{begin_given, end_caught, give};
+use crate::catching::{begin_caught, caught_wait};
 use crate::closure::{
     ClosureBody, MadeClosure, begin_closure, direct, end_closure, give_lone, lone_value, want_end,
 };
@@ -25,10 +25,8 @@ fn closure(lowering: &mut Lowering<'_>, body: ClosureBody, depth: u32) -> MadeCl
         return found;
     }
     let begun = begin_closure(lowering, body);
-    if depth == 0 {
-        lowering.refuse(Rule::TooLarge, body.from);
-    } else if body.value == 0 {
-        statements(lowering, body.first, depth - 1);
+    if body.value == 0 {
+        statements(lowering, body.first, depth);
         want_end(lowering, body);
     } else {
         give_lone(lowering, body.value);
@@ -39,15 +37,11 @@ fn closure(lowering: &mut Lowering<'_>, body: ClosureBody, depth: u32) -> MadeCl
 // A block, in which names of its own stand.
 #[cycle(statement)]
 fn block(lowering: &mut Lowering<'_>, first: usize, depth: u32) {
-    if depth == 0 {
-        lowering.refuse(Rule::TooLarge, 0);
-        return;
-    }
     let start = lowering.scope.len();
     let outer = lowering.setting.block_start;
     lowering.setting.block_start = start;
     lowering.setting.blocks = lowering.setting.blocks.saturating_add(1);
-    statements(lowering, first, depth - 1);
+    statements(lowering, first, depth);
     lowering.setting.blocks = lowering.setting.blocks.saturating_sub(1);
     lowering.setting.block_start = outer;
     leave(lowering, start);
@@ -62,16 +56,12 @@ fn conditional(
     token: usize,
     depth: u32,
 ) {
-    if depth == 0 {
-        lowering.refuse(Rule::TooLarge, token);
-        return;
-    }
     let test = test_of(lowering, test, token);
     lowering.put(Instruction::If(test));
-    block(lowering, held, depth - 1);
+    block(lowering, held, depth);
     if failed != 0 {
         lowering.put(Instruction::Else);
-        block(lowering, failed, depth - 1);
+        block(lowering, failed, depth);
     }
     lowering.put(Instruction::End);
 }
@@ -79,32 +69,24 @@ fn conditional(
 // A block in a loop.
 #[cycle(statement)]
 fn repeated(lowering: &mut Lowering<'_>, body: usize, depth: u32) {
-    if depth == 0 {
-        lowering.refuse(Rule::TooLarge, 0);
-        return;
-    }
     if may_return(lowering, body) {
         lowering.need_done();
     }
     let loops = lowering.setting.loops;
     lowering.setting.loops = loops.saturating_add(1);
-    block(lowering, body, depth - 1);
+    block(lowering, body, depth);
     lowering.setting.loops = loops;
 }
 
 // A `while`. A test that does something is done before the loop, and again at the end of its body.
 #[cycle(statement)]
 fn loop_while(lowering: &mut Lowering<'_>, test: usize, body: usize, token: usize, depth: u32) {
-    if depth == 0 {
-        lowering.refuse(Rule::TooLarge, token);
-        return;
-    }
     let before = lowering.here();
     let first = test_of(lowering, test, token);
     // It is but a value; a comma makes more of it.
     if lowering.here() == before {
         lowering.put(Instruction::While(first));
-        repeated(lowering, body, depth - 1);
+        repeated(lowering, body, depth);
         lowering.put(Instruction::End);
         return;
     }
@@ -112,7 +94,7 @@ fn loop_while(lowering: &mut Lowering<'_>, test: usize, body: usize, token: usiz
     lowering.put(Instruction::Let(variable, first));
     let current = lowering.value(Value::Variable(variable));
     lowering.put(Instruction::While(current));
-    repeated(lowering, body, depth - 1);
+    repeated(lowering, body, depth);
     if may_return(lowering, body) {
         lowering.put(Instruction::Rest);
     }
@@ -127,16 +109,12 @@ fn loop_while(lowering: &mut Lowering<'_>, test: usize, body: usize, token: usiz
 // A `for` over numbers.
 #[cycle(statement)]
 fn loop_for(lowering: &mut Lowering<'_>, counter: usize, body: usize, name: usize, depth: u32) {
-    if depth == 0 {
-        lowering.refuse(Rule::TooLarge, name);
-        return;
-    }
     let start = lowering.scope.len();
     if !lowering.spells(name, "_") {
         lowering.name_variable(counter, name);
         declare(lowering, name, counter, Kind::Int, false);
     }
-    repeated(lowering, body, depth - 1);
+    repeated(lowering, body, depth);
     count_up(lowering, counter);
     lowering.put(Instruction::End);
     leave(lowering, start);
@@ -150,10 +128,6 @@ fn closure_block(
     variable: usize,
     depth: u32,
 ) -> Option<Kind> {
-    if depth == 0 {
-        lowering.refuse(Rule::TooLarge, 0);
-        return None;
-    }
     let outer = lowering.setting;
     enter_closure(lowering, variable);
     let lone = lone_value(lowering, first);
@@ -161,7 +135,7 @@ fn closure_block(
         let found = expression(lowering, lone);
         give_result(lowering, found);
     } else {
-        block(lowering, first, depth - 1);
+        block(lowering, first, depth);
     }
     let kind = lowering.setting.result;
     let has_thrown = lowering.setting.has_thrown;
@@ -173,10 +147,6 @@ fn closure_block(
 // A statement with a block that is none of its own unit's.
 #[cycle(statement)]
 fn closed(lowering: &mut Lowering<'_>, stmt: Stmt, depth: u32) {
-    if depth == 0 {
-        lowering.refuse(Rule::TooLarge, stmt.token);
-        return;
-    }
     let start = lowering.scope.len();
     let outer = lowering.setting;
     let (into, variable, kind) = match stmt.form {
@@ -185,7 +155,7 @@ fn closed(lowering: &mut Lowering<'_>, stmt: Stmt, depth: u32) {
             let variable = begin_result(lowering, into);
             begin_group(lowering, stmt, kind_of(found), is_throwing);
             lowering.setting.is_throwing = is_throwing;
-            let kind = closure_block(lowering, body, variable, depth - 1);
+            let kind = closure_block(lowering, body, variable, depth);
             (into, variable, kind)
         }
         StmtForm::Bind(into, of, given, body) => {
@@ -193,7 +163,7 @@ fn closed(lowering: &mut Lowering<'_>, stmt: Stmt, depth: u32) {
             begin_bind(lowering, of, stmt.token, given);
             lowering.setting.is_throwing = outer.is_throwing && stmt.is_tried;
             lowering.setting.is_async = outer.is_async && stmt.is_awaited;
-            let kind = closure_block(lowering, body, variable, depth - 1);
+            let kind = closure_block(lowering, body, variable, depth);
             (into, variable, kind)
         }
         _ => return,
@@ -210,17 +180,13 @@ fn closed(lowering: &mut Lowering<'_>, stmt: Stmt, depth: u32) {
 // A `guard`.
 #[cycle(statement)]
 fn guarded(lowering: &mut Lowering<'_>, test: usize, body: usize, token: usize, depth: u32) {
-    if depth == 0 {
-        lowering.refuse(Rule::TooLarge, token);
-        return;
-    }
     if !exits(lowering, body) {
         lowering.refuse(Rule::NoReturn, token);
     }
     let held = test_of(lowering, test, token);
     let failed = lowering.value(Value::Not(held));
     lowering.put(Instruction::If(failed));
-    block(lowering, body, depth - 1);
+    block(lowering, body, depth);
     lowering.put(Instruction::End);
 }
 
@@ -234,13 +200,9 @@ fn loop_results(
     body: usize,
     depth: u32,
 ) {
-    if depth == 0 {
-        lowering.refuse(Rule::TooLarge, name);
-        return;
-    }
     let start = lowering.scope.len();
     begin_results(lowering, name, group, is_tried);
-    repeated(lowering, body, depth - 1);
+    repeated(lowering, body, depth);
     lowering.put(Instruction::End);
     leave(lowering, start);
 }
@@ -248,53 +210,132 @@ fn loop_results(
 // A task, or a child of a group.
 #[cycle(statement)]
 fn tasked(lowering: &mut Lowering<'_>, stmt: Stmt, depth: u32) {
-    if depth == 0 {
-        lowering.refuse(Rule::TooLarge, stmt.token);
-        return;
-    }
     match stmt.form {
         StmtForm::Task(name, form) => {
             let body = task_body(lowering, stmt, form, false);
-            let made = closure(lowering, body, depth - 1);
+            let made = closure(lowering, body, depth);
             make_task(lowering, stmt, name, form, made);
         }
         StmtForm::AddTask(is_only, form) => {
             let body = task_body(lowering, stmt, form, true);
-            let made = closure(lowering, body, depth - 1);
+            let made = closure(lowering, body, depth);
             add_task(lowering, stmt, is_only, form, made);
         }
         _ => {}
     }
 }
 
+// The one statement of a block, if it waits for what may be caught; and for what.
+fn lone_wait(lowering: &Lowering<'_>, first: usize) -> Option<(Stmt, usize)> {
+    let stmt = lowering.tree.stmt(first)?;
+    if stmt.next != 0 {
+        return None;
+    }
+    let place = caught_wait(lowering, stmt)?;
+    Some((stmt, place))
+}
+
+// A `do`. Where it has more than one statement, a variable says whether a fault was caught.
+#[cycle(statement)]
+fn do_catch(lowering: &mut Lowering<'_>, body: usize, caught: usize, token: usize, depth: u32) {
+    if let Some((stmt, place)) = lone_wait(lowering, body) {
+        let held = begin_caught(lowering, stmt, place, token);
+        block(lowering, caught, depth);
+        end_caught(lowering, held);
+        return;
+    }
+    let flag = lowering.temporary();
+    let zero = lowering.number(0);
+    lowering.put(Instruction::Let(flag, zero));
+    do_block(lowering, body, flag, token, depth);
+    let is_caught = lowering.value(Value::Variable(flag));
+    lowering.put(Instruction::If(is_caught));
+    block(lowering, caught, depth);
+    lowering.put(Instruction::End);
+}
+
+// The block of a `do`, in which names of its own stand. What it throws is caught, so it stands in a unit that does not throw.
+#[cycle(statement)]
+fn do_block(lowering: &mut Lowering<'_>, first: usize, flag: usize, token: usize, depth: u32) {
+    let start = lowering.scope.len();
+    let outer = lowering.setting;
+    lowering.setting.block_start = start;
+    lowering.setting.blocks = outer.blocks.saturating_add(1);
+    lowering.setting.is_throwing = false;
+    lowering.setting.catching = token;
+    do_statements(lowering, first, flag, token, depth);
+    lowering.setting.catching = outer.catching;
+    lowering.setting.is_throwing = outer.is_throwing;
+    lowering.setting.blocks = outer.blocks;
+    lowering.setting.block_start = outer.block_start;
+    leave(lowering, start);
+}
+
+// The statements of a `do` from a place on. What follows one whose fault is caught is done where there was none.
+#[cycle(statement)]
+fn do_statements(lowering: &mut Lowering<'_>, first: usize, flag: usize, token: usize, depth: u32) {
+    if depth == 0 {
+        lowering.refuse(Rule::TooLarge, token);
+        return;
+    }
+    let within = depth - 1;
+    let mut place = first;
+    for _ in 0..lowering.tree.stmts.len() {
+        let Some(stmt) = lowering.tree.stmt(place) else {
+            return;
+        };
+        place = stmt.next;
+        if let Some(awaited) = caught_wait(lowering, stmt) {
+            let held = begin_caught(lowering, stmt, awaited, token);
+            let one = lowering.number(1);
+            lowering.put(Instruction::Set(flag, one));
+            begin_given(lowering, held);
+            let is_early = place != 0 && returns_early(lowering, stmt);
+            if is_early {
+                lowering.need_done();
+                lowering.put(Instruction::Rest);
+            }
+            do_statements(lowering, place, flag, token, within);
+            if is_early {
+                lowering.put(Instruction::End);
+            }
+            lowering.put(Instruction::End);
+            return;
+        }
+        if let StmtForm::AsyncLet(..) = stmt.form {
+            lowering.refuse(Rule::NotYet, token);
+        }
+        statement(lowering, stmt, within);
+        if place != 0 && returns_early(lowering, stmt) {
+            lowering.need_done();
+            lowering.put(Instruction::Rest);
+            do_statements(lowering, place, flag, token, within);
+            lowering.put(Instruction::End);
+            return;
+        }
+    }
+}
+
 // A statement that is no `async let`.
 #[cycle(statement)]
 fn statement(lowering: &mut Lowering<'_>, stmt: Stmt, depth: u32) {
-    if depth == 0 {
-        lowering.refuse(Rule::TooLarge, stmt.token);
-        return;
-    }
     let token = stmt.token;
     match stmt.form {
         StmtForm::If(test, held, failed) => {
-            conditional(lowering, test, held, failed, token, depth - 1);
+            conditional(lowering, test, held, failed, token, depth);
         }
-        StmtForm::Guard(test, body) => guarded(lowering, test, body, token, depth - 1),
-        StmtForm::While(test, body) => loop_while(lowering, test, body, token, depth - 1),
+        StmtForm::Guard(test, body) => guarded(lowering, test, body, token, depth),
+        StmtForm::While(test, body) => loop_while(lowering, test, body, token, depth),
         StmtForm::For(from, to, is_closed, body) => {
             let counter = begin_count(lowering, from, to, is_closed, token);
-            loop_for(lowering, counter, body, token, depth - 1);
+            loop_for(lowering, counter, body, token, depth);
         }
         StmtForm::ForAwait(group, is_tried, body) | StmtForm::WhileNext(group, is_tried, body) => {
-            loop_results(lowering, token, group, is_tried, body, depth - 1);
+            loop_results(lowering, token, group, is_tried, body, depth);
         }
-        StmtForm::Task(..) | StmtForm::AddTask(..) => tasked(lowering, stmt, depth - 1),
-        StmtForm::Group(..) | StmtForm::Bind(..) => closed(lowering, stmt, depth - 1),
-        StmtForm::DoCatch(body, caught) => {
-            let held = begin_caught(lowering, body, token);
-            block(lowering, caught, depth - 1);
-            end_caught(lowering, held);
-        }
+        StmtForm::Task(..) | StmtForm::AddTask(..) => tasked(lowering, stmt, depth),
+        StmtForm::Group(..) | StmtForm::Bind(..) => closed(lowering, stmt, depth),
+        StmtForm::DoCatch(body, caught) => do_catch(lowering, body, caught, token, depth),
         _ => simple(lowering, stmt),
     }
 }
@@ -308,14 +349,10 @@ fn child(
     given: usize,
     depth: u32,
 ) -> (usize, usize) {
-    if depth == 0 {
-        lowering.refuse(Rule::TooLarge, stmt.token);
-        return (NONE, NONE);
-    }
     if !lowering.setting.is_async {
         lowering.refuse(Rule::Await, stmt.token);
     }
-    let made = closure(lowering, child_body(stmt, given), depth - 1);
+    let made = closure(lowering, child_body(stmt, given), depth);
     if let Some(wanted) = wanted {
         if made.kind != kind_of(wanted) {
             lowering.refuse(Rule::WrongType, stmt.token);

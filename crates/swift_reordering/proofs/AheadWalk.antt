@@ -19,7 +19,7 @@ use Rattle.swift_digest.specs.Explored.{FoldsNone, IsNotFolded, IsOutcome, state
 use Rattle.swift_digest.proofs.Outcomes.{Made, NoneFolded, made, none_in, not_folded, outcome_too}
 use Rattle.swift_digest.proofs.SameLogs.{same_tasks}
 use Rattle.swift_digest.proofs.SameStands.{all_push}
-use Rattle.swift_reordering.specs.Away.{job_looks_away}
+use Rattle.swift_reordering.specs.Away.{turn_looks_away}
 use Rattle.swift_reordering.specs.Blurred.{stage_at}
 use Rattle.swift_reordering.specs.FusedSteps.{HasRoom, IsFusedStep, MayStep}
 use Rattle.swift_reordering.specs.RunAhead.{OneTurn, after_turn, after_turns, AllRunSilently, LeadAsOne, AllEndAsTried, AreClosedAhead, ClosedAheadHasEachOutcome, ClosedAheadHasEachExit}
@@ -35,7 +35,7 @@ use Rattle.swift_reordering.proofs.Walks.{IsCourse, course_none, course_push}
 
 -- a step is one after another history too, where the task that begins looks away there as it does here
 fused_like : (script : ScriptView) (h k step rest : List Block) → AreLike script step rest
-    → ((t n : ℕ) (env : Env) (bs : List Block) → step ≡ begun t n env ∷ bs → job_looks_away script ((after_blocks script (at_first script) k).jobs t) ≡ job_looks_away script ((after_blocks script (at_first script) h).jobs t))
+    → ((t n : ℕ) (env : Env) (bs : List Block) → step ≡ begun t n env ∷ bs → turn_looks_away script (after_blocks script (at_first script) k) t ≡ turn_looks_away script (after_blocks script (at_first script) h) t)
     → IsFusedStep script h step → IsFusedStep script k rest
 fused_like script h k (added r ∷ []) (c ∷ []) like same is = subst (λ (x : Block). IsFusedStep script k (x ∷ [])) like.0 tt
 fused_like script h k (ran e r ∷ []) (c ∷ []) like same is = subst (λ (x : Block). IsFusedStep script k (x ∷ [])) (sym like.0.2) tt
@@ -122,7 +122,7 @@ module _ (script : ScriptView) (on : ActorsHaveExecutors script) (cps : List Che
       let o = carry_same script cps p.rest far one.kept far_stand (stand one.kept one.is_kept) one.lead p.stand p.orderly in
       let like = like_on script cps step p.rest o.rest p.like o.like in
       let is = fused_like script h one.kept step o.rest like
-      (λ t n env bs begins. sym (same_away script cps far one.kept one.lead.0 t) ∙ ap (job_looks_away script) (past_turns script cps hold t one.turns h all one.run (none t n env bs begins))) fused in
+      (λ t n env bs begins. sym (same_away script cps far one.kept one.lead.0 t) ∙ past_turns script cps hold t one.turns h all one.run (none t n env bs begins)) fused in
       let k = leads one.kept o.rest one.is_kept like (record { fused = is; stands = o.stand; orderly = o.orderly }) in
       let mine : List Block = after_turns (h ++ step) p.others in
       let mine_stand = turns_stand script cps p.others (h ++ step) both p.run in

@@ -24,12 +24,14 @@ use Rattle.swift_reordering.specs.FusedSteps.{HasExit}
 use Rattle.swift_reordering.specs.Waiting.{IsOfOther}
 use Rattle.swift_reordering.specs.SilentTurns.{IsSilentTurn, Commutes, OwnNext, GoesFirst, SilentTurnsMayGoFirst}
 use Rattle.swift_reordering.proofs.Walks.{IsCourse, course_push}
-use Rattle.swift_reordering.specs.Away.{job_looks_away}
+use Rattle.swift_reordering.specs.Away.{turn_looks_away}
 use Rattle.swift_reordering.proofs.Priorities.{cons_cases, cons_here, cons_more}
 use Rattle.swift_reordering.proofs.Carrying.{carry, late_rest, runs_like, plain_like}
 use Rattle.swift_reordering.proofs.Closed.{stand_after, allowed_after, exit_too}
 use Rattle.swift_reordering.proofs.Waits.{course_front}
 use Rattle.swift_reordering.proofs.Diamonds.{silent_commutes}
+use Rattle.swift_reordering.proofs.Holding.{hold_always}
+use Rattle.swift_reordering.proofs.SilentSteps.{silent_looks}
 
 pub like_many : (script : ScriptView) (xs ys : List Block) → AreLike script xs ys → length ys ≡ length xs
 like_many script [] [] like = refl
@@ -103,13 +105,13 @@ module _ (script : ScriptView) (cps : List CheckpointView) (on : ActorsHaveExecu
   ]
 
   -- past a block of another task
-  late_past : (b : Block) (bs cs xs before after : List Block) → IsOfOther t b → ((u : ℕ) → u ≢ t → (after_blocks script (at_first script) after).jobs u ≡ (after_blocks script (at_first script) before).jobs u)
+  late_past : (b : Block) (bs cs xs before after : List Block) → IsOfOther t b → ((u : ℕ) → u ≢ t → turn_looks_away script (after_blocks script (at_first script) after) u ≡ turn_looks_away script (after_blocks script (at_first script) before) u)
       → BeginLate script before (b ∷ bs) → ((u : ℕ) → u ≢ t → RunsNext u bs → RunsNext u xs) → AreLike script xs cs → BeginLate script (after ++ b ∷ []) cs → BeginLate script after (b ∷ cs)
-  late_past (added r) bs cs xs before after of_other jobs late next like more = more
-  late_past (ran k q) bs cs xs before after of_other jobs late next like more = more
-  late_past (folded k q) bs cs xs before after of_other jobs late next like more = more
-  late_past (begun u m x) bs cs xs before after of_other jobs late next like more =
-      (λ away. runs_like script u xs cs like (next u of_other (late.0 (ap (job_looks_away script) (sym (jobs u of_other)) ∙ away))), more)
+  late_past (added r) bs cs xs before after of_other looks late next like more = more
+  late_past (ran k q) bs cs xs before after of_other looks late next like more = more
+  late_past (folded k q) bs cs xs before after of_other looks late next like more = more
+  late_past (begun u m x) bs cs xs before after of_other looks late next like more =
+      (λ away. runs_like script u xs cs like (next u of_other (late.0 (sym (looks u of_other) ∙ away))), more)
 
   next_past : (b : Block) (bs cs : List Block) (u : ℕ) → RunsNext u (b ∷ bs) → RunsNext u (b ∷ cs)
   next_past (ran k q) bs cs u is = is
@@ -143,7 +145,7 @@ module _ (script : ScriptView) (cps : List CheckpointView) (on : ActorsHaveExecu
         many = omega (arith, many, was);
         lead = subst (λ (xs : List Block). LeadAlike script cps xs (before ++ x ∷ y ∷ b ∷ o.rest)) (append_assoc before (b ∷ []) bs) lead;
         orderly = (c.orderly may, o.orderly);
-        late = late_past b bs o.rest g.others before ((before ++ x ∷ []) ++ y ∷ []) of_other c.jobs late g.next o.like o.late;
+        late = late_past b bs o.rest g.others before ((before ++ x ∷ []) ++ y ∷ []) of_other (silent_looks script cps before t n env e r silent (hold_always script cps e hold before stand)) late g.next o.like o.late;
         next = λ u ne runs. next_past b bs o.rest u runs;
         plain = λ all. (all.0, plain_like script cps g.others o.rest o.like (g.plain all.1));
         exits = λ k p has. elim (cons_cases b bs (ran k p) has) [

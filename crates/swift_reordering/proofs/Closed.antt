@@ -1,12 +1,13 @@
 -- A list of histories that is closed under steps in which turns that look away begin and run has the outcome of each report.
-use Rattle.std.proofs.Common.{◌≡◌, ◌⊎◌, ℕ, ◌+◌, List, [], ◌∷◌, ◌++◌, refl, sym, ◌∙◌, ap, subst, inl, inr, append_assoc, append-nil, arith}
+use Rattle.std.proofs.Common.{◌≡◌, ◌⊎◌, ℕ, ◌+◌, List, [], ◌∷◌, ◌++◌, refl, sym, ◌∙◌, ap, subst, Bool, inl, inr, append_assoc, append-nil, arith}
 use Rattle.std.specs.Prelude.{Option, Some, None, Contains, is_some, ◌||◌}
 use Rattle.std.specs.Option.{option_map}
-use Rattle.swift_script.specs.Scripts.{ScriptView, root_count, method_code}
+use Rattle.swift_script.specs.Scripts.{ScriptView, root_count}
 use Rattle.swift_interpreter.specs.Frames.{FrameView}
 use Rattle.swift_interpreter.specs.Turn.{ExitView}
 use Rattle.swift_journal.specs.Records.{RecordView}
 use Rattle.swift_journal.specs.Checkpoints.{CheckpointView}
+use Rattle.swift_events.specs.Relations.{is_cancelled}
 use Rattle.swift_history.specs.TurnEnds.{JobFacts}
 use Rattle.swift_history.specs.Histories.{Block, added, begun, ran, at_first, after_blocks, folded_in, folded_of, Stands, AllStand, ReportView}
 use Rattle.swift_history.specs.Orderly.{AllAllowed, IsOrderly, IsOrderlyLegal}
@@ -16,9 +17,9 @@ use Rattle.swift_digest.specs.Plans.{FramePlan, JobPlan, plan_of, frame_plans, j
 use Rattle.swift_digest.specs.Futures.{LeadAlike, IsLike, AreLike}
 use Rattle.swift_digest.specs.Explored.{IsOutcome, state_of, FoldsNone, IsNotFolded}
 use Rattle.swift_digest.proofs.SameStands.{same_futures}
-use Rattle.swift_digest.proofs.SameLogs.{same_tasks}
+use Rattle.swift_digest.proofs.SameLogs.{same_tasks, same_cancelled}
 use Rattle.swift_digest.proofs.Outcomes.{NoneFolded, Made, made, none_in, not_folded, lead_on, orderly_too, outcome_too}
-use Rattle.swift_reordering.specs.Away.{frames_look_away, job_looks_away, code_looks_away}
+use Rattle.swift_reordering.specs.Away.{frames_look_away, job_looks_away, turn_looks_away, code_looks_away}
 use Rattle.swift_reordering.specs.FusedSteps.{IsFusedStep, MayStep, HasRoom, AreClosed, HasExit, ClosedHasEachOutcome, ClosedHasEachExit}
 use Rattle.swift_reordering.proofs.Near.{near_tasks}
 use Rattle.swift_reordering.proofs.Walks.{IsCourse, course_none, course_push}
@@ -39,17 +40,17 @@ allowed_after Allowed (x ∷ xs) before ys all = subst (λ (bs : List Block). Al
 module _ (script : ScriptView) where
   -- jobs of one plan look away both or neither
 
-  frames_away : (ps qs : List FrameView) → frame_plans script ps ≡ frame_plans script qs → frames_look_away script ps ≡ frames_look_away script qs
-  frames_away [] [] same = refl
-  frames_away (p ∷ ps) (q ∷ qs) same = (let one : plan_of script p ≡ plan_of script q = cc same in ap (λ (h : FramePlan). is_some h.pending || code_looks_away (method_code script h.method)) one)
-  frames_away [] (q ∷ qs) same = absurd (cc same)
-  frames_away (p ∷ ps) [] same = absurd (cc same)
+  frames_away : (cancelled : Bool) (ps qs : List FrameView) → frame_plans script ps ≡ frame_plans script qs → frames_look_away script cancelled ps ≡ frames_look_away script cancelled qs
+  frames_away cancelled [] [] same = refl
+  frames_away cancelled (p ∷ ps) (q ∷ qs) same = (let one : plan_of script p ≡ plan_of script q = cc same in ap (λ (h : FramePlan). is_some h.pending || code_looks_away cancelled h.todo) one)
+  frames_away cancelled [] (q ∷ qs) same = absurd (cc same)
+  frames_away cancelled (p ∷ ps) [] same = absurd (cc same)
 
-  jobs_away : (o u : Option JobFacts) → option_map (job_plan script) o ≡ option_map (job_plan script) u → job_looks_away script o ≡ job_looks_away script u
-  jobs_away None None same = refl
-  jobs_away (Some j) (Some k) same = (let plan : job_plan script j ≡ job_plan script k = cc same in frames_away j.frames.frames k.frames.frames (ap (λ (h : JobPlan). h.plan.frames) plan))
-  jobs_away None (Some k) same = absurd (cc same)
-  jobs_away (Some j) None same = absurd (cc same)
+  jobs_away : (cancelled : Bool) (o u : Option JobFacts) → option_map (job_plan script) o ≡ option_map (job_plan script) u → job_looks_away script cancelled o ≡ job_looks_away script cancelled u
+  jobs_away cancelled None None same = refl
+  jobs_away cancelled (Some j) (Some k) same = (let plan : job_plan script j ≡ job_plan script k = cc same in frames_away cancelled j.frames.frames k.frames.frames (ap (λ (h : JobPlan). h.plan.frames) plan))
+  jobs_away cancelled None (Some k) same = absurd (cc same)
+  jobs_away cancelled (Some j) None same = absurd (cc same)
 
   -- turns that are alike end alike
   pub exit_too : (bs cs : List Block) (e : ℕ) (q : RecordView) → AreLike script bs cs → Contains bs (ran e q) → HasExit cs e q.exit
@@ -63,8 +64,11 @@ module _ (script : ScriptView) where
   ]
 
 module _ (script : ScriptView) (cps : List CheckpointView) (others h : List Block) (lead : LeadAlike script cps others h) where
-  pub same_away : (t : ℕ) → job_looks_away script ((after_blocks script (at_first script) others).jobs t) ≡ job_looks_away script ((after_blocks script (at_first script) h).jobs t)
-  same_away t = jobs_away script _ _ (lead.standing.jobs t)
+  pub same_away : (t : ℕ) → turn_looks_away script (after_blocks script (at_first script) others) t ≡ turn_looks_away script (after_blocks script (at_first script) h) t
+  same_away t =
+      let s = after_blocks script (at_first script) others in
+      let z = after_blocks script (at_first script) h in
+      ap (λ (b : Bool). job_looks_away script b (s.jobs t)) (same_cancelled s.log z.log lead.standing.digest t) ∙ jobs_away script (is_cancelled t z.log) (s.jobs t) (z.jobs t) (lead.standing.jobs t)
 
   -- a step is one after the other history
   step_too : (more rest : List Block) → IsFusedStep script others more → AreLike script more rest → AllAllowed (IsOrderly script) others more → IsFusedStep script h rest × AllAllowed (IsOrderly script) h rest

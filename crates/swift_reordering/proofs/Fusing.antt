@@ -1,5 +1,5 @@
 -- A history goes on in one in which begins of turns that look away have been left out for later.
-use Rattle.std.proofs.Common.{◌≡◌, ◌≢◌, ◌⊎◌, ℕ, ℤ, ◌+◌, ◌*◌, ◌<◌, ◌≤◌, List, [], ◌∷◌, ◌++◌, refl, sym, ◌∙◌, ap, subst, subst₂, Bool, true, false, inl, inr, append_assoc, append-nil, arith}
+use Rattle.std.proofs.Common.{◌≡◌, ◌≢◌, ◌⊎◌, ℕ, ℤ, ◌+◌, ◌*◌, ◌<◌, ◌≤◌, List, [], ◌∷◌, ◌++◌, refl, sym, ◌∙◌, ap, ap₂, subst, subst₂, Bool, true, false, inl, inr, append_assoc, append-nil, arith}
 use Rattle.std.specs.Prelude.{Option, Some, None, Contains, ◌==◌, is_some, if◌then◌else◌}
 use Rattle.std.specs.List.{cons_option}
 use Rattle.std.proofs.lemmas.Bool.{cases_Bool, cases_eq, false≢true}
@@ -37,13 +37,14 @@ use Rattle.swift_digest.proofs.NewChildren.{histories_new}
 use Rattle.swift_digest.proofs.Links.{same_priority}
 use Rattle.swift_digest.proofs.SameStands.{fields_push}
 use Rattle.swift_reordering.specs.Blurred.{AreNear, AreClose, blurred_stage, stage_at}
-use Rattle.swift_reordering.specs.Away.{frame_looks_away, frames_look_away, job_looks_away}
+use Rattle.swift_reordering.specs.Away.{frame_looks_away, frames_look_away, job_looks_away, turn_looks_away}
 use Rattle.swift_reordering.specs.Fused.{RunsNext, BeginLate, done_in, done_by, no_env}
 use Rattle.swift_reordering.specs.FusedSteps.{IsFusedStep, HasExit}
 use Rattle.swift_reordering.proofs.Near.{near_on, near_begin, near_origin, near_tasks, near_stage, near_cancelled, near_links, near_current}
 use Rattle.swift_reordering.proofs.NearEnds.{AreJoint, joint_first, joint_on}
-use Rattle.swift_reordering.proofs.Turning.{MayPlayIn, AppliedClose, in_own, applied_close, record_stands_too, same_play, takes_none}
+use Rattle.swift_reordering.proofs.Turning.{LooksAwayIn, MayPlayIn, AppliedClose, in_own, applied_close, record_stands_too, same_play, takes_none}
 use Rattle.swift_reordering.proofs.Walks.{IsCourse, along, course_push}
+use Rattle.swift_reordering.proofs.Flags.{begin_keeps_flag, block_keeps_flag, job_stays, root_keeps_flag}
 use Rattle.swift_reordering.proofs.Seats.{HasBegun, OnlyStay, turn_stays, root_stays, begin_other, begin_same, all_apart}
 use Rattle.swift_reordering.proofs.Rooms.{room_free}
 use Rattle.swift_reordering.proofs.Priorities.{priority_later}
@@ -127,7 +128,10 @@ module _ (script : ScriptView) (cps : List CheckpointView) (May : ℕ → Type 0
     pub env : Env
     pub has_begun : stage_at s.log u ≡ Some (Begun env)
     pub given : stage_at z.log u ≡ Some Given
-    pub away : job_looks_away script (s.jobs u) ≡ true
+    pub cancelled : Bool
+    pub away : job_looks_away script cancelled (s.jobs u) ≡ true
+    -- where it looks at whether the task is cancelled, it is, and stays so
+    pub flag : cancelled ≡ true → (env.cancelled ≡ true) × (is_cancelled u s.log ≡ true)
     pub room : env.room ≡ MADE
 
   abbrev pub SameOrPutOff : Standing → Standing → ℕ → Type 0
@@ -142,8 +146,8 @@ module _ (script : ScriptView) (cps : List CheckpointView) (May : ℕ → Type 0
     pub stages : (u : ℕ) → SameOrPutOff (at script cps before) (at script cps others) u
 
   -- after the same events, where each task that has begun had begun with the same job
-  stages_on : (s z x y : Standing) → AreJoint s.log z.log x.log y.log → ((u : ℕ) → HasBegun x.log u → OnlyStay s x u) → ((u : ℕ) → stage_at x.log u ≡ stage_at s.log u → SameOrPutOff s z u) → (u : ℕ) → SameOrPutOff x y u
-  stages_on s z x y joint stays was u = elim (joint.gone u) [
+  stages_on : (s z x y : Standing) → AreJoint s.log z.log x.log y.log → ((u : ℕ) → is_cancelled u s.log ≡ true → is_cancelled u x.log ≡ true) → ((u : ℕ) → HasBegun x.log u → OnlyStay s x u) → ((u : ℕ) → stage_at x.log u ≡ stage_at s.log u → SameOrPutOff s z u) → (u : ℕ) → SameOrPutOff x y u
+  stages_on s z x y joint flags stays was u = elim (joint.gone u) [
     | inl same ↦ inl same
     | inr still ↦ elim (was u still.0) [
       | inl same ↦ inl (still.0 ∙ same ∙ sym still.1)
@@ -154,7 +158,9 @@ module _ (script : ScriptView) (cps : List CheckpointView) (May : ℕ → Type 0
             env = p.env;
             has_begun = has;
             given = still.1 ∙ p.given;
-            away = ap (job_looks_away script) (stays u (ap is_begun has)).job ∙ p.away;
+            cancelled = p.cancelled;
+            away = ap (job_looks_away script p.cancelled) (stays u (ap is_begun has)).job ∙ p.away;
+            flag = λ is. ((p.flag is).0, flags u (p.flag is).1);
             room = p.room;
           })
     ]
@@ -170,11 +176,15 @@ module _ (script : ScriptView) (cps : List CheckpointView) (May : ℕ → Type 0
     near : AreNear s.log z.log
     near = was.close.near
 
-    roots_too : AllRoots script s → AllRoots script z
-    roots_too all r lt = ap is_some (sym (near_origin s.log z.log near r)) ∙ all r lt
-
     same_jobs : (u : ℕ) → s.jobs u ≡ z.jobs u
     same_jobs u = ap (λ (f : ℕ → Option JobFacts). f u) was.close.jobs
+
+    -- a turn looks away there where it does here
+    pub same_look : (u : ℕ) → turn_looks_away script z u ≡ turn_looks_away script s u
+    same_look u = ap₂ (λ (b : Bool) (o : Option JobFacts). job_looks_away script b o) (sym (near_cancelled s.log z.log near u)) (sym (same_jobs u))
+
+    roots_too : AllRoots script s → AllRoots script z
+    roots_too all r lt = ap is_some (sym (near_origin s.log z.log near r)) ∙ all r lt
 
     -- what has begun there has begun here
     pub begun_here : (u : ℕ) → HasBegun z.log u → HasBegun s.log u
@@ -204,7 +214,7 @@ module _ (script : ScriptView) (cps : List CheckpointView) (May : ℕ → Type 0
               (record { near = joint.near; held = was.close.held; jobs = ap (with_jobs (root_job script r ∷ [])) was.close.jobs });
           fields = λ e. fields_quiet script cps before (added r) e refl ∙ was.fields e ∙ sym (fields_quiet script cps others (added r) e refl);
           stages = subst₂ (λ (a b : Standing). (u : ℕ) → SameOrPutOff a b u) (sym (at_push script cps before (added r))) (sym (at_push script cps others (added r)))
-              (stages_on s z x y joint (λ u has. root_stays script s r u has) (λ u _. was.stages u));
+              (stages_on s z x y joint (λ u is. root_keeps_flag script cps before r u stands is) (λ u has. root_stays script s r u has) (λ u _. was.stages u));
         }
 
     -- a begin that is put off
@@ -222,7 +232,7 @@ module _ (script : ScriptView) (cps : List CheckpointView) (May : ℕ → Type 0
     same_or_begun : (u : ℕ) → (stage_at s.log u ≡ stage_at z.log u) ⊎ (is_begun (stage_at s.log u) ≡ true)
     same_or_begun u = elim (was.stages u) [ inl same ↦ inl same | inr p ↦ inr (ap is_begun p.has_begun) ]
 
-    pub put_off_on : (t n : ℕ) (env : Env) → May t → Stands script cps before (begun t n env) → IsOrderly script before (begun t n env) → job_looks_away script (s.jobs t) ≡ true → env.room ≡ MADE → ArePutOff (before ++ begun t n env ∷ []) others
+    pub put_off_on : (t n : ℕ) (env : Env) → May t → Stands script cps before (begun t n env) → IsOrderly script before (begun t n env) → turn_looks_away script s t ≡ true → env.room ≡ MADE → ArePutOff (before ++ begun t n env ∷ []) others
     put_off_on t n env may stands orderly away room =
         let x : Standing = after_block script s (begun t n env) in
         let under = (current_is (life_of t s.log) n stands.0.resume stands.2).1 in
@@ -238,12 +248,23 @@ module _ (script : ScriptView) (cps : List CheckpointView) (May : ℕ → Type 0
                   env = env;
                   has_begun = ap (stage_at x.log) (sym same) ∙ begin_same t n env s.log;
                   given = ap (stage_at z.log) (sym same) ∙ given_of (stage_at s.log t) (stage_at z.log t) under (orderly.1 t refl) (near_stage s.log z.log near t) (same_or_begun t);
-                  away = ap (λ (k : ℕ). job_looks_away script (s.jobs k)) (sym same) ∙ away;
+                  cancelled = is_cancelled t s.log;
+                  away = ap (λ (k : ℕ). job_looks_away script (is_cancelled t s.log) (s.jobs k)) (sym same) ∙ away;
+                  flag = λ is. (stands.3.cancelled ∙ is, ap (λ (k : ℕ). is_cancelled k x.log) (sym same) ∙ begin_keeps_flag script cps s.log t n env t is);
                   room = room;
                 })
                 | inr ne ↦ elim (was.stages u) [
                   | inl one ↦ inl (begin_other t n env s.log u ne ∙ one)
-                  | inr p ↦ inr (record { may = p.may; env = p.env; has_begun = begin_other t n env s.log u ne ∙ p.has_begun; given = p.given; away = p.away; room = p.room })
+                  | inr p ↦ inr (record {
+                    may = p.may;
+                    env = p.env;
+                    has_begun = begin_other t n env s.log u ne ∙ p.has_begun;
+                    given = p.given;
+                    cancelled = p.cancelled;
+                    away = p.away;
+                    flag = λ is. ((p.flag is).0, begin_keeps_flag script cps s.log t n env u (p.flag is).1);
+                    room = p.room;
+                  })
                 ]
               ]);
         }
@@ -267,7 +288,16 @@ module _ (script : ScriptView) (cps : List CheckpointView) (May : ℕ → Type 0
         let orderly_z : IsOrderly script others (begun t n env) = (roots_too orderly.0, seats_too t orderly.1) in
         let same : (u : ℕ) → t ≢ u → SameOrPutOff s z u → SameOrPutOff x y u = λ u ne o. elim o [
           | inl one ↦ inl (begin_other t n env s.log u ne ∙ one ∙ sym (begin_other t n env z.log u ne))
-          | inr p ↦ inr (record { may = p.may; env = p.env; has_begun = begin_other t n env s.log u ne ∙ p.has_begun; given = begin_other t n env z.log u ne ∙ p.given; away = p.away; room = p.room })
+          | inr p ↦ inr (record {
+            may = p.may;
+            env = p.env;
+            has_begun = begin_other t n env s.log u ne ∙ p.has_begun;
+            given = begin_other t n env z.log u ne ∙ p.given;
+            cancelled = p.cancelled;
+            away = p.away;
+            flag = λ is. ((p.flag is).0, begin_keeps_flag script cps s.log t n env u (p.flag is).1);
+            room = p.room;
+          })
         ] in
         record {
           course = course_push script cps others (begun t n env) was.course stands_z orderly_z;
@@ -315,7 +345,7 @@ module _ (script : ScriptView) (cps : List CheckpointView) (May : ℕ → Type 0
         fields = λ k. fields_push script cps k before (ran e r) ∙ added_if (e == k) r other may (fields_of script cps k before)
             ∙ ap (λ (f : List (List ℤ)). replay script f (cons_option (record_in k (ran e q)) [])) (fields k) ∙ sym (fields_push script cps k others (ran e q));
         stages = subst₂ (λ (a b : Standing). (u : ℕ) → SameOrPutOff a b u) (sym (at_push script cps before (ran e r))) (sym (at_push script cps others (ran e q)))
-            (stages_on s z x y c.joint (λ u has. (stays u has).1)
+            (stages_on s z x y c.joint (λ u is. block_keeps_flag script cps before (ran e r) u course.stand stands is) (λ u has. (stays u has).1)
             (λ u same. elim (cases_eq u r.task) [
               | inl one ↦ absurd ((stays u (ap is_begun (same ∙ ap (stage_at s.log) one ∙ stands.stands.has_begun))).0 one)
               | inr ne ↦ stages u ne
@@ -359,8 +389,8 @@ module _ (script : ScriptView) (cps : List CheckpointView) (May : ℕ → Type 0
         let one : r ≡ p = cc is in
         record { turn = q; there = subst (λ (x : ℕ). Contains bs (ran x q)) on_same has; exit_is = same ∙ ap (λ (x : RecordView). x.exit) one }
 
-    frame_away : (fs callers : List FrameView) (p : FrameView) → fs ≡ p ∷ callers → frames_look_away script fs ≡ true → frame_looks_away script p ≡ true
-    frame_away fs callers p is away = ap (frames_look_away script) (sym is) ∙ away
+    frame_away : (cancelled : Bool) (fs callers : List FrameView) (p : FrameView) → fs ≡ p ∷ callers → frames_look_away script cancelled fs ≡ true → frame_looks_away script cancelled p ≡ true
+    frame_away cancelled fs callers p is away = ap (frames_look_away script cancelled) (sym is) ∙ away
 
     -- a turn runs that was put off
     late_on : (before others : List Block) (e : ℕ) (r : RecordView) → IsCourse script cps before → AreFew script cps before → (was : ArePutOff before others) → Stands script cps before (ran e r) → IsPutOff (at script cps before) (at script cps others) r.task
@@ -376,11 +406,13 @@ module _ (script : ScriptView) (cps : List CheckpointView) (May : ℕ → Type 0
         let q : RecordView = record r { env = other } in
         let job : JobFacts = stands.job in
         let given_z : z.jobs t ≡ Some job = sym (same_jobs before others was t) ∙ stands.stands.given in
-        let away : job_looks_away script (s.jobs t) ≡ true = p.away in
-        let frame : frame_looks_away script r.frame ≡ true =
-        frame_away job.frames.frames stands.stands.runs.0 r.frame stands.stands.runs.1 (ap (job_looks_away script) (sym stands.stands.given) ∙ away) in
+        let away : job_looks_away script p.cancelled (s.jobs t) ≡ true = p.away in
+        let frame : frame_looks_away script p.cancelled r.frame ≡ true =
+        frame_away p.cancelled job.frames.frames stands.stands.runs.0 r.frame stands.stands.runs.1 (ap (job_looks_away script p.cancelled) (sym stands.stands.given) ∙ away) in
+        let flag : p.cancelled ≡ true → is_cancelled t z.log ≡ true = λ is. sym (near_cancelled s.log z.log was.close.near t) ∙ (p.flag is).1 in
         let same_env : p.env ≡ r.env = cc (sym p.has_begun ∙ stands.stands.has_begun) in
         let room : r.env.room ≡ other.room = ap (λ (x : Env). x.room) (sym same_env) ∙ p.room ∙ sym (room_there before others few was t) ∙ sym env.1.room in
+        let looks : LooksAwayIn script r.frame r.env other = record { cancelled = p.cancelled; away = frame; told = λ is. ap (λ (x : Env). x.cancelled) (sym same_env) ∙ (p.flag is).0 ∙ sym (env.1.cancelled ∙ flag is) } in
         let stands_b : Stands script cps others b = (job, given_z, sym (near_current s.log z.log was.close.near t n job.resume) ∙ stands.stands.current, env.1) in
         let orderly_b : IsOrderly script others b = (
           roots_too before others was (all_roots script cps before course t (ap is_begun stands.stands.has_begun)),
@@ -399,15 +431,15 @@ module _ (script : ScriptView) (cps : List CheckpointView) (May : ℕ → Type 0
         subst (AreClose s) (sym (at_push script cps others b)) (record { near = was.close.near ∙ sym (near_begin z.log t n other under); held = was.close.held; jobs = was.close.jobs }) in
         let stages : (u : ℕ) → u ≢ t → SameOrPutOff s y u = λ u ne. elim (was.stages u) [
           | inl one ↦ inl (one ∙ sym (begin_other t n other z.log u (λ x. ne (sym x))))
-          | inr o ↦ inr (record { may = o.may; env = o.env; has_begun = o.has_begun; given = begin_other t n other z.log u (λ x. ne (sym x)) ∙ o.given; away = o.away; room = o.room })
+          | inr o ↦ inr (record { may = o.may; env = o.env; has_begun = o.has_begun; given = begin_other t n other z.log u (λ x. ne (sym x)) ∙ o.given; cancelled = o.cancelled; away = o.away; flag = o.flag; room = o.room })
         ] in
         let done : done_by before ≡ done_by (others ++ b ∷ []) = was.done ∙ sym (done_push script cps others b ∙ append-nil (done_by others)) in
         record {
           more = b ∷ ran e q ∷ [];
-          step = inr (ap (job_looks_away script) (sym (same_jobs before others was t)) ∙ away, refl);
+          step = inr (job_stays script p.cancelled (is_cancelled t z.log) (z.jobs t) flag (ap (job_looks_away script p.cancelled) (sym (same_jobs before others was t)) ∙ away), refl);
           has = λ k p is. run_ends e k r p q (b ∷ ran e q ∷ []) refl is (1, omega arith, refl);
           put_off = subst (ArePutOff (before ++ ran e r ∷ [])) (append_assoc others (b ∷ []) (ran e q ∷ []))
-              (run_on before (others ++ b ∷ []) e r other course course_b stands (record { room = room; same = inr frame })
+              (run_on before (others ++ b ∷ []) e r other course course_b stands (record { room = room; same = inr looks })
               (ap (λ (a : Standing). stage_at a.log t) (at_push script cps others b) ∙ begin_same t n other z.log)
               close_b (λ k. was.fields k ∙ sym (fields_quiet script cps others b k refl)) done
               (λ u ne. subst (λ (a : Standing). SameOrPutOff s a u) (sym (at_push script cps others b)) (stages u ne)));
@@ -424,7 +456,7 @@ module _ (script : ScriptView) (cps : List CheckpointView) (May : ℕ → Type 0
     goes_on before others (folded e f) course few was unfolded stands orderly = absurd unfolded
     goes_on before others (begun t n env) course few was unfolded stands orderly =
         let room = room_free script cps before course on few t in
-        elim (cases_Bool (job_looks_away script ((at script cps before).jobs t))) [
+        elim (cases_Bool (turn_looks_away script (at script cps before) t)) [
           | inl away ↦ record {
             more = [];
             step = inl refl;
@@ -433,7 +465,7 @@ module _ (script : ScriptView) (cps : List CheckpointView) (May : ℕ → Type 0
           }
           | inr looks ↦ record {
             more = begun t n env ∷ [];
-            step = inr (ap (job_looks_away script) (sym (same_jobs before others was t)) ∙ looks);
+            step = inr (same_look before others was t ∙ looks);
             has = λ k p is. absurd (cc is);
             put_off = begin_on before others was t n env stands orderly (room ∙ sym (room_there before others few was t));
           }

@@ -1,3 +1,6 @@
+pub mod Statements
+pub mod Marks
+pub mod Flags
 pub mod Sights
 pub mod Near
 pub mod SeenEnds

@@ -1,326 +1,259 @@
--- A turn that looks away plays the same in each environment with the same room.
+-- A turn that looks away plays the same in each environment with the same room, and, where it is settled, with the same flag.
 use Rattle.std.proofs.Common.{◌≡◌, ℕ, zero, suc, ℤ, List, [], ◌∷◌, ◌++◌, refl, ◌∙◌, ap, ap₂, subst, Bool, true, false}
-use Rattle.std.specs.Prelude.{Option, Some, None, ◌&&◌, ◌||◌, is_some, pos, if◌then◌else◌, nat_lt, ◌^◌, slice_get, unwrap_or, neg_ℤ}
+use Rattle.std.specs.Prelude.{Option, Some, None, ◌||◌, is_some, pos, if◌then◌else◌, nat_lt, ◌^◌, neg_ℤ}
 use Rattle.std.specs.List.{AllByRecursion}
 use Rattle.swift_types.specs.declared.outcome.Fault.{Fault}
-use Rattle.swift_types.specs.declared.outcome.Fault.TheVariants.{Turns, Invariant}
+use Rattle.swift_types.specs.declared.outcome.Fault.TheVariants.{Turns, Invariant, Cancelled as WasCancelled}
 use Rattle.swift_types.specs.declared.outcome.Resume.{Resume}
 use Rattle.swift_types.specs.declared.outcome.Resume.TheVariants.{Start, Go, Value, Fault as Raise}
 use Rattle.swift_types.specs.declared.limits.TheConstants.{STEPS}
 use Rattle.swift_types.specs.declared.priority.Priority.{Priority}
 use Rattle.swift_types.specs.declared.env.Env.{Env}
-use Rattle.script_code.specs.Tree.{Term, CallTarget, Wanted, Operation, Code, followed}
+use Rattle.script_code.specs.Tree.{Term, CallTarget, Wanted, Operation, Code}
 use Rattle.script_code.specs.Tree as code
-use Rattle.script_code.specs.Layout.{entry, stands_for, exchanged, code_at}
 use Rattle.script_code.specs.Value.{Scene, and_then, joined, ev, evs, in_front, is_zero, flag, within}
 use Rattle.script_code.specs.Instructions.{NextAction, first, ends, does, tests}
 use Rattle.script_code.specs.declared.instruction.NumberPlace.{NumberPlace}
 use Rattle.script_code.specs.declared.instruction.NumberPlace.TheVariants.{Variable, Field}
-use Rattle.swift_script.specs.Scripts.{ScriptView, method_code}
+use Rattle.swift_script.specs.Scripts.{ScriptView}
 use Rattle.swift_interpreter.specs.Frames.{FrameView}
 use Rattle.swift_interpreter.specs.Turn.{InvocationView, EffectView, spawning, detaching, opening, adding, cancelling_task, cancelling_group, ExitView, returning, failing, TurnStateView, TurnInputView, AfterStatement, goes, leaves, Played, standing, scene, with_value, invoked, with_invocation, put, given, keep, with_room, numbered, make, add_child, open_group, close_group, cancels, wait_for, perform, act, settled, at_limit, on, end_of, turn, caught, raised_by, received, taken_by, taken, whole_turn, left_by, exits, undoes, all_hold, kept_of, kept}
 use Rattle.swift_interpreter.specs.Turn as Turn
 use Rattle.swift_turn.specs.Body.{kept_turn, invariants_at, state_at}
 use Rattle.swift_laws.proofs.HistoriesTurns.{all_append, both}
 use Rattle.swift_reordering.specs.Away.{term_looks_away, terms_look_away, term_if_looks_away, wanted_looks_away, operation_looks_away, code_looks_away, frame_looks_away}
+use Rattle.swift_reordering.specs.Statements.{ends_turn}
 use Rattle.swift_reordering.proofs.SeenEnds.{TakesNone}
+use Rattle.swift_reordering.proofs.Statements.{FirstIs, first_is}
 use Rattle.script_code.specs.declared.instruction.Cancelled.{Cancelled}
 use Rattle.script_code.specs.declared.instruction.Cancelled.TheVariants as subject
 
 -- expressions
 
-module _ (variables : List ℤ) (fields : List (List ℤ)) (bindings : List (ℕ × ℤ)) (env other : Env) where
+module _ (cancelled : Bool) (variables : List ℤ) (fields : List (List ℤ)) (bindings : List (ℕ × ℤ)) (env other : Env) (told : cancelled ≡ true → env.cancelled ≡ other.cancelled) where
   abbrev here : Env → Scene
   here e = record { variables = variables; fields = fields; bindings = bindings; env = e }
 
-  same_value : (t : Term) → term_looks_away t ≡ true → ev t (here env) ≡ ev t (here other)
+  same_value : (t : Term) → term_looks_away cancelled t ≡ true → ev t (here env) ≡ ev t (here other)
   same_value (code.number n) away = refl
   same_value (code.variable x) away = refl
   same_value (code.field p) away = refl
   same_value (code.local l d) away = refl
   same_value code.priority away = absurd (cc away)
-  same_value code.cancelled away = absurd (cc away)
+  same_value code.cancelled away = ap (λ (b : Bool). Some (flag b)) (told away)
   same_value (code.opposite t) away = ap (λ (o : Option ℤ). and_then o (λ x. within (neg_ℤ x))) (same_value t away)
   same_value (code.denial t) away = ap (λ (o : Option ℤ). and_then o (λ x. Some (flag (is_zero x)))) (same_value t away)
   same_value (code.binary op a b) away =
-      let parts = both (term_looks_away a) (term_looks_away b) away in
+      let parts = both (term_looks_away cancelled a) (term_looks_away cancelled b) away in
       ap₂ (λ (o u : Option ℤ). and_then o (λ x. joined op x u)) (same_value a parts.0) (same_value b parts.1)
 
-  same_values : (ts : List Term) → terms_look_away ts ≡ true → evs ts (here env) ≡ evs ts (here other)
+  same_values : (ts : List Term) → terms_look_away cancelled ts ≡ true → evs ts (here env) ≡ evs ts (here other)
   same_values [] away = refl
   same_values (t ∷ ts) away =
-      let parts = both (term_looks_away t) (terms_look_away ts) away in
+      let parts = both (term_looks_away cancelled t) (terms_look_away cancelled ts) away in
       ap₂ in_front (same_value t parts.0) (same_values ts parts.1)
 
--- what is left to do looks away, and no effect so far takes the priority of the turn
+module _ (cancelled : Bool) where
+  abbrev IsAway : Code → Type 0
+  IsAway c = code_looks_away cancelled c ≡ true
 
-abbrev LooksAway : TurnStateView → Type 0
-LooksAway s = (code_looks_away s.todo ≡ true) × AllByRecursion TakesNone s.effects
+  -- what is left to do looks away, and no effect so far takes the priority of the turn
 
-abbrev GoesAway : AfterStatement → Type 0
-GoesAway (goes s) = LooksAway s
-GoesAway (leaves s e) = AllByRecursion TakesNone s.effects
+  abbrev LooksAway : TurnStateView → Type 0
+  LooksAway s = (IsAway s.todo) × AllByRecursion TakesNone s.effects
 
--- in both environments the same comes next, and looks away
-abbrev SameNext : AfterStatement → AfterStatement → Type 0
-SameNext x y = (x ≡ y) × GoesAway x
+  abbrev GoesAway : AfterStatement → Type 0
+  GoesAway (goes s) = LooksAway s
+  GoesAway (leaves s e) = AllByRecursion TakesNone s.effects
 
-same_left : (s : TurnStateView) (e : ExitView) → AllByRecursion TakesNone s.effects → SameNext (leaves s e) (leaves s e)
-same_left s e none = (refl, none)
+  -- in both environments the same comes next, and looks away
+  abbrev SameNext : AfterStatement → AfterStatement → Type 0
+  SameNext x y = (x ≡ y) × GoesAway x
 
-value_same : (o u : Option ℤ) (s : TurnStateView) (go : ℤ → AfterStatement) → o ≡ u → AllByRecursion TakesNone s.effects → ((v : ℤ) → GoesAway (go v)) → SameNext (with_value o s go) (with_value u s go)
-value_same None u s go same none next = (ap (λ (x : Option ℤ). with_value x s go) same, none)
-value_same (Some v) u s go same none next = (ap (λ (x : Option ℤ). with_value x s go) same, next v)
+  same_left : (s : TurnStateView) (e : ExitView) → AllByRecursion TakesNone s.effects → SameNext (leaves s e) (leaves s e)
+  same_left s e none = (refl, none)
 
-invocation_same : (c : CallTarget) (o u : Option (List ℤ)) (s : TurnStateView) (go : InvocationView → AfterStatement) → o ≡ u → AllByRecursion TakesNone s.effects → ((i : InvocationView) → GoesAway (go i))
-    → SameNext (with_invocation (invoked c o) s go) (with_invocation (invoked c u) s go)
-invocation_same c None u s go same none next = (ap (λ (x : Option (List ℤ)). with_invocation (invoked c x) s go) same, none)
-invocation_same c (Some vs) u s go same none next = (ap (λ (x : Option (List ℤ)). with_invocation (invoked c x) s go) same, next _)
+  value_same : (o u : Option ℤ) (s : TurnStateView) (go : ℤ → AfterStatement) → o ≡ u → AllByRecursion TakesNone s.effects → ((v : ℤ) → GoesAway (go v)) → SameNext (with_value o s go) (with_value u s go)
+  value_same None u s go same none next = (ap (λ (x : Option ℤ). with_value x s go) same, none)
+  value_same (Some v) u s go same none next = (ap (λ (x : Option ℤ). with_value x s go) same, next v)
 
-given_away : (place : Option NumberPlace) (rest : Code) (s : TurnStateView) (v : ℤ) → code_looks_away rest ≡ true → AllByRecursion TakesNone s.effects → GoesAway (given place rest s v)
-given_away None rest s v away none = (away, none)
-given_away (Some (Variable x)) rest s v away none = (away, none)
-given_away (Some (Field p)) rest s v away none = (away, none)
+  invocation_same : (c : CallTarget) (o u : Option (List ℤ)) (s : TurnStateView) (go : InvocationView → AfterStatement) → o ≡ u → AllByRecursion TakesNone s.effects → ((i : InvocationView) → GoesAway (go i))
+      → SameNext (with_invocation (invoked c o) s go) (with_invocation (invoked c u) s go)
+  invocation_same c None u s go same none next = (ap (λ (x : Option (List ℤ)). with_invocation (invoked c x) s go) same, none)
+  invocation_same c (Some vs) u s go same none next = (ap (λ (x : Option (List ℤ)). with_invocation (invoked c x) s go) same, next _)
 
-none_push : (es : List EffectView) (e : EffectView) → AllByRecursion TakesNone es → TakesNone e → AllByRecursion TakesNone (es ++ e ∷ [])
-none_push es e none one = all_append TakesNone es (e ∷ []) none (one, tt)
+  given_away : (place : Option NumberPlace) (rest : Code) (s : TurnStateView) (v : ℤ) → IsAway rest → AllByRecursion TakesNone s.effects → GoesAway (given place rest s v)
+  given_away None rest s v away none = (away, none)
+  given_away (Some (Variable x)) rest s v away none = (away, none)
+  given_away (Some (Field p)) rest s v away none = (away, none)
 
-room_away : (b : Bool) (s : TurnStateView) (made : AfterStatement) (e : ExitView) → AllByRecursion TakesNone s.effects → GoesAway made → GoesAway (if b then made else leaves s e)
-room_away true s made e none away = away
-room_away false s made e none away = none
+  none_push : (es : List EffectView) (e : EffectView) → AllByRecursion TakesNone es → TakesNone e → AllByRecursion TakesNone (es ++ e ∷ [])
+  none_push es e none one = all_append TakesNone es (e ∷ []) none (one, tt)
 
-make_away : (e : EffectView) (h : Option ℕ) (rest : Code) (s : TurnStateView) → code_looks_away rest ≡ true → AllByRecursion TakesNone s.effects → TakesNone e → GoesAway (make e h rest s)
-make_away e h rest s away none one =
-    room_away (nat_lt 0 s.room) s _ _ none (room_away (nat_lt s.made (2 ^ 32)) s _ _ none (away, none_push s.effects e none one))
+  room_away : (b : Bool) (s : TurnStateView) (made : AfterStatement) (e : ExitView) → AllByRecursion TakesNone s.effects → GoesAway made → GoesAway (if b then made else leaves s e)
+  room_away true s made e none away = away
+  room_away false s made e none away = none
 
-close_away : (gs : List ℕ) (rest : Code) (s : TurnStateView) → code_looks_away rest ≡ true → AllByRecursion TakesNone s.effects → GoesAway (close_group gs rest s)
-close_away [] rest s away none = (away, none)
-close_away (g ∷ gs) rest s away none = none
+  make_away : (e : EffectView) (h : Option ℕ) (rest : Code) (s : TurnStateView) → IsAway rest → AllByRecursion TakesNone s.effects → TakesNone e → GoesAway (make e h rest s)
+  make_away e h rest s away none one =
+      room_away (nat_lt 0 s.room) s _ _ none (room_away (nat_lt s.made (2 ^ 32)) s _ _ none (away, none_push s.effects e none one))
 
-spawn_none : (i : InvocationView) (p : Option Priority) (bindings : List (ℕ × ℤ)) → is_some p ≡ true → TakesNone (spawning i p bindings)
-spawn_none i None bindings is = absurd (cc is)
-spawn_none i (Some p) bindings is = refl
+  check_away : (b : Bool) (rest : Code) (s : TurnStateView) → IsAway rest → AllByRecursion TakesNone s.effects → GoesAway (if b then leaves s (failing WasCancelled) else goes (record s { todo = rest }))
+  check_away true rest s away none = none
+  check_away false rest s away none = (away, none)
 
-cancel_none : (handles : List ℕ) (c : Cancelled) → TakesNone (Turn.cancel_of handles c)
-cancel_none handles (subject.Root r) = refl
-cancel_none handles (subject.Task h) = refl
-cancel_none handles (subject.Group h) = refl
+  close_away : (gs : List ℕ) (rest : Code) (s : TurnStateView) → IsAway rest → AllByRecursion TakesNone s.effects → GoesAway (close_group gs rest s)
+  close_away [] rest s away none = (away, none)
+  close_away (g ∷ gs) rest s away none = none
 
--- joined statements
+  spawn_none : (i : InvocationView) (p : Option Priority) (bindings : List (ℕ × ℤ)) → is_some p ≡ true → TakesNone (spawning i p bindings)
+  spawn_none i None bindings is = absurd (cc is)
+  spawn_none i (Some p) bindings is = refl
 
-joined_true : (a b : Bool) → a ≡ true → b ≡ true → (a && b) ≡ true
-joined_true true b one two = two
-joined_true false b one two = absurd (cc one)
+  cancel_none : (handles : List ℕ) (c : Cancelled) → TakesNone (Turn.cancel_of handles c)
+  cancel_none handles (subject.Root r) = refl
+  cancel_none handles (subject.Task h) = refl
+  cancel_none handles (subject.Group h) = refl
 
-followed_away : (a b : Code) → code_looks_away a ≡ true → code_looks_away b ≡ true → code_looks_away (followed a b) ≡ true
-followed_away code.end b away more = more
-followed_away (code.act d rest) b away more =
-    let parts = both (operation_looks_away d) (code_looks_away rest) away in
-    joined_true _ _ parts.0 (followed_away rest b parts.1 more)
-followed_away (code.choice t x y rest) b away more =
-    let parts = both (term_looks_away t) _ away in
-    let two = both (code_looks_away x) _ parts.1 in
-    let three = both (code_looks_away y) _ two.1 in
-    joined_true _ _ parts.0 (joined_true _ _ two.0 (joined_true _ _ three.0 (followed_away rest b three.1 more)))
-followed_away (code.loop t x rest) b away more =
-    let parts = both (term_looks_away t) _ away in
-    let two = both (code_looks_away x) _ parts.1 in
-    joined_true _ _ parts.0 (joined_true _ _ two.0 (followed_away rest b two.1 more))
+  module _ (outer : List (ℕ × ℤ)) (env other : Env) (told : cancelled ≡ true → env.cancelled ≡ other.cancelled) where
+    abbrev input : Env → TurnInputView
+    input e = record { outer = outer; env = e }
 
-module _ (outer : List (ℕ × ℤ)) (env other : Env) where
-  abbrev input : Env → TurnInputView
-  input e = record { outer = outer; env = e }
+    value_of : (t : Term) (s : TurnStateView) → term_looks_away cancelled t ≡ true → ev t (scene (input env) s) ≡ ev t (scene (input other) s)
+    value_of t s away = same_value cancelled s.variables s.fields (standing (input env) s) env other told t away
 
-  value_of : (t : Term) (s : TurnStateView) → term_looks_away t ≡ true → ev t (scene (input env) s) ≡ ev t (scene (input other) s)
-  value_of t s away = same_value s.variables s.fields (standing (input env) s) env other t away
+    values_of : (ts : List Term) (s : TurnStateView) → terms_look_away cancelled ts ≡ true → evs ts (scene (input env) s) ≡ evs ts (scene (input other) s)
+    values_of ts s away = same_values cancelled s.variables s.fields (standing (input env) s) env other told ts away
 
-  values_of : (ts : List Term) (s : TurnStateView) → terms_look_away ts ≡ true → evs ts (scene (input env) s) ≡ evs ts (scene (input other) s)
-  values_of ts s away = same_values s.variables s.fields (standing (input env) s) env other ts away
+    wait_same : (w : Wanted) (rest : Code) (s : TurnStateView) → wanted_looks_away cancelled w ≡ true → AllByRecursion TakesNone s.effects → SameNext (wait_for (input env) w rest s) (wait_for (input other) w rest s)
+    wait_same (code.call c) rest s away none = invocation_same c _ _ s _ (values_of c.args s away) none (λ i. none)
+    wait_same (code.root r) rest s away none = same_left _ _ none
+    wait_same (code.task h) rest s away none = same_left _ _ none
+    wait_same (code.next h) rest s away none = same_left _ _ none
 
-  wait_same : (w : Wanted) (rest : Code) (s : TurnStateView) → wanted_looks_away w ≡ true → AllByRecursion TakesNone s.effects → SameNext (wait_for (input env) w rest s) (wait_for (input other) w rest s)
-  wait_same (code.call c) rest s away none = invocation_same c _ _ s _ (values_of c.args s away) none (λ i. none)
-  wait_same (code.root r) rest s away none = same_left _ _ none
-  wait_same (code.task h) rest s away none = same_left _ _ none
-  wait_same (code.next h) rest s away none = same_left _ _ none
+    perform_same : (d : Operation) (rest : Code) (s : TurnStateView) → operation_looks_away cancelled d ≡ true → (ends_turn d || code_looks_away cancelled rest) ≡ true → AllByRecursion TakesNone s.effects → SameNext (perform (input env) d rest s) (perform (input other) d rest s)
+    perform_same (code.set_variable x t) rest s away more none = value_same _ _ s _ (value_of t s away) none (λ v. given_away (Some (Variable x)) rest s v more none)
+    perform_same (code.set_field p t) rest s away more none = value_same _ _ s _ (value_of t s away) none (λ v. given_away (Some (Field p)) rest s v more none)
+    perform_same (code.return t) rest s away more none = value_same _ _ s _ (value_of t s away) none (λ v. none)
+    perform_same (code.throw t) rest s away more none = value_same _ _ s _ (value_of t s away) none (λ v. none)
+    perform_same code.check rest s away more none = (ap (λ (b : Bool). if b then leaves s (failing WasCancelled) else goes (record s { todo = rest })) (told away), check_away env.cancelled rest s more none)
+    perform_same code.yield rest s away more none = same_left _ _ none
+    perform_same (code.wait w) rest s away more none = wait_same w rest s away none
+    perform_same (code.receive place o) rest s away more none = (refl, given_away place rest s (pos 0) more none)
+    perform_same (code.spawn c p h) rest s away more none =
+        let parts = both (is_some p) (terms_look_away cancelled c.args) away in
+        invocation_same c _ _ s _ (values_of c.args s parts.1) none (λ i. make_away _ h rest s more none (spawn_none i p _ parts.0))
+    perform_same (code.detach c p h) rest s away more none = invocation_same c _ _ s _ (values_of c.args s away) none (λ i. make_away _ h rest s more none refl)
+    perform_same (code.add h unless c p) rest s away more none =
+        invocation_same c _ _ s _ (values_of c.args s away) none (λ i. room_away (nat_lt 0 s.room) s _ _ none (more, none_push s.effects _ none refl))
+    perform_same (code.cancel c) rest s away more none = (refl, (more, none_push s.effects _ none (cancel_none s.handles c)))
+    perform_same (code.open_group h) rest s away more none = (refl, room_away (nat_lt s.opened (2 ^ 32)) s _ _ none (more, none_push s.effects opening none refl))
+    perform_same code.close_group rest s away more none = (refl, close_away s.groups rest s more none)
+    perform_same (code.bind l t) rest s away more none = value_same _ _ s _ (value_of t s away) none (λ v. (more, none))
+    perform_same code.unbind rest s away more none = (refl, (more, none))
+    perform_same code.assume rest s away more none = (refl, (more, none))
+    perform_same code.isolated rest s away more none = same_left _ _ none
 
-  perform_same : (d : Operation) (rest : Code) (s : TurnStateView) → operation_looks_away d ≡ true → code_looks_away rest ≡ true → AllByRecursion TakesNone s.effects → SameNext (perform (input env) d rest s) (perform (input other) d rest s)
-  perform_same (code.set_variable x t) rest s away more none = value_same _ _ s _ (value_of t s away) none (λ v. given_away (Some (Variable x)) rest s v more none)
-  perform_same (code.set_field p t) rest s away more none = value_same _ _ s _ (value_of t s away) none (λ v. given_away (Some (Field p)) rest s v more none)
-  perform_same (code.return t) rest s away more none = value_same _ _ s _ (value_of t s away) none (λ v. none)
-  perform_same (code.throw t) rest s away more none = value_same _ _ s _ (value_of t s away) none (λ v. none)
-  perform_same code.check rest s away more none = absurd (cc away)
-  perform_same code.yield rest s away more none = same_left _ _ none
-  perform_same (code.wait w) rest s away more none = wait_same w rest s away none
-  perform_same (code.receive place o) rest s away more none = (refl, given_away place rest s (pos 0) more none)
-  perform_same (code.spawn c p h) rest s away more none =
-      let parts = both (is_some p) (terms_look_away c.args) away in
-      invocation_same c _ _ s _ (values_of c.args s parts.1) none (λ i. make_away _ h rest s more none (spawn_none i p _ parts.0))
-  perform_same (code.detach c p h) rest s away more none = invocation_same c _ _ s _ (values_of c.args s away) none (λ i. make_away _ h rest s more none refl)
-  perform_same (code.add h unless c p) rest s away more none =
-      invocation_same c _ _ s _ (values_of c.args s away) none (λ i. room_away (nat_lt 0 s.room) s _ _ none (more, none_push s.effects _ none refl))
-  perform_same (code.cancel c) rest s away more none = (refl, (more, none_push s.effects _ none (cancel_none s.handles c)))
-  perform_same (code.open_group h) rest s away more none = (refl, room_away (nat_lt s.opened (2 ^ 32)) s _ _ none (more, none_push s.effects opening none refl))
-  perform_same code.close_group rest s away more none = (refl, close_away s.groups rest s more none)
-  perform_same (code.bind l t) rest s away more none = value_same _ _ s _ (value_of t s away) none (λ v. (more, none))
-  perform_same code.unbind rest s away more none = (refl, (more, none))
-  perform_same code.assume rest s away more none = (refl, (more, none))
-  perform_same code.isolated rest s away more none = same_left _ _ none
+    if_away : (b : Bool) (x y : Code) → IsAway x → IsAway y → IsAway (if b then x else y)
+    if_away true x y one two = one
+    if_away false x y one two = two
 
-  -- what comes first looks away
+    act_same : (here : NextAction) (s : TurnStateView) → FirstIs (operation_looks_away cancelled) (term_looks_away cancelled) here → AllByRecursion TakesNone s.effects → SameNext (act (input env) here s) (act (input other) here s)
+    act_same ends s away none = same_left _ _ none
+    act_same (does d rest) s away none = perform_same d rest s away.0 away.1 none
+    act_same (tests t held failed) s away none = value_same _ _ s _ (value_of t s away.0) none (λ v. (if_away (is_zero v) failed held away.2 away.1, none))
 
-  abbrev FirstLooksAway : NextAction → Type 0
-  FirstLooksAway ends = Unit {0}
-  FirstLooksAway (does d rest) = (operation_looks_away d ≡ true) × (code_looks_away rest ≡ true)
-  FirstLooksAway (tests t held failed) = (term_looks_away t ≡ true) × (code_looks_away held ≡ true) × (code_looks_away failed ≡ true)
+    -- a turn
 
-  first_away : (c : Code) → code_looks_away c ≡ true → FirstLooksAway (first c)
-  first_away code.end away = tt
-  first_away (code.act d rest) away = both (operation_looks_away d) (code_looks_away rest) away
-  first_away (code.choice t a b rest) away =
-      let parts = both (term_looks_away t) _ away in
-      let two = both (code_looks_away a) _ parts.1 in
-      let three = both (code_looks_away b) _ two.1 in
-      (parts.0, followed_away a rest two.0 three.1, followed_away b rest three.0 three.1)
-  first_away (code.loop t a rest) away =
-      let parts = both (term_looks_away t) _ away in
-      let two = both (code_looks_away a) _ parts.1 in
-      (parts.0, followed_away a (code.loop t a rest) two.0 away, two.1)
+    settled_away : (c : Code) (s : TurnStateView) → s.todo ≡ c → LooksAway s → LooksAway (settled c s)
+    settled_away (code.act code.unbind rest) s is away =
+        settled_away rest (record s { todo = rest; own = Turn.tail s.own }) refl (subst (λ (c : Code). IsAway c) is away.0, away.1)
+    settled_away c s is away = away
 
-  if_away : (b : Bool) (x y : Code) → code_looks_away x ≡ true → code_looks_away y ≡ true → code_looks_away (if b then x else y) ≡ true
-  if_away true x y one two = one
-  if_away false x y one two = two
+    limit_none : (here : NextAction) (s : TurnStateView) → AllByRecursion TakesNone s.effects → AllByRecursion TakesNone (end_of (at_limit here s)).state.effects
+    limit_none ends s none = none
+    limit_none (does code.close_group rest) s none = close_none s.groups rest s none where
+      close_none : (gs : List ℕ) (rest : Code) (s : TurnStateView) → AllByRecursion TakesNone s.effects → AllByRecursion TakesNone (end_of (close_group gs rest s)).state.effects
+      close_none [] rest s none = none
+      close_none (g ∷ gs) rest s none = none
+    limit_none here s none = none
 
-  act_same : (here : NextAction) (s : TurnStateView) → FirstLooksAway here → AllByRecursion TakesNone s.effects → SameNext (act (input env) here s) (act (input other) here s)
-  act_same ends s away none = same_left _ _ none
-  act_same (does d rest) s away none = perform_same d rest s away.0 away.1 none
-  act_same (tests t held failed) s away none = value_same _ _ s _ (value_of t s away.0) none (λ v. (if_away (is_zero v) failed held away.2 away.1, none))
+    abbrev SamePlay : Played → Played → Type 0
+    SamePlay x y = (x ≡ y) × AllByRecursion TakesNone x.state.effects
 
-  -- a turn
+    on_same : (x y : AfterStatement) (go went : TurnStateView → Played) → SameNext x y → ((s : TurnStateView) → LooksAway s → SamePlay (go s) (went s)) → SamePlay (on x go) (on y went)
+    on_same (goes s) y go went same next =
+        let more = next s same.1 in
+        (more.0 ∙ ap (λ (z : AfterStatement). on z went) same.0, more.1)
+    on_same (leaves s e) y go went same next = (ap (λ (z : AfterStatement). on z went) same.0, same.1)
 
-  settled_away : (c : Code) (s : TurnStateView) → s.todo ≡ c → LooksAway s → LooksAway (settled c s)
-  settled_away (code.act code.unbind rest) s is away =
-      settled_away rest (record s { todo = rest; own = Turn.tail s.own }) refl (subst (λ (c : Code). code_looks_away c ≡ true) is away.0, away.1)
-  settled_away c s is away = away
+    turn_same : (n : ℕ) (s : TurnStateView) → LooksAway s → SamePlay (turn (input env) n s) (turn (input other) n s)
+    unfolding turn
+    turn_same zero s away = (refl, limit_none _ _ (settled_away s.todo s refl away).1)
+    turn_same (suc n) s away =
+        let at : TurnStateView = settled s.todo s in
+        let is : LooksAway at = settled_away s.todo s refl away in
+        on_same (act (input env) (first at.todo) at) (act (input other) (first at.todo) at) (turn (input env) n) (turn (input other) n) (act_same (first at.todo) at (first_is (operation_looks_away cancelled) (term_looks_away cancelled) at.todo is.0) is.1) (turn_same n)
 
-  limit_none : (here : NextAction) (s : TurnStateView) → AllByRecursion TakesNone s.effects → AllByRecursion TakesNone (end_of (at_limit here s)).state.effects
-  limit_none ends s none = none
-  limit_none (does code.close_group rest) s none = close_none s.groups rest s none where
-    close_none : (gs : List ℕ) (rest : Code) (s : TurnStateView) → AllByRecursion TakesNone s.effects → AllByRecursion TakesNone (end_of (close_group gs rest s)).state.effects
-    close_none [] rest s none = none
-    close_none (g ∷ gs) rest s none = none
-  limit_none here s none = none
+    -- its resume
 
-  abbrev SamePlay : Played → Played → Type 0
-  SamePlay x y = (x ≡ y) × AllByRecursion TakesNone x.state.effects
+    caught_same : (f : Fault) (o : Option Term) (s : TurnStateView) (go : ℤ → AfterStatement) → term_if_looks_away cancelled o ≡ true → AllByRecursion TakesNone s.effects → ((v : ℤ) → GoesAway (go v)) → SameNext (caught (input env) f o s go) (caught (input other) f o s go)
+    caught_same Turns o s go away none next = same_left _ _ none
+    caught_same f None s go away none next = same_left _ _ none
+    caught_same f (Some t) s go away none next = value_same _ _ s go (value_of t s away) none next
 
-  on_same : (x y : AfterStatement) (go went : TurnStateView → Played) → SameNext x y → ((s : TurnStateView) → LooksAway s → SamePlay (go s) (went s)) → SamePlay (on x go) (on y went)
-  on_same (goes s) y go went same next =
-      let more = next s same.1 in
-      (more.0 ∙ ap (λ (z : AfterStatement). on z went) same.0, more.1)
-  on_same (leaves s e) y go went same next = (ap (λ (z : AfterStatement). on z went) same.0, same.1)
+    raised_away : (resume : Resume) (s : TurnStateView) → LooksAway s → GoesAway (raised_by resume s)
+    raised_away (Raise f) s away = away.1
+    raised_away resume s away = away
 
-  turn_same : (n : ℕ) (s : TurnStateView) → LooksAway s → SamePlay (turn (input env) n s) (turn (input other) n s)
-  unfolding turn
-  turn_same zero s away = (refl, limit_none _ _ (settled_away s.todo s refl away).1)
-  turn_same (suc n) s away =
-      let at : TurnStateView = settled s.todo s in
-      let is : LooksAway at = settled_away s.todo s refl away in
-      on_same (act (input env) (first at.todo) at) (act (input other) (first at.todo) at) (turn (input env) n) (turn (input other) n) (act_same (first at.todo) at (first_away at.todo is.0) is.1) (turn_same n)
+    by_same : (here : NextAction) (resume : Resume) (s : TurnStateView) → FirstIs (operation_looks_away cancelled) (term_looks_away cancelled) here → LooksAway s → SameNext (taken_by (input env) here resume s) (taken_by (input other) here resume s)
+    by_same (does (code.receive place o) rest) Start s first away = (refl, given_away place rest s (pos 0) first.1 away.1)
+    by_same (does (code.receive place o) rest) Go s first away = (refl, given_away place rest s (pos 0) first.1 away.1)
+    by_same (does (code.receive place o) rest) (Value v) s first away = (refl, given_away place rest s v first.1 away.1)
+    by_same (does (code.receive place o) rest) (Raise f) s first away = caught_same f o s (given place rest s) first.0 away.1 (λ v. given_away place rest s v first.1 away.1)
+    by_same here resume s first away = (refl, raised_away resume s away)
 
-  -- its resume
+    -- a fault is pending, or what is left to do looks away
+    abbrev StartsAway : TurnStateView → Type 0
+    StartsAway s = ((is_some s.pending || code_looks_away cancelled s.todo) ≡ true) × AllByRecursion TakesNone s.effects
 
-  caught_same : (f : Fault) (o : Option Term) (s : TurnStateView) (go : ℤ → AfterStatement) → term_if_looks_away o ≡ true → AllByRecursion TakesNone s.effects → ((v : ℤ) → GoesAway (go v)) → SameNext (caught (input env) f o s go) (caught (input other) f o s go)
-  caught_same Turns o s go away none next = same_left _ _ none
-  caught_same f None s go away none next = same_left _ _ none
-  caught_same f (Some t) s go away none next = value_same _ _ s go (value_of t s away) none next
+    taken_same : (pending : Option Fault) (resume : Resume) (s : TurnStateView) → (is_some pending || code_looks_away cancelled s.todo) ≡ true → AllByRecursion TakesNone s.effects
+        → SameNext (taken (input env) pending (first s.todo) resume s) (taken (input other) pending (first s.todo) resume s)
+    taken_same None resume s away none = by_same (first s.todo) resume s (first_is (operation_looks_away cancelled) (term_looks_away cancelled) s.todo away) (away, none)
+    taken_same (Some f) resume s away none = same_left _ _ none
 
-  raised_away : (resume : Resume) (s : TurnStateView) → LooksAway s → GoesAway (raised_by resume s)
-  raised_away (Raise f) s away = away.1
-  raised_away resume s away = away
+    whole_same : (n : ℕ) (s : TurnStateView) (resume : Resume) → StartsAway s → SamePlay (whole_turn (input env) n s resume) (whole_turn (input other) n s resume)
+    whole_same n s resume away =
+        on_same (taken (input env) s.pending (first s.todo) resume s) (taken (input other) s.pending (first s.todo) resume s) (turn (input env) n) (turn (input other) n)
+        (taken_same s.pending resume s away.0 away.1) (turn_same n)
 
-  by_same : (here : NextAction) (resume : Resume) (s : TurnStateView) → FirstLooksAway here → LooksAway s → SameNext (taken_by (input env) here resume s) (taken_by (input other) here resume s)
-  by_same (does (code.receive place o) rest) Start s first away = (refl, given_away place rest s (pos 0) first.1 away.1)
-  by_same (does (code.receive place o) rest) Go s first away = (refl, given_away place rest s (pos 0) first.1 away.1)
-  by_same (does (code.receive place o) rest) (Value v) s first away = (refl, given_away place rest s v first.1 away.1)
-  by_same (does (code.receive place o) rest) (Raise f) s first away = caught_same f o s (given place rest s) first.0 away.1 (λ v. given_away place rest s v first.1 away.1)
-  by_same here resume s first away = (refl, raised_away resume s away)
+    -- and what is kept of it
 
-  -- a fault is pending, or what is left to do looks away
-  abbrev StartsAway : TurnStateView → Type 0
-  StartsAway s = ((is_some s.pending || code_looks_away s.todo) ≡ true) × AllByRecursion TakesNone s.effects
+    left_none : (f : Fault) (gs : List ℕ) (s : TurnStateView) → AllByRecursion TakesNone s.effects → AllByRecursion TakesNone (left_by f gs s).state.effects
+    left_none f [] s none = none
+    left_none f (g ∷ gs) s none = none
 
-  taken_same : (pending : Option Fault) (resume : Resume) (s : TurnStateView) → (is_some pending || code_looks_away s.todo) ≡ true → AllByRecursion TakesNone s.effects
-      → SameNext (taken (input env) pending (first s.todo) resume s) (taken (input other) pending (first s.todo) resume s)
-  taken_same None resume s away none = by_same (first s.todo) resume s (first_away s.todo away) (away, none)
-  taken_same (Some f) resume s away none = same_left _ _ none
+    exits_none : (s : TurnStateView) (e : ExitView) → AllByRecursion TakesNone s.effects → AllByRecursion TakesNone (exits s e).state.effects
+    exits_none s (failing f) none = left_none f s.groups s none
+    exits_none s e none = none
 
-  whole_same : (n : ℕ) (s : TurnStateView) (resume : Resume) → StartsAway s → SamePlay (whole_turn (input env) n s resume) (whole_turn (input other) n s resume)
-  whole_same n s resume away =
-      on_same (taken (input env) s.pending (first s.todo) resume s) (taken (input other) s.pending (first s.todo) resume s) (turn (input env) n) (turn (input other) n)
-      (taken_same s.pending resume s away.0 away.1) (turn_same n)
+    kept_none : (invariants : List Term) (before : TurnStateView) (after : Played) (undone good : Bool) → undoes after.exit ≡ undone → all_hold invariants after.state.fields ≡ good
+        → AllByRecursion TakesNone before.effects → AllByRecursion TakesNone after.state.effects → AllByRecursion TakesNone (kept_of invariants before after).state.effects
+    kept_none invariants before after true good u h was none = rw u (exits_none before after.exit was)
+    kept_none invariants before after false true u h was none = rw (u, h) (exits_none after.state after.exit none)
+    kept_none invariants before after false false u h was none = rw (u, h) (exits_none before (failing Invariant) was)
 
-  -- and what is kept of it
+    kept_same : (n : ℕ) (invariants : List Term) (s : TurnStateView) (resume : Resume) → StartsAway s → SamePlay (kept (input env) n invariants s resume) (kept (input other) n invariants s resume)
+    kept_same n invariants s resume away =
+        let w = whole_turn (input env) n s resume in
+        let same = whole_same n s resume away in
+        (ap (kept_of invariants s) same.0, kept_none invariants s w (undoes w.exit) (all_hold invariants w.state.fields) refl refl away.1 same.1)
 
-  left_none : (f : Fault) (gs : List ℕ) (s : TurnStateView) → AllByRecursion TakesNone s.effects → AllByRecursion TakesNone (left_by f gs s).state.effects
-  left_none f [] s none = none
-  left_none f (g ∷ gs) s none = none
-
-  exits_none : (s : TurnStateView) (e : ExitView) → AllByRecursion TakesNone s.effects → AllByRecursion TakesNone (exits s e).state.effects
-  exits_none s (failing f) none = left_none f s.groups s none
-  exits_none s e none = none
-
-  kept_none : (invariants : List Term) (before : TurnStateView) (after : Played) (undone good : Bool) → undoes after.exit ≡ undone → all_hold invariants after.state.fields ≡ good
-      → AllByRecursion TakesNone before.effects → AllByRecursion TakesNone after.state.effects → AllByRecursion TakesNone (kept_of invariants before after).state.effects
-  kept_none invariants before after true good u h was none = rw u (exits_none before after.exit was)
-  kept_none invariants before after false true u h was none = rw (u, h) (exits_none after.state after.exit none)
-  kept_none invariants before after false false u h was none = rw (u, h) (exits_none before (failing Invariant) was)
-
-  kept_same : (n : ℕ) (invariants : List Term) (s : TurnStateView) (resume : Resume) → StartsAway s → SamePlay (kept (input env) n invariants s resume) (kept (input other) n invariants s resume)
-  kept_same n invariants s resume away =
-      let w = whole_turn (input env) n s resume in
-      let same = whole_same n s resume away in
-      (ap (kept_of invariants s) same.0, kept_none invariants s w (undoes w.exit) (all_hold invariants w.state.fields) refl refl away.1 same.1)
-
--- what is left of a method that looks away does
-
-abbrev IsAway : Code → Type 0
-IsAway c = code_looks_away c ≡ true
-
-stands_away : (c after : Code) → IsAway c → IsAway after → AllByRecursion IsAway (stands_for c after)
-stands_away code.end after away more = tt
-stands_away (code.act d rest) after away more =
-    let parts = both (operation_looks_away d) (code_looks_away rest) away in
-    all_append IsAway (stands_for rest after) _ (stands_away rest after parts.1 more) (followed_away (code.act d rest) after away more, tt)
-stands_away (code.choice t a b rest) after away more =
-    let parts = both (term_looks_away t) _ away in
-    let two = both (code_looks_away a) _ parts.1 in
-    let three = both (code_looks_away b) _ two.1 in
-    let next : IsAway (followed rest after) = followed_away rest after three.1 more in
-    all_append IsAway (stands_for rest after) _ (stands_away rest after three.1 more)
-    (all_append IsAway (stands_for b (followed rest after)) _ (stands_away b (followed rest after) three.0 next)
-    (all_append IsAway (stands_for a (followed rest after)) _ (stands_away a (followed rest after) two.0 next) (followed_away (code.choice t a b rest) after away more, tt)))
-stands_away (code.loop t a rest) after away more =
-    let parts = both (term_looks_away t) _ away in
-    let two = both (code_looks_away a) _ parts.1 in
-    let here : IsAway (code.loop t a (followed rest after)) = followed_away (code.loop t a rest) after away more in
-    all_append IsAway (stands_for rest after) _ (stands_away rest after two.1 more) (here, stands_away a (code.loop t a (followed rest after)) two.0 here)
-
-one_away : (xs : List Code) (k : ℕ) → AllByRecursion IsAway xs → IsAway (unwrap_or (slice_get xs k) code.end)
-one_away [] k all = refl
-one_away (x ∷ xs) zero all = all.0
-one_away (x ∷ xs) (suc k) all = one_away xs k all.1
-
-pub rest_away : (body : Code) (k : ℕ) → code_looks_away body ≡ true → code_looks_away (code_at body k) ≡ true
-unfolding code_at
-rest_away body k away = one_away (code.end ∷ stands_for body code.end) (exchanged (entry body 1 0) k) (refl, stands_away body code.end away refl)
-
-either_away : (script : ScriptView) (p : FrameView) (b : Bool) → (b || code_looks_away (method_code script p.method)) ≡ true → (b || code_looks_away (code_at (method_code script p.method) p.instruction)) ≡ true
-either_away script p true away = refl
-either_away script p false away = rest_away (method_code script p.method) p.instruction away
-
--- so the kept turn of a frame that looks away is the same in each environment with the same room, and no task that it makes takes its priority
-pub same_turn : (script : ScriptView) (p : FrameView) (outer : List (ℕ × ℤ)) (fields : List (List ℤ)) (resume : Resume) (env other : Env) → frame_looks_away script p ≡ true → env.room ≡ other.room
+-- so the kept turn of a frame that looks away is the same in each environment with the same room, and the same flag where it looks at that,
+-- and no task that it makes takes its priority
+pub same_turn : (script : ScriptView) (cancelled : Bool) (p : FrameView) (outer : List (ℕ × ℤ)) (fields : List (List ℤ)) (resume : Resume) (env other : Env) → frame_looks_away script cancelled p ≡ true → env.room ≡ other.room
+    → (cancelled ≡ true → env.cancelled ≡ other.cancelled)
     → (kept_turn script p outer fields resume env ≡ kept_turn script p outer fields resume other) × AllByRecursion TakesNone (kept_turn script p outer fields resume env).state.effects
-same_turn script p outer fields resume env other away room =
-    let both = kept_same outer env other STEPS (invariants_at script p) (state_at script p fields [] env.room) resume (either_away script p (is_some p.pending) away, tt) in
+same_turn script cancelled p outer fields resume env other away room told =
+    let both = kept_same cancelled outer env other told STEPS (invariants_at script p) (state_at script p fields [] env.room) resume (away, tt) in
     (both.0 ∙ ap (λ (n : ℕ). kept (record { outer = outer; env = other }) STEPS (invariants_at script p) (state_at script p fields [] n) resume) room, both.1)

@@ -24,7 +24,7 @@ use Rattle.swift_digest.proofs.Lines.{one_env}
 use Rattle.swift_digest.proofs.Outcomes.{lead_on, orderly_too}
 use Rattle.swift_digest.proofs.SameLogs.{same_life}
 use Rattle.swift_digest.proofs.SameStands.{all_push, block_stands, lead_push}
-use Rattle.swift_reordering.specs.Away.{job_looks_away}
+use Rattle.swift_reordering.specs.Away.{turn_looks_away}
 use Rattle.swift_reordering.specs.Blurred.{stage_at}
 use Rattle.swift_reordering.specs.RunAhead.{OneTurn, after_turn, after_turns, RunsSilently, AllRunSilently, LeadAsOne}
 use Rattle.swift_reordering.specs.Silent.{goes_on_alone, code_is_silent, frame_is_silent}
@@ -35,10 +35,11 @@ use Rattle.swift_reordering.proofs.Bringing.{number_one}
 use Rattle.swift_reordering.proofs.Closed.{same_away}
 use Rattle.swift_reordering.proofs.Beside.{other_life}
 use Rattle.swift_reordering.proofs.Diamonds.{silent_commutes}
+use Rattle.swift_reordering.proofs.Flags.{flag_stays, turn_stays}
 use Rattle.swift_reordering.proofs.Holding.{hold_always}
 use Rattle.swift_reordering.proofs.Keeping.{block_keeps_job}
 use Rattle.swift_reordering.proofs.Sights.{waited}
-use Rattle.swift_reordering.proofs.SilentSteps.{silent_after, over_apart, alone_seen, alone_jobs}
+use Rattle.swift_reordering.proofs.SilentSteps.{silent_after, over_apart, alone_seen, silent_looks}
 
 -- frames of one plan are silent, and go on alone or end their task, both or neither
 
@@ -266,7 +267,7 @@ module _ (script : ScriptView) (cps : List CheckpointView) where
         let later : OneTurn = record { task = x.task; number = x.number; env = c.other; executor = x.executor; turn = record x.turn { env = c.other } } in
         let all_b = all_push script cps h [] b all stands in
         let job = (block_keeps_job script cps h b x.task all stands other.0 (ap is_under_way silent.given)).job in
-        let runs : RunsSilently script cps (h ++ b ∷ []) later = record { silent = c.later; away = ap (job_looks_away script) job ∙ run.0.away } in
+        let runs : RunsSilently script cps (h ++ b ∷ []) later = record { silent = c.later; away = turn_stays script (after_blocks script (at_first script) h) (after_blocks script (at_first script) (h ++ b ∷ [])) x.task (flag_stays script cps h b x.task all stands) job run.0.away } in
         let rest = pass xs (after_turn h x) b (turn_stand h x all run.0) c.first (c.orderly may) run.1 other.1 in
         let past = turns_too rest.others (after_turn h x ++ b ∷ []) (after_turn (h ++ b ∷ []) later) (all_push script cps (after_turn h x) [] b (turn_stand h x all run.0) c.first) (turn_stand (h ++ b ∷ []) later all_b runs) (c.back, c.lead) rest.run in
         record {
@@ -368,33 +369,33 @@ other_add u [] script cps = tt
 other_add u (x ∷ xs) script cps = (tt, other_add u xs script cps)
 
 module _ (script : ScriptView) (cps : List CheckpointView) (hold : (e : ℕ) → all_hold (executor_invariants script e) (checkpoint_at cps e).fields ≡ true) where
-  -- a silent turn leaves the job and the life of another task
+  -- a silent turn leaves how another task looks away, and its life
   past_turn : (h : List Block) (x : OneTurn) (u : ℕ) → AllStand script cps [] h → RunsSilently script cps h x → u ≢ x.task
-      → ((at script cps (after_turn h x)).jobs u ≡ (at script cps h).jobs u) × (life_of u (at script cps (after_turn h x)).log ≡ life_of u (at script cps h).log)
+      → (turn_looks_away script (at script cps (after_turn h x)) u ≡ turn_looks_away script (at script cps h) u) × (life_of u (at script cps (after_turn h x)).log ≡ life_of u (at script cps h).log)
   past_turn h x u all runs ne =
       let silent = runs.silent in
       let one = silent_after script cps h x.task x.number x.env x.executor x.turn silent (hold_always script cps x.executor (hold x.executor) h all) in
       let s = at script cps h in
       let z = at script cps (after_turn h x) in (
-        alone_jobs s z x.task x.number x.env _ one u ne,
+        silent_looks script cps h x.task x.number x.env x.executor x.turn silent (hold_always script cps x.executor (hold x.executor) h all) u ne,
         other_life _ x.task z.log s.log (alone_seen s z x.task x.number x.env _ one (ap waited silent.given) (over_apart script cps h x.task x.number x.env x.executor x.turn silent (hold_always script cps x.executor (hold x.executor) h all))) u ne,
       )
 
   -- a task of such a turn has a job that looks away, and its turn has not begun
   pub first_job : (t : ℕ) (xs : List OneTurn) (h : List Block) → AllStand script cps [] h → AllRunSilently script cps h xs → HasTask t xs
-      → (job_looks_away script ((at script cps h).jobs t) ≡ true) × (stage_at (at script cps h).log t ≡ Some Given)
+      → (turn_looks_away script (at script cps h) t ≡ true) × (stage_at (at script cps h).log t ≡ Some Given)
   first_job t [] h all run has = absurd has
   first_job t (x ∷ xs) h all run (inl same) = (
-    ap (λ (u : ℕ). job_looks_away script ((at script cps h).jobs u)) (sym same) ∙ run.0.away,
+    ap (turn_looks_away script (at script cps h)) (sym same) ∙ run.0.away,
     ap (stage_at (at script cps h).log) (sym same) ∙ run.0.silent.given,
   )
   first_job t (x ∷ xs) h all run (inr more) =
       let past = past_turn h x t all run.0 more.0 in
       let rest = first_job t xs (after_turn h x) (turn_stand script cps h x all run.0) run.1 more.1 in
-      (ap (job_looks_away script) (sym past.0) ∙ rest.0, ap (λ (l : Life). l.stage) (sym past.1) ∙ rest.1)
+      (sym past.0 ∙ rest.0, ap (λ (l : Life). l.stage) (sym past.1) ∙ rest.1)
 
-  -- other tasks have the same job after these turns
-  pub past_turns : (t : ℕ) (xs : List OneTurn) (h : List Block) → AllStand script cps [] h → AllRunSilently script cps h xs → NoTask t xs → (at script cps (after_turns h xs)).jobs t ≡ (at script cps h).jobs t
+  -- other tasks look away as before after these turns
+  pub past_turns : (t : ℕ) (xs : List OneTurn) (h : List Block) → AllStand script cps [] h → AllRunSilently script cps h xs → NoTask t xs → turn_looks_away script (at script cps (after_turns h xs)) t ≡ turn_looks_away script (at script cps h) t
   past_turns t [] h all run none = refl
   past_turns t (x ∷ xs) h all run none = past_turns t xs (after_turn h x) (turn_stand script cps h x all run.0) run.1 none.1 ∙ (past_turn h x t all run.0 none.0).0
 

@@ -8,7 +8,7 @@ use Rattle.swift_types.specs.declared.outcome.Resume.{Resume}
 use Rattle.swift_types.specs.declared.outcome.Resume.TheVariants.{Start, Go, Value, Fault as Raise}
 use Rattle.swift_types.specs.declared.limits.TheConstants.{STEPS}
 use Rattle.swift_types.specs.declared.env.Env.{Env}
-use Rattle.script_code.specs.Tree.{Term, CallTarget, Wanted, Operation, Code, followed}
+use Rattle.script_code.specs.Tree.{Term, CallTarget, Wanted, Operation, Code}
 use Rattle.script_code.specs.Tree as code
 use Rattle.script_code.specs.Layout.{code_at}
 use Rattle.script_code.specs.Value.{Scene, and_then, joined, within, flag, ev, evs, in_front, is_zero}
@@ -21,7 +21,9 @@ use Rattle.swift_interpreter.specs.Turn.{InvocationView, EffectView, ExitView, r
 use Rattle.swift_interpreter.specs.Turn as Turn
 use Rattle.swift_turn.specs.Body.{kept_turn, invariants_at, state_at}
 use Rattle.swift_laws.proofs.HistoriesTurns.{both}
-use Rattle.swift_reordering.specs.Silent.{term_is_own, terms_are_own, term_if_is_own, wanted_is_own, place_is_own, operation_is_silent, ends_turn, code_is_silent}
+use Rattle.swift_reordering.specs.Silent.{term_is_own, terms_are_own, term_if_is_own, wanted_is_own, place_is_own, operation_is_silent, code_is_silent}
+use Rattle.swift_reordering.specs.Statements.{ends_turn}
+use Rattle.swift_reordering.proofs.Statements.{FirstIs, first_is}
 
 -- expressions
 
@@ -46,31 +48,14 @@ module _ (variables : List ℤ) (bindings : List (ℕ × ℤ)) (f g : List (List
 
 -- statements
 
-followed_silent : (a b : Code) (after : Bool) → code_is_silent (followed a b) after ≡ code_is_silent a (code_is_silent b after)
-followed_silent code.end b after = refl
-followed_silent (code.act d rest) b after = ap (λ (x : Bool). operation_is_silent d && (ends_turn d || x)) (followed_silent rest b after)
-followed_silent (code.choice t x y rest) b after = ap (λ (z : Bool). term_is_own t && (code_is_silent x z && code_is_silent y z)) (followed_silent rest b after)
-followed_silent (code.loop t x rest) b after = ap (λ (z : Bool). term_is_own t && (code_is_silent x true && z)) (followed_silent rest b after)
-
 abbrev IsSilent : Code → Type 0
 IsSilent c = code_is_silent c true ≡ true
 
 abbrev FirstIsSilent : NextAction → Type 0
-FirstIsSilent ends = Unit {0}
-FirstIsSilent (does d rest) = (operation_is_silent d ≡ true) × ((ends_turn d || code_is_silent rest true) ≡ true)
-FirstIsSilent (tests t held failed) = (term_is_own t ≡ true) × IsSilent held × IsSilent failed
+FirstIsSilent x = FirstIs operation_is_silent term_is_own x
 
 first_silent : (c : Code) → IsSilent c → FirstIsSilent (first c)
-first_silent code.end is = tt
-first_silent (code.act d rest) is = both (operation_is_silent d) _ is
-first_silent (code.choice t a b rest) is =
-    let parts = both (term_is_own t) _ is in
-    let two = both (code_is_silent a (code_is_silent rest true)) _ parts.1 in
-    (parts.0, followed_silent a rest true ∙ two.0, followed_silent b rest true ∙ two.1)
-first_silent (code.loop t a rest) is =
-    let parts = both (term_is_own t) _ is in
-    let two = both (code_is_silent a true) _ parts.1 in
-    (parts.0, followed_silent a (code.loop t a rest) true ∙ ap (code_is_silent a) is ∙ two.0, two.1)
+first_silent c is = first_is operation_is_silent term_is_own c is
 
 -- on other fields, and with other room
 

@@ -37,9 +37,10 @@ use Rattle.swift_reordering.specs.Blurred.{stage_at}
 use Rattle.swift_reordering.specs.SilentTurns.{IsSilentTurn}
 use Rattle.swift_reordering.specs.Silent.{goes_on_alone}
 use Rattle.swift_reordering.specs.Unnamed.{IsApart, ends_task}
+use Rattle.swift_reordering.specs.Away.{job_looks_away, turn_looks_away}
 use Rattle.swift_reordering.proofs.Apart.{Apart, LeavesApart, apart_push}
-use Rattle.swift_reordering.proofs.Sights.{waited, AreSeen}
-use Rattle.swift_reordering.proofs.Beside.{IsOfJob, besides, seen_local}
+use Rattle.swift_reordering.proofs.Sights.{waited, AreSeen, seen_cancelled}
+use Rattle.swift_reordering.proofs.Beside.{IsOfJob, besides, besides_sight, seen_local}
 use Rattle.swift_reordering.proofs.SilentPlay.{SamePlay, silent_turn}
 
 -- the end of a turn after which the task goes on alone, or has ended
@@ -288,3 +289,11 @@ module _ (script : ScriptView) (cps : List CheckpointView) where
         fields_push script cps k (before ++ begun t n env ∷ []) (ran e r)
         ∙ fields_if (e == k) (fields_of script cps k (before ++ begun t n env ∷ [])) (λ same. ap (λ (x : ℕ). fields_of script cps x (before ++ begun t n env ∷ [])) (sym (eqb-true e k same)))
         ∙ fields_mid k
+
+    -- it leaves how another task looks away
+    pub silent_looks : (u : ℕ) → u ≢ t → turn_looks_away script (after_blocks script (at_first script) after) u ≡ turn_looks_away script s u
+    silent_looks u ne =
+        let z : Standing = after_blocks script (at_first script) after in
+        let seen = alone_seen s z t n env on_alone.way silent_after (ap waited silent.given) over_apart in
+        ap₂ (λ (b : Bool) (o : Option JobFacts). job_looks_away script b o)
+        (seen_cancelled (besides (is_over on_alone.way) t) (besides_sight (is_over on_alone.way) t) z.log s.log seen u) (alone_jobs s z t n env on_alone.way silent_after u ne)

@@ -11,7 +11,7 @@ use Rattle.swift_journal.specs.Checkpoints.{CheckpointView}
 use Rattle.swift_events.specs.declared.life.Life.{Life}
 use Rattle.swift_events.specs.declared.life.JobStage.TheVariants.{Given}
 use Rattle.swift_history.specs.Checks.{is_begun, is_under_way}
-use Rattle.swift_history.specs.Histories.{Block, added, begun, ran, folded, Standing, at_first, after_blocks, checkpoint_at, AllStand}
+use Rattle.swift_history.specs.Histories.{Block, added, begun, ran, folded, Standing, at_first, after_blocks, checkpoint_at, Stands, AllStand}
 use Rattle.swift_history.specs.Orderly.{AllAllowed, IsOrderly}
 use Rattle.swift_laws.specs.Laws.{ActorsHaveExecutors}
 use Rattle.swift_digest.specs.Futures.{LeadAlike}
@@ -19,12 +19,13 @@ use Rattle.swift_digest.specs.Explored.{IsNotFolded}
 use Rattle.swift_digest.proofs.Outcomes.{lead_on}
 use Rattle.swift_digest.proofs.SameLogs.{same_life}
 use Rattle.swift_digest.proofs.SameStands.{all_push}
-use Rattle.swift_reordering.specs.Away.{job_looks_away}
+use Rattle.swift_reordering.specs.Away.{turn_looks_away}
 use Rattle.swift_reordering.specs.Blurred.{stage_at}
 use Rattle.swift_reordering.specs.Fused.{RunsNext, BeginLate}
 use Rattle.swift_reordering.specs.FusedSteps.{IsFusedStep, MayStep, HasExit}
 use Rattle.swift_reordering.specs.Waiting.{IsOfOther}
 use Rattle.swift_reordering.specs.SilentTurns.{IsSilentTurn, OwnNext}
+use Rattle.swift_reordering.proofs.Flags.{flag_stays, turn_stays}
 use Rattle.swift_reordering.proofs.Walks.{IsCourse}
 use Rattle.swift_reordering.proofs.Others.{KeepsJob}
 use Rattle.swift_reordering.proofs.Keeping.{block_keeps_job}
@@ -62,24 +63,28 @@ module _ (script : ScriptView) (cps : List CheckpointView) where
   same_job : (b : Block) (bs h : List Block) (t : ℕ) → AllStand script cps [] h → GoesToEnd h (b ∷ bs) → stage_at (at h).log t ≡ Some Given → IsOfOther t b → KeepsJob (at h) (at (h ++ b ∷ [])) t
   same_job b bs h t all g given other = block_keeps_job script cps h b t all g.stand.0 other (ap is_under_way given)
 
+  -- and goes on looking away
+  still_away : (h : List Block) (b : Block) (t : ℕ) → AllStand script cps [] h → Stands script cps h b → KeepsJob (at h) (at (h ++ b ∷ [])) t → turn_looks_away script (at h) t ≡ true → turn_looks_away script (at (h ++ b ∷ [])) t ≡ true
+  still_away h b t all stands keep away = turn_stays script (at h) (at (h ++ b ∷ [])) t (flag_stays script cps h b t all stands) keep.job away
+
   -- where a task has a job, its turn that looks away is still to come
-  own_next : (rest h : List Block) (t : ℕ) → AllStand script cps [] h → GoesToEnd h rest → stage_at (at h).log t ≡ Some Given → job_looks_away script ((at h).jobs t) ≡ true → OwnNext t rest
+  own_next : (rest h : List Block) (t : ℕ) → AllStand script cps [] h → GoesToEnd h rest → stage_at (at h).log t ≡ Some Given → turn_looks_away script (at h) t ≡ true → OwnNext t rest
   own_next [] h t all g given away = absurd (false≢true (sym (subst IsFinished (append-nil h) g.finished t) ∙ ap is_under_way given))
   own_next (added r ∷ bs) h t all g given away =
       let keep = same_job (added r) bs h t all g given tt in
-      (tt, own_next bs (h ++ added r ∷ []) t (all_push script cps h [] (added r) all g.stand.0) (front h (added r) bs g) (keep.same.stage ∙ given) (ap (job_looks_away script) keep.job ∙ away))
+      (tt, own_next bs (h ++ added r ∷ []) t (all_push script cps h [] (added r) all g.stand.0) (front h (added r) bs g) (keep.same.stage ∙ given) (still_away h (added r) t all g.stand.0 keep away))
   own_next (folded e f ∷ bs) h t all g given away = absurd g.plain.0
   own_next (ran e r ∷ bs) h t all g given away =
       let ne : r.task ≢ t = λ same.
       (let was : is_begun (stage_at (at h).log t) ≡ true = ap (λ (u : ℕ). is_begun (stage_at (at h).log u)) (sym same) ∙ ap is_begun g.stand.0.stands.has_begun in
       false≢true (sym (ap is_begun given) ∙ was)) in
       let keep = same_job (ran e r) bs h t all g given ne in
-      (ne, own_next bs (h ++ ran e r ∷ []) t (all_push script cps h [] (ran e r) all g.stand.0) (front h (ran e r) bs g) (keep.same.stage ∙ given) (ap (job_looks_away script) keep.job ∙ away))
+      (ne, own_next bs (h ++ ran e r ∷ []) t (all_push script cps h [] (ran e r) all g.stand.0) (front h (ran e r) bs g) (keep.same.stage ∙ given) (still_away h (ran e r) t all g.stand.0 keep away))
   own_next (begun u m x ∷ bs) h t all g given away = elim (cases_eq u t) [
-    | inl same ↦ inl (same, subst (λ (v : ℕ). RunsNext v bs) same (g.late.0 (ap (λ (v : ℕ). job_looks_away script ((at h).jobs v)) same ∙ away)))
+    | inl same ↦ inl (same, subst (λ (v : ℕ). RunsNext v bs) same (g.late.0 (ap (turn_looks_away script (at h)) same ∙ away)))
     | inr ne ↦
         let keep = same_job (begun u m x) bs h t all g given ne in
-        inr (ne, own_next bs (h ++ begun u m x ∷ []) t (all_push script cps h [] (begun u m x) all g.stand.0) (front h (begun u m x) bs g) (keep.same.stage ∙ given) (ap (job_looks_away script) keep.job ∙ away))
+        inr (ne, own_next bs (h ++ begun u m x ∷ []) t (all_push script cps h [] (begun u m x) all g.stand.0) (front h (begun u m x) bs g) (keep.same.stage ∙ given) (still_away h (begun u m x) t all g.stand.0 keep away))
   ]
 
   -- what goes to the end after one history goes to the end after another that it leads alike
@@ -117,7 +122,7 @@ module _ (script : ScriptView) (cps : List CheckpointView) where
     pub r : RecordView
     pub silent : IsSilentTurn script cps h t n env e r
     pub may : IsOrderly script h (begun t n env)
-    pub away : job_looks_away script ((at h).jobs t) ≡ true
+    pub away : turn_looks_away script (at h) t ≡ true
     pub kept : List Block
     pub is_kept : Kept kept
     pub lead : LeadAlike script cps ((h ++ begun t n env ∷ []) ++ ran e r ∷ []) kept
@@ -213,7 +218,7 @@ module _ (script : ScriptView) (cps : List CheckpointView) where
         go_step fuel h (b ∷ []) bs kept (record { fused = is; stands = (g.stand.0, tt); orderly = (g.may.0, tt) }) (all_push script cps h [] b (course h kept).stand g.stand.0) (front h b bs g) few steps walk
 
     -- a turn that looks away begins and runs
-    go_two : (fuel : ℕ) (h : List Block) (t n : ℕ) (env : Env) (bs : List Block) → Kept h → GoesToEnd h (begun t n env ∷ bs) → job_looks_away script ((at h).jobs t) ≡ true → RunsNext t bs → length bs ≤ fuel → Steps h → Walk fuel
+    go_two : (fuel : ℕ) (h : List Block) (t n : ℕ) (env : Env) (bs : List Block) → Kept h → GoesToEnd h (begun t n env ∷ bs) → turn_looks_away script (at h) t ≡ true → RunsNext t bs → length bs ≤ fuel → Steps h → Walk fuel
         → Ends h (begun t n env ∷ bs)
     go_two fuel h t n env (ran e r ∷ bs) kept g away runs few steps walk =
         let c : Block = begun t n env in
@@ -233,7 +238,7 @@ module _ (script : ScriptView) (cps : List CheckpointView) where
     go_any fuel h (added r) bs kept g few steps walk = go_one fuel h (added r) bs kept g tt few steps walk
     go_any fuel h (ran e r) bs kept g few steps walk = go_one fuel h (ran e r) bs kept g tt few steps walk
     go_any fuel h (folded e f) bs kept g few steps walk = absurd g.plain.0
-    go_any fuel h (begun t n env) bs kept g few steps walk = elim (cases_Bool (job_looks_away script ((at h).jobs t))) [
+    go_any fuel h (begun t n env) bs kept g few steps walk = elim (cases_Bool (turn_looks_away script (at h) t)) [
       | inl away ↦ go_two fuel h t n env bs kept g away (g.late.0 away) few steps walk
       | inr looks ↦ go_one fuel h (begun t n env) bs kept g looks few steps walk
     ]

@@ -1,4 +1,4 @@
--- A method whose instructions look away looks away; where they spare a root, it does.
+-- Each statement of a method is so where each of its instructions is.
 use Rattle.std.proofs.Common.{◌≡◌, ℕ, zero, suc, List, [], ◌∷◌, refl, sym, ◌∙◌, ap, Bool, true, false}
 use Rattle.std.specs.Prelude.{Option, Some, None, All, Contains, ◌&&◌, slice_get}
 use Rattle.std.proofs.lemmas.Bool.{false≢true}
@@ -11,7 +11,7 @@ use Rattle.script_code.specs.declared.instruction.Act.{Act}
 use Rattle.script_code.specs.declared.instruction.Act.TheVariants as acts
 use Rattle.script_code.specs.declared.instruction.Instruction.{Instruction}
 use Rattle.swift_reordering.proofs.Priorities.{cons_here, cons_more}
-use Rattle.swift_reordering.specs.Away.{term_looks_away, operation_looks_away, code_all, action_is, instruction_is, InstructionsTell}
+use Rattle.swift_reordering.specs.Statements.{code_all, action_is, instruction_is}
 use Rattle.swift_reordering.specs.Unnamed.{operation_spares, term_spares, InstructionsSpare}
 
 module _ (op : Operation → Bool) (test : Term → Bool) where
@@ -118,9 +118,6 @@ module _ (op : Operation → Bool) (test : Term → Bool) (instructions : List I
 
   body_is : code_all op test body ≡ true
   body_is = part_is body code.end 0 (follows.start ∙ sym (ends_so body))
-
-pub instructions_tell : InstructionsTell
-instructions_tell instructions body at follows all = body_is operation_looks_away term_looks_away instructions body at follows all
 
 pub instructions_spare : InstructionsSpare
 instructions_spare t instructions body at follows all = body_is (operation_spares t) term_spares instructions body at follows all

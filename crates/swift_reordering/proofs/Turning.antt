@@ -1,5 +1,5 @@
 -- A turn that stands at one standing stands at another that differs only in which turns under way have begun, and in which environments.
-use Rattle.std.proofs.Common.{◌≡◌, ◌⊎◌, ℕ, ℤ, List, refl, sym, ◌∙◌, ap, ap₂, subst, subst₂, true, inl, inr}
+use Rattle.std.proofs.Common.{◌≡◌, ◌⊎◌, ℕ, ℤ, List, refl, sym, ◌∙◌, ap, ap₂, subst, subst₂, Bool, true, inl, inr}
 use Rattle.std.specs.Prelude.{Option, Some}
 use Rattle.std.specs.List.{AllByRecursion}
 use Rattle.swift_types.specs.declared.priority.Priority.{Priority}
@@ -25,11 +25,17 @@ use Rattle.swift_reordering.proofs.NearEnds.{AreJoint, near_end}
 use Rattle.swift_reordering.proofs.SeenEnds.{TakesNone}
 use Rattle.swift_reordering.proofs.Playing.{same_turn}
 
+-- a turn of a frame looks away in two environments: at whether the task is cancelled it looks only where both say the same
+pub record LooksAwayIn (script : ScriptView) (p : FrameView) (env other : Env) : Type 0 where
+  pub cancelled : Bool
+  pub away : frame_looks_away script cancelled p ≡ true
+  pub told : cancelled ≡ true → env.cancelled ≡ other.cancelled
+
 -- What is asked of the environment in which a turn has begun at the other standing: it has the same room, and it is the same where the turn
 -- looks at it.
 pub record MayPlayIn (script : ScriptView) (p : FrameView) (env other : Env) : Type 0 where
   pub room : env.room ≡ other.room
-  pub same : (env ≡ other) ⊎ (frame_looks_away script p ≡ true)
+  pub same : (env ≡ other) ⊎ LooksAwayIn script p env other
 
 pub in_own : (script : ScriptView) (p : FrameView) (env : Env) → MayPlayIn script p env env
 in_own script p env = record { room = refl; same = inl refl }
@@ -84,9 +90,9 @@ module _ (script : ScriptView) (s z : Standing) (close : AreClose s z) where
 -- a record
 
 module _ (script : ScriptView) (fields : List (List ℤ)) (r : RecordView) (other : Env) (may : MayPlayIn script r.frame r.env other) where
-  play_by : (r.env ≡ other) ⊎ (frame_looks_away script r.frame ≡ true) → turn_of script fields r ≡ turn_of script fields (record r { env = other })
+  play_by : (r.env ≡ other) ⊎ LooksAwayIn script r.frame r.env other → turn_of script fields r ≡ turn_of script fields (record r { env = other })
   play_by (inl same) = ap (λ (e : Env). turn_of script fields (record r { env = e })) same
-  play_by (inr away) = (same_turn script r.frame r.outer fields r.resume r.env other away may.room).0
+  play_by (inr x) = (same_turn script x.cancelled r.frame r.outer fields r.resume r.env other x.away may.room x.told).0
 
   pub same_play : turn_of script fields r ≡ turn_of script fields (record r { env = other })
   same_play = play_by may.same
@@ -98,9 +104,9 @@ module _ (script : ScriptView) (fields : List (List ℤ)) (r : RecordView) (othe
     after = subst (λ (k : Played). IsAfter script r.frame.method k.state r.exit r.after) same_play lawful.after;
   }
 
-  free_by : (r.env ≡ other) ⊎ (frame_looks_away script r.frame ≡ true) → IsLawfulRecord script fields r → (r.env ≡ other) ⊎ AllByRecursion TakesNone r.effects
+  free_by : (r.env ≡ other) ⊎ LooksAwayIn script r.frame r.env other → IsLawfulRecord script fields r → (r.env ≡ other) ⊎ AllByRecursion TakesNone r.effects
   free_by (inl same) lawful = inl same
-  free_by (inr away) lawful = inr (subst (AllByRecursion TakesNone) (sym lawful.effects) (same_turn script r.frame r.outer fields r.resume r.env other away may.room).1)
+  free_by (inr x) lawful = inr (subst (AllByRecursion TakesNone) (sym lawful.effects) (same_turn script x.cancelled r.frame r.outer fields r.resume r.env other x.away may.room x.told).1)
 
   pub takes_none : IsLawfulRecord script fields r → (r.env ≡ other) ⊎ AllByRecursion TakesNone r.effects
   takes_none lawful = free_by may.same lawful

@@ -16,7 +16,7 @@ use Rattle.swift_history.specs.Histories.{Block, added, begun, ran, folded, Stan
 use Rattle.swift_history.specs.Orderly.{AllAllowed, IsOrderly, job_executor}
 use Rattle.swift_laws.specs.Laws.{ActorsHaveExecutors}
 use Rattle.swift_laws.proofs.HistoriesTurns.{current_is}
-use Rattle.swift_reordering.specs.Away.{job_looks_away}
+use Rattle.swift_reordering.specs.Away.{turn_looks_away}
 use Rattle.swift_reordering.specs.Blurred.{AreClose, LeadClose, stage_at}
 use Rattle.swift_reordering.specs.FusedSteps.{HasRoom}
 use Rattle.swift_reordering.specs.Waiting.{IsOfOther, BeginsAfter, BeginsMayWait}
@@ -49,7 +49,7 @@ same_current : (a b : Life) (n : ℕ) (j : JobFacts) → a.stage ≡ b.stage →
 same_current a b n j stage given = ap₂ (λ (s : Option JobStage) (g : Option LastJob). is_current (record a { stage = s; given = g }) n j.resume) stage given
 
 module _ (script : ScriptView) (cps : List CheckpointView) (before : List Block) (t n : ℕ) (env : Env) (b : Block) (on : ActorsHaveExecutors script) (stand : AllStand script cps [] (before ++ begun t n env ∷ b ∷ []))
-    (orderly : AllAllowed (IsOrderly script) [] (before ++ begun t n env ∷ b ∷ [])) (away : job_looks_away script ((after_blocks script (at_first script) before).jobs t) ≡ true) (of_other : IsOfOther t b)
+    (orderly : AllAllowed (IsOrderly script) [] (before ++ begun t n env ∷ b ∷ [])) (away : turn_looks_away script (after_blocks script (at_first script) before) t ≡ true) (of_other : IsOfOther t b)
     (room : HasRoom script (before ++ begun t n env ∷ b ∷ [])) where
   -- the task whose begin is put off
   abbrev Mine : ℕ → Type 0

@@ -9,7 +9,7 @@ use Rattle.swift_history.specs.Histories.{Block, begun, ran, at_first, after_blo
 use Rattle.swift_history.specs.Orderly.{IsOrderlyLegal}
 use Rattle.swift_laws.specs.Laws.{ActorsHaveExecutors}
 use Rattle.swift_digest.specs.Explored.{FoldsNone}
-use Rattle.swift_reordering.specs.Away.{job_looks_away}
+use Rattle.swift_reordering.specs.Away.{turn_looks_away}
 
 -- the first of these blocks is a turn of task `t`, which runs
 abbrev pub RunsNext : ℕ → List Block → Type 0
@@ -20,7 +20,7 @@ RunsNext t _ = ⊥
 abbrev pub BeginLate : ScriptView → List Block → List Block → Type 0
 BeginLate script before [] = Unit {0}
 BeginLate script before (begun t n env ∷ bs) =
-    (job_looks_away script ((after_blocks script (at_first script) before).jobs t) ≡ true → RunsNext t bs) × BeginLate script (before ++ begun t n env ∷ []) bs
+    (turn_looks_away script (after_blocks script (at_first script) before) t ≡ true → RunsNext t bs) × BeginLate script (before ++ begun t n env ∷ []) bs
 BeginLate script before (b ∷ bs) = BeginLate script (before ++ b ∷ []) bs
 
 -- any environment

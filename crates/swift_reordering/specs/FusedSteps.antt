@@ -11,15 +11,15 @@ use Rattle.swift_history.specs.Orderly.{AllAllowed, IsOrderly, IsOrderlyLegal}
 use Rattle.swift_laws.specs.Laws.{ActorsHaveExecutors}
 use Rattle.swift_digest.specs.Futures.{LeadAlike}
 use Rattle.swift_digest.specs.Explored.{StartsFresh, IsOutcome, state_of, FoldsNone}
-use Rattle.swift_reordering.specs.Away.{job_looks_away}
+use Rattle.swift_reordering.specs.Away.{turn_looks_away}
 
 -- One step after a history: a root is added; a turn that does not look away begins; a turn that has begun runs; or a turn that looks away
 -- begins and runs.
 abbrev pub IsFusedStep : ScriptView → List Block → List Block → Type 0
 IsFusedStep script before (added r ∷ []) = Unit {0}
-IsFusedStep script before (begun t n env ∷ []) = job_looks_away script ((after_blocks script (at_first script) before).jobs t) ≡ false
+IsFusedStep script before (begun t n env ∷ []) = turn_looks_away script (after_blocks script (at_first script) before) t ≡ false
 IsFusedStep script before (ran e r ∷ []) = Unit {0}
-IsFusedStep script before (begun t n env ∷ ran e r ∷ []) = (job_looks_away script ((after_blocks script (at_first script) before).jobs t) ≡ true) × (r.task ≡ t)
+IsFusedStep script before (begun t n env ∷ ran e r ∷ []) = (turn_looks_away script (after_blocks script (at_first script) before) t ≡ true) × (r.task ≡ t)
 IsFusedStep script before _ = ⊥
 
 -- such a step may follow a history, each of its blocks in order

@@ -1,3 +1,5 @@
+pub mod Statements
+pub mod Marks
 pub mod Blurred
 pub mod Away
 pub mod Fused

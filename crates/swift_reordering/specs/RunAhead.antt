@@ -10,7 +10,7 @@ use Rattle.swift_history.specs.Orderly.{IsOrderlyLegal}
 use Rattle.swift_laws.specs.Laws.{ActorsHaveExecutors}
 use Rattle.swift_digest.specs.Futures.{LeadAlike}
 use Rattle.swift_digest.specs.Explored.{StartsFresh, IsOutcome, state_of, FoldsNone}
-use Rattle.swift_reordering.specs.Away.{job_looks_away}
+use Rattle.swift_reordering.specs.Away.{turn_looks_away}
 use Rattle.swift_reordering.specs.FusedSteps.{MayStep, HasRoom}
 use Rattle.swift_reordering.specs.SilentTurns.{IsSilentTurn}
 use Rattle.swift_reordering.specs.SilentSearch.{InvariantsStart}
@@ -35,7 +35,7 @@ after_turns h (x ∷ xs) = after_turns (after_turn h x) xs
 -- a turn may run after a history; it is silent, and looks away
 pub record RunsSilently (script : ScriptView) (checkpoints : List CheckpointView) (h : List Block) (x : OneTurn) : Type 0 where
   pub silent : IsSilentTurn script checkpoints h x.task x.number x.env x.executor x.turn
-  pub away : job_looks_away script ((after_blocks script (at_first script) h).jobs x.task) ≡ true
+  pub away : turn_looks_away script (after_blocks script (at_first script) h) x.task ≡ true
 
 -- each of these may, one after the other
 abbrev pub AllRunSilently : ScriptView → List CheckpointView → List Block → List OneTurn → Type 0

@@ -10,6 +10,7 @@ use Rattle.swift_interpreter.specs.Frames.{FrameView}
 use Rattle.swift_interpreter.specs.Turn.{ExitView, calling, yielding, returning, failing}
 use Rattle.swift_turn.specs.Body.{callers_of}
 use Rattle.swift_history.specs.TurnEnds.{JobFacts}
+use Rattle.swift_reordering.specs.Statements.{turn_all}
 
 -- the expression reads no field, and looks away
 abbrev pub term_is_own : Term → Bool
@@ -58,20 +59,10 @@ operation_is_silent (code.open_group h) = false
 operation_is_silent (code.bind l t) = term_is_own t
 operation_is_silent _ = true
 
--- the turn ends with it, whatever follows
-abbrev pub ends_turn : Operation → Bool
-ends_turn (code.return t) = true
-ends_turn (code.throw t) = true
-ends_turn code.yield = true
-ends_turn (code.wait w) = true
-ends_turn _ = false
-
--- From here to each end of the turn that comes next each statement is so, where `after` says it of what follows.
+-- From here to each end of the turn that comes next each statement is so, and each test reads no field and looks away, where `after` says it
+-- of what follows.
 abbrev pub code_is_silent : Code → Bool → Bool
-code_is_silent code.end after = after
-code_is_silent (code.act d rest) after = operation_is_silent d && (ends_turn d || code_is_silent rest after)
-code_is_silent (code.choice t a b rest) after = term_is_own t && (code_is_silent a (code_is_silent rest after) && code_is_silent b (code_is_silent rest after))
-code_is_silent (code.loop t a rest) after = term_is_own t && (code_is_silent a true && code_is_silent rest after)
+code_is_silent c after = turn_all operation_is_silent term_is_own c after
 
 -- The task goes on at once after such an exit: it has called, given way, or left a frame for its caller.
 abbrev pub goes_on_alone : List FrameView → ExitView → Bool

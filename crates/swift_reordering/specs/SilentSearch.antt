@@ -10,7 +10,7 @@ use Rattle.swift_history.specs.Orderly.{AllAllowed, IsOrderly, IsOrderlyLegal}
 use Rattle.swift_laws.specs.Laws.{ActorsHaveExecutors}
 use Rattle.swift_digest.specs.Futures.{LeadAlike}
 use Rattle.swift_digest.specs.Explored.{StartsFresh, IsOutcome, state_of, FoldsNone}
-use Rattle.swift_reordering.specs.Away.{job_looks_away}
+use Rattle.swift_reordering.specs.Away.{turn_looks_away}
 use Rattle.swift_reordering.specs.Fused.{RoomNeverBinds}
 use Rattle.swift_reordering.specs.FusedSteps.{MayStep}
 use Rattle.swift_reordering.specs.SilentTurns.{IsSilentTurn}
@@ -25,7 +25,7 @@ pub record GoesSilently (script : ScriptView) (checkpoints : List CheckpointView
   pub r : RecordView
   pub silent : IsSilentTurn script checkpoints h t n env e r
   pub orderly : IsOrderly script h (begun t n env)
-  pub away : job_looks_away script ((after_blocks script (at_first script) h).jobs t) ≡ true
+  pub away : turn_looks_away script (after_blocks script (at_first script) h) t ≡ true
   pub kept : List Block
   pub is_kept : Contains histories kept
   pub lead : LeadAlike script checkpoints ((h ++ begun t n env ∷ []) ++ ran e r ∷ []) kept

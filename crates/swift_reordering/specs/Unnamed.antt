@@ -17,7 +17,7 @@ use Rattle.swift_interpreter.specs.declared.effect.TaskName.TheVariants.{Root as
 use Rattle.swift_interpreter.specs.Turn.{EffectView, cancelling_task, ExitView, waiting, returning, failing, Played}
 use Rattle.swift_turn.specs.Body.{kept_turn}
 use Rattle.swift_digest.specs.Digests.{Digest, parent_in}
-use Rattle.swift_reordering.specs.Away.{code_all, instruction_is}
+use Rattle.swift_reordering.specs.Statements.{code_all, instruction_is}
 
 -- what is waited for is not the root of this number
 abbrev pub wanted_spares : ℕ → Wanted → Bool

@@ -7,7 +7,7 @@ use Rattle.swift_events.specs.declared.life.JobStage.TheVariants.{Begun}
 use Rattle.swift_history.specs.Histories.{Block, added, begun, ran, folded, at_first, after_blocks, AllStand}
 use Rattle.swift_history.specs.Orderly.{AllAllowed, IsOrderly}
 use Rattle.swift_laws.specs.Laws.{ActorsHaveExecutors}
-use Rattle.swift_reordering.specs.Away.{job_looks_away}
+use Rattle.swift_reordering.specs.Away.{turn_looks_away}
 use Rattle.swift_reordering.specs.Blurred.{stage_at, LeadClose}
 use Rattle.swift_reordering.specs.FusedSteps.{HasRoom}
 
@@ -34,5 +34,5 @@ pub record BeginsAfter (script : ScriptView) (checkpoints : List CheckpointView)
 abbrev pub BeginsMayWait : Type 0
 BeginsMayWait = (script : ScriptView) (checkpoints : List CheckpointView) (before : List Block) (t n : ℕ) (env : Env) (b : Block) → ActorsHaveExecutors script
     → AllStand script checkpoints [] (before ++ begun t n env ∷ b ∷ []) → AllAllowed (IsOrderly script) [] (before ++ begun t n env ∷ b ∷ [])
-    → job_looks_away script ((after_blocks script (at_first script) before).jobs t) ≡ true → IsOfOther t b → HasRoom script (before ++ begun t n env ∷ b ∷ [])
+    → turn_looks_away script (after_blocks script (at_first script) before) t ≡ true → IsOfOther t b → HasRoom script (before ++ begun t n env ∷ b ∷ [])
     → BeginsAfter script checkpoints before t n env b

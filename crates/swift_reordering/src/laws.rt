@@ -1,8 +1,8 @@
 //! What holds of histories whose turns begin late. A call costs nothing; its contract is the law.
 
-ghost use Rattle.swift_reordering.specs.Away.{InstructionsTell};
 ghost use Rattle.swift_reordering.specs.Fused.{EachIsFused};
 ghost use Rattle.swift_reordering.specs.FusedSteps.{ClosedHasEachExit, ClosedHasEachOutcome};
+ghost use Rattle.swift_reordering.specs.Marks.{MarksTell};
 ghost use Rattle.swift_reordering.specs.RunAhead.{ClosedAheadHasEachExit, ClosedAheadHasEachOutcome};
 ghost use Rattle.swift_reordering.specs.SilentSearch.{ClosedSilentlyHasEachExit, ClosedSilentlyHasEachOutcome};
 ghost use Rattle.swift_reordering.specs.SilentTurns.{SilentTurnsCommute, SilentTurnsMayGoFirst};
@@ -31,9 +31,9 @@ pub fn begins_may_wait()
     ensures { BeginsMayWait }
 {}
 
-/// A method looks away where each of its instructions does (our own).
-pub fn instructions_tell()
-    ensures { InstructionsTell }
+/// From an instruction that has a mark each statement is as marks say, up to each end of the turn (our own).
+pub fn marks_tell()
+    ensures { MarksTell }
 {}
 
 /// A method neither waits for a root nor cancels it by its name where none of its instructions does (our own).

@@ -75,9 +75,16 @@ fn build(
     ensures refused { IfErr result (λ e. Refuses e.kind text.now) }
     ensures place { IfErr result (λ e. IsAtItsPlace e text.now) }
 {
-    let compiled = compile(alloc, declared, &decls)?;
-    let declarations = split(alloc, decls)?;
-    finish(alloc, text, declarations, compiled)
+    let by_kind = split(alloc, decls)?;
+    let compiled = compile(
+        alloc,
+        declared,
+        &by_kind.executors,
+        &by_kind.locals,
+        &by_kind.actors,
+        &by_kind.roots,
+    )?;
+    finish(alloc, text, by_kind, compiled)
 }
 
 // The script of what was compiled, unless an invariant is false or a root waits.

@@ -304,7 +304,9 @@ fn method(reader: &mut Reader<'_>, actor: usize, access: Access) {
     made.body = body(reader);
     made.end = reader.at.saturating_sub(1);
     return_lone(reader, made);
-    if reader.spells(made.name, "invariant") && made.first_param == made.params_end {
+    let is_member = actor != usize::MAX;
+    let has_params = made.first_param != made.params_end;
+    if is_member && (!has_params && reader.spells(made.name, "invariant")) {
         let test = lone_value(reader, made.body);
         if test == 0 || made.is_async {
             reader.refuse(Rule::NotYet, made.name);
@@ -372,6 +374,12 @@ pub(crate) fn actor(reader: &mut Reader<'_>) {
         reader.separator();
     }
     reader.sign(Sign::CloseBrace);
+}
+
+/// A function outside of actors, from the word on that says who may call it: the whole file may.
+pub(crate) fn function(reader: &mut Reader<'_>) {
+    let _ = access(reader);
+    method(reader, usize::MAX, Access::Open);
 }
 
 /// `main`, from `static` on, of the type of this name.

@@ -1,6 +1,6 @@
 //! What a file declares.
 
-use crate::actor::{actor, literal, main_method};
+use crate::actor::{actor, function, literal, main_method};
 use crate::expression::{call_arguments, expression};
 use crate::reader::Reader;
 use crate::rule::Rule;
@@ -233,8 +233,23 @@ fn expect(reader: &mut Reader<'_>) {
     reader.note(grown);
 }
 
+// Whether a function begins here.
+fn is_function(reader: &Reader<'_>) -> bool {
+    match reader.here().kind {
+        TokenKind::Key(Word::Func) => true,
+        TokenKind::Key(Word::Private | Word::Fileprivate | Word::Internal | Word::Public) => {
+            matches!(reader.ahead(1).kind, TokenKind::Key(Word::Func))
+        }
+        _ => false,
+    }
+}
+
 /// A declaration.
 pub(crate) fn declaration(reader: &mut Reader<'_>) {
+    if is_function(reader) {
+        function(reader);
+        return;
+    }
     match reader.here().kind {
         TokenKind::Key(Word::Import) => import(reader),
         TokenKind::Key(Word::Enum) => enumeration(reader),

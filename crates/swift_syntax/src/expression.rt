@@ -149,20 +149,17 @@ fn take_prefix(reader: &mut Reader<'_>) -> usize {
 // An operand with at most one prefix.
 #[cycle(expression)]
 fn prefixed(reader: &mut Reader<'_>, depth: u32) -> usize {
-    if depth == 0 {
-        return missing(reader, Rule::TooLarge);
-    }
     if reader.is_sign(Sign::Minus) {
         let place = take_prefix(reader);
-        let operand = atom(reader, depth - 1);
+        let operand = atom(reader, depth);
         return reader.expr(ExprForm::Negate(operand), place);
     }
     if reader.is_sign(Sign::Bang) {
         let place = take_prefix(reader);
-        let operand = atom(reader, depth - 1);
+        let operand = atom(reader, depth);
         return reader.expr(ExprForm::Not(operand), place);
     }
-    atom(reader, depth - 1)
+    atom(reader, depth)
 }
 
 // Whether the next token opens arguments of what stands before it.
@@ -179,30 +176,24 @@ fn called(
     alone: ExprForm,
     name: usize,
 ) -> usize {
-    if depth == 0 {
-        return missing(reader, Rule::TooLarge);
-    }
     if !opens_arguments(reader) {
         return reader.expr(alone, name);
     }
     reader.sign(Sign::Open);
-    let first = arguments(reader, depth - 1);
+    let first = arguments(reader, depth);
     reader.expr(ExprForm::Call(receiver, first), name)
 }
 
 // A name with what belongs to it.
 #[cycle(expression)]
 fn named(reader: &mut Reader<'_>, depth: u32) -> usize {
-    if depth == 0 {
-        return missing(reader, Rule::TooLarge);
-    }
     let first = reader.take();
     if reader.takes(Sign::Dot) {
         let member = reader.name();
         let receiver = Receiver::Named(first);
-        return called(reader, depth - 1, receiver, ExprForm::Member(first), member);
+        return called(reader, depth, receiver, ExprForm::Member(first), member);
     }
-    called(reader, depth - 1, Receiver::Nobody, ExprForm::Name, first)
+    called(reader, depth, Receiver::Nobody, ExprForm::Name, first)
 }
 
 // An expression of one token.
@@ -214,9 +205,6 @@ fn take_as(reader: &mut Reader<'_>, form: ExprForm) -> usize {
 // An operand without a prefix.
 #[cycle(expression)]
 fn atom(reader: &mut Reader<'_>, depth: u32) -> usize {
-    if depth == 0 {
-        return missing(reader, Rule::TooLarge);
-    }
     match reader.here().kind {
         TokenKind::Number(value) => take_as(reader, ExprForm::Number(value)),
         TokenKind::Text => take_as(reader, ExprForm::Text),
@@ -227,20 +215,20 @@ fn atom(reader: &mut Reader<'_>, depth: u32) -> usize {
             reader.sign(Sign::Dot);
             let member = reader.name();
             let alone = ExprForm::OwnMember;
-            called(reader, depth - 1, Receiver::Own, alone, member)
+            called(reader, depth, Receiver::Own, alone, member)
         }
         TokenKind::Sign(Sign::Dot) => {
             reader.take();
             let name = reader.name();
-            called(reader, depth - 1, Receiver::Nobody, ExprForm::Case, name)
+            called(reader, depth, Receiver::Nobody, ExprForm::Case, name)
         }
         TokenKind::Sign(Sign::Open) => {
             reader.take();
-            let inner = covered(reader, depth - 1);
+            let inner = covered(reader, depth);
             reader.sign(Sign::Close);
             inner
         }
-        TokenKind::Name => named(reader, depth - 1),
+        TokenKind::Name => named(reader, depth),
         // They cover all to their right, and stand at the left end.
         TokenKind::Key(Word::Await) => missing(reader, Rule::Await),
         TokenKind::Key(Word::Try) => missing(reader, Rule::Try),
@@ -270,9 +258,6 @@ fn label(reader: &mut Reader<'_>) -> usize {
 // Arguments up to the parenthesis that closes them, which is taken too. The first one's place, or 0.
 #[cycle(expression)]
 fn arguments(reader: &mut Reader<'_>, depth: u32) -> usize {
-    if depth == 0 {
-        return missing(reader, Rule::TooLarge);
-    }
     if reader.takes(Sign::Close) {
         return 0;
     }
@@ -280,7 +265,7 @@ fn arguments(reader: &mut Reader<'_>, depth: u32) -> usize {
     let mut last = 0;
     for _ in 0..reader.tokens.len() {
         let label = label(reader);
-        let value = covered(reader, depth - 1);
+        let value = covered(reader, depth);
         last = reader.argument(label, value, last);
         if first == 0 {
             first = last;
@@ -338,7 +323,7 @@ fn choice(reader: &mut Reader<'_>, depth: u32) -> usize {
     if depth == 0 {
         return missing(reader, Rule::TooLarge);
     }
-    let test = operands(reader, depth - 1, 0);
+    let test = operands(reader, depth, 0);
     if !reader.is_sign(Sign::Question) {
         return test;
     }

@@ -42,7 +42,7 @@ pub enum Rule {
     Assigned,
     /// What is named is private.
     Private,
-    /// A method of the own actor that calls itself.
+    /// A method of the own actor, or a function, that calls itself.
     Recursion,
     /// An actor as a value, or made anywhere but in a global `let`.
     ActorValue,
@@ -115,7 +115,7 @@ impl Rule {
             Rule::Try => "try is missing or misplaced",
             Rule::Assigned => "this cannot be assigned",
             Rule::Private => "this is private",
-            Rule::Recursion => "a method of the own actor calls itself",
+            Rule::Recursion => "a method or function that is put in calls itself",
             Rule::ActorValue => "an actor as a value",
             Rule::TaskLeft => "the program may end before this task",
             Rule::CatchPattern => "a catch with a pattern",
@@ -157,7 +157,7 @@ impl Rule {
                 "assign a `var` of this method or a `var` of its own actor; another actor's fields change by its methods",
             Rule::Private => "call a method of that actor, or leave `private` out",
             Rule::Recursion =>
-                "write it as a loop: methods of the own actor are put in where they are called",
+                "write it as a loop: methods of the own actor, and functions without `async`, are put in where they are called",
             Rule::ActorValue =>
                 "make the instance by a global `let`, and name it where it is used, as `account.deposit(1)`",
             Rule::TaskLeft =>

@@ -141,16 +141,13 @@ fn token_of(into: Into, token: usize) -> usize {
 // A value, which may have a closure, and where it goes.
 #[cycle(statement)]
 fn valued(reader: &mut Reader<'_>, blocks: u32, into: Into, token: usize) -> usize {
-    if blocks == 0 {
-        return too_deep(reader);
-    }
     let head = head(reader);
     if let HeadForm::None = head.form {
         let value = expression(reader);
         return reader.stmt(StmtForm::Value(into, value), token_of(into, token));
     }
     let mut closure = closure_front(reader);
-    closure.body = statements(reader, blocks - 1);
+    closure.body = statements(reader, blocks);
     finish(reader, head, into, closure, token)
 }
 
@@ -187,13 +184,13 @@ fn conditional(reader: &mut Reader<'_>, blocks: u32) -> usize {
     }
     let token = reader.take();
     let test = test(reader);
-    let held = block(reader, blocks - 1);
+    let held = block(reader, blocks);
     let mut failed = 0;
     if reader.takes_key(Word::Else) {
         failed = if reader.is_key(Word::If) {
             conditional(reader, blocks - 1)
         } else {
-            block(reader, blocks - 1)
+            block(reader, blocks)
         };
     }
     reader.stmt(StmtForm::If(test, held, failed), token)
@@ -217,21 +214,18 @@ fn next_of(reader: &mut Reader<'_>) -> (usize, usize, bool) {
 // A `guard` or a `while`.
 #[cycle(statement)]
 fn tested(reader: &mut Reader<'_>, blocks: u32) -> usize {
-    if blocks == 0 {
-        return too_deep(reader);
-    }
     let is_guard = reader.is_key(Word::Guard);
     let token = reader.take();
     if !is_guard && reader.is_key(Word::Let) {
         let (name, group, is_tried) = next_of(reader);
-        let body = block(reader, blocks - 1);
+        let body = block(reader, blocks);
         return reader.stmt(StmtForm::WhileNext(group, is_tried, body), name);
     }
     let test = test(reader);
     if is_guard {
         reader.key(Word::Else);
     }
-    let body = block(reader, blocks - 1);
+    let body = block(reader, blocks);
     let form = if is_guard {
         StmtForm::Guard(test, body)
     } else {
@@ -253,9 +247,6 @@ fn range(reader: &mut Reader<'_>) -> bool {
 // A `for`.
 #[cycle(statement)]
 fn for_in(reader: &mut Reader<'_>, blocks: u32) -> usize {
-    if blocks == 0 {
-        return too_deep(reader);
-    }
     reader.take();
     let is_tried = reader.takes_key(Word::Try);
     let is_awaited = reader.takes_key(Word::Await);
@@ -263,54 +254,48 @@ fn for_in(reader: &mut Reader<'_>, blocks: u32) -> usize {
     reader.key(Word::In);
     if is_awaited {
         let group = reader.name();
-        let body = block(reader, blocks - 1);
+        let body = block(reader, blocks);
         return reader.stmt(StmtForm::ForAwait(group, is_tried, body), name);
     }
     let from = bound(reader);
     let is_closed = range(reader);
     let to = bound(reader);
-    let body = block(reader, blocks - 1);
+    let body = block(reader, blocks);
     reader.stmt(StmtForm::For(from, to, is_closed, body), name)
 }
 
 // A `do` with its `catch`.
 #[cycle(statement)]
 fn do_catch(reader: &mut Reader<'_>, blocks: u32) -> usize {
-    if blocks == 0 {
-        return too_deep(reader);
-    }
     let token = reader.take();
-    let body = block(reader, blocks - 1);
+    let body = block(reader, blocks);
     reader.key(Word::Catch);
     if !reader.is_sign(Sign::OpenBrace) {
         reader.refuse(Rule::CatchPattern, reader.at);
     }
-    let caught = block(reader, blocks - 1);
+    let caught = block(reader, blocks);
     reader.stmt(StmtForm::DoCatch(body, caught), token)
 }
 
 // A statement. Its place.
 #[cycle(statement)]
 fn statement(reader: &mut Reader<'_>, blocks: u32) -> usize {
-    if blocks == 0 {
-        return too_deep(reader);
-    }
     let token = reader.at;
     match reader.here().kind {
         TokenKind::Key(Word::Let | Word::Var) => {
             let into = declared(reader);
-            valued(reader, blocks - 1, into, token)
+            valued(reader, blocks, into, token)
         }
-        TokenKind::Key(Word::If) => conditional(reader, blocks - 1),
-        TokenKind::Key(Word::Guard | Word::While) => tested(reader, blocks - 1),
-        TokenKind::Key(Word::For) => for_in(reader, blocks - 1),
-        TokenKind::Key(Word::Do) => do_catch(reader, blocks - 1),
+        TokenKind::Key(Word::If) => conditional(reader, blocks),
+        TokenKind::Key(Word::Guard | Word::While) => tested(reader, blocks),
+        TokenKind::Key(Word::For) => for_in(reader, blocks),
+        TokenKind::Key(Word::Do) => do_catch(reader, blocks),
         TokenKind::Key(Word::Async) => async_let(reader),
         TokenKind::Key(Word::Throw) => throw_stmt(reader),
         TokenKind::Key(Word::Return) => {
             reader.take();
             if goes_on(reader) {
-                valued(reader, blocks - 1, Into::Return, token)
+                valued(reader, blocks, Into::Return, token)
             } else {
                 reader.stmt(StmtForm::Return, token)
             }
@@ -319,7 +304,7 @@ fn statement(reader: &mut Reader<'_>, blocks: u32) -> usize {
             Some(place) => place,
             None => {
                 let into = into_of(reader);
-                valued(reader, blocks - 1, into, token)
+                valued(reader, blocks, into, token)
             }
         },
     }
@@ -385,11 +370,8 @@ fn statements(reader: &mut Reader<'_>, blocks: u32) -> usize {
 
 #[cycle(statement)]
 fn block(reader: &mut Reader<'_>, blocks: u32) -> usize {
-    if blocks == 0 {
-        return too_deep(reader);
-    }
     reader.sign(Sign::OpenBrace);
-    statements(reader, blocks - 1)
+    statements(reader, blocks)
 }
 
 /// A block. The place of its first statement, or 0.

@@ -256,10 +256,10 @@ pub struct ExpectDecl {
     pub test: usize,
 }
 
-/// A method of an actor, or `main`.
+/// A method of an actor, a function outside of actors, or `main`.
 #[derive(Clone, Copy)]
 pub struct MethodDecl {
-    /// The place of its actor.
+    /// The place of its actor, or `usize::MAX` where it stands in none.
     pub actor: usize,
     /// The token of its name.
     pub name: usize,
@@ -367,7 +367,7 @@ pub struct Tree {
     pub fields: Vec<FieldDecl>,
     /// Their invariants.
     pub invariants: Vec<InvariantDecl>,
-    /// Their methods.
+    /// Their methods, and the functions outside of actors.
     pub methods: Vec<MethodDecl>,
     /// The parameters of methods and of inits.
     pub params: Vec<ParamDecl>,

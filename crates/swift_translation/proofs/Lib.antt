@@ -1,2 +1,4 @@
+pub mod Feeds
 mod Names
 mod Shown
+mod Writes

@@ -44,6 +44,10 @@ caught_name place serial = (codes "caught" ++ pair place (codes "s") serial) ++ 
 abbrev pub closure_in : List ℕ → List ℕ → ℕ → ℕ → List ℕ
 closure_in instance method line which = instance ++ codes "_" ++ method ++ codes "_line" ++ pair line (codes "_") which
 
+-- the method that a closure became which stands in a function outside of actors
+abbrev pub closure_in_function : List ℕ → ℕ → ℕ → List ℕ
+closure_in_function function line which = function ++ codes "_line" ++ pair line (codes "_") which
+
 -- the method that a closure of `main` became
 abbrev pub closure_in_main : ℕ → ℕ → List ℕ
 closure_in_main line which = codes "main" ++ codes "_line" ++ pair line (codes "_") which

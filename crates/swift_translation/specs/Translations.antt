@@ -1,13 +1,19 @@
 -- What becomes of a Swift file (our own).
-use Rattle.std.specs.Prelude.{ℕ, List}
+use Rattle.std.specs.Prelude.{ℕ, All, List}
 use Rattle.swift_syntax.specs.declared.rule.Refusal.{Refusal}
 use Rattle.swift_translation.specs.declared.file.Translation.{Translation}
 use Rattle.swift_translation.specs.declared.file.Translation.TheVariants.{Script, Refused}
+use Rattle.swift_translation.specs.declared.places.MethodPlace.{MethodPlace}
 
 -- Where a file becomes a script, this holds of its text.
 abbrev pub IfScript : (List ℕ → Type 0) → Translation → Type 0
-IfScript holds (Script s) = holds s.items
+IfScript holds (Script s) = holds s.text.items
 IfScript holds (Refused r) = Unit {0}
+
+-- Where a file becomes a script, this holds of each method of its table.
+abbrev pub IfPlaced : (MethodPlace → Type 0) → Translation → Type 0
+IfPlaced holds (Script s) = All holds s.places.items
+IfPlaced holds (Refused r) = Unit {0}
 
 -- Where a file is refused, this holds of the refusal.
 abbrev pub IfRefused : (Refusal → Type 0) → Translation → Type 0

@@ -5,6 +5,7 @@ use crate::naming::{
     PRECONDITION, write_field_name, write_instance, write_name, write_printed, write_unit,
     write_variable,
 };
+use crate::places::{lines_between, place_of_token};
 use crate::value::write_value;
 use crate::writing::Writing;
 use swift_expressions::{Instruction, NONE, Unit, UnitKind};
@@ -89,30 +90,16 @@ fn actor_of(writing: &Writing<'_>, instance: usize) -> Option<usize> {
         .position(|a| writing.are_same(a.name, of))
 }
 
-// The line on which a token begins.
-fn line_of(writing: &Writing<'_>, token: usize) -> usize {
-    let from = match writing.tokens.get(token) {
-        Some(found) => found.from,
-        None => writing.text.len(),
-    };
-    let feeds = writing
-        .text
-        .iter()
-        .take(from)
-        .filter(|b| **b == b'\n')
-        .count();
-    feeds.saturating_add(1)
-}
-
 // From which lines a unit is.
 fn write_lines(writing: &mut Writing<'_>, unit: Unit) {
-    let first = line_of(writing, unit.token);
-    let last = line_of(writing, unit.end);
+    let from = place_of_token(writing.text, writing.tokens, unit.token);
+    let end = place_of_token(writing.text, writing.tokens, unit.end);
+    let found = lines_between(writing.text, from, end);
     let alloc = writing.alloc;
     writing.say("\n    // lines ");
-    writing.out.place(alloc, first);
+    writing.out.place(alloc, found.first);
     writing.say(" to ");
-    writing.out.place(alloc, last);
+    writing.out.place(alloc, found.last);
 }
 
 // The parameters of a unit, in parentheses.
@@ -174,12 +161,13 @@ fn write_field(writing: &mut Writing<'_>, instance: usize, field: FieldDecl) {
     writing.say(";");
 }
 
-// Whether a unit of an actor, or of the pool, has something that has to hold.
+// Whether a unit of an actor, or of the pool, has something that has to hold. A function may be put in anywhere.
 fn has_requirement(writing: &Writing<'_>, actor: usize, wants_closure: bool) -> bool {
     writing.code.units.iter().any(|u| {
+        let is_function = matches!(u.kind, UnitKind::Method(_)) && u.actor == NONE;
         let is_closure = matches!(u.kind, UnitKind::Closure);
         let fits = is_closure == wants_closure && (is_closure || u.actor == actor);
-        fits && has_require(writing, *u)
+        (is_function || fits) && has_require(writing, *u)
     })
 }
 
@@ -306,14 +294,31 @@ fn write_closures(writing: &mut Writing<'_>, actor: usize) {
     }
 }
 
-/// The actor in which closures run.
+// Whether a method is a function outside of actors that runs as a method of its own.
+fn runs_alone(method: MethodDecl) -> bool {
+    method.actor == NONE && method.is_async
+}
+
+// The functions outside of actors that are `async`.
+fn write_functions(writing: &mut Writing<'_>) {
+    for place in 0..writing.tree.methods.len() {
+        if let Some(method) = writing.tree.methods.get(place).copied() {
+            if runs_alone(method) {
+                write_method(writing, place, method);
+            }
+        }
+    }
+}
+
+/// The actor in which closures run, and functions outside of actors that are `async`.
 pub(crate) fn write_pool(writing: &mut Writing<'_>) {
-    let is_wanted = writing
+    let has_closure = writing
         .code
         .units
         .iter()
         .any(|u| matches!(u.kind, UnitKind::Closure));
-    if !is_wanted {
+    let has_function = writing.tree.methods.iter().any(|m| runs_alone(*m));
+    if !has_closure && !has_function {
         return;
     }
     writing.say("\n// Closures run here.\nactor Task {");
@@ -328,6 +333,7 @@ pub(crate) fn write_pool(writing: &mut Writing<'_>) {
         }
     }
     writing.instance = NONE;
+    write_functions(writing);
     write_closures(writing, NONE);
     writing.say("\n}\n");
 }

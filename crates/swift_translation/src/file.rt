@@ -2,10 +2,12 @@
 
 ghost use Rattle.std.specs.Prelude.{◌≤◌, All, IfOk, length};
 ghost use Rattle.swift_syntax.specs.Places.{IsBlamedIn, IsTokenOf};
-ghost use Rattle.swift_translation.specs.Translations.{IfRefused, IfScript};
+ghost use Rattle.swift_translation.specs.MethodPlaces.{IsPlaceIn};
+ghost use Rattle.swift_translation.specs.Translations.{IfPlaced, IfRefused, IfScript};
 
 use crate::actor::{literal, write_actors, write_main, write_pool};
 use crate::naming::{write_instance, write_name};
+use crate::places::{MethodPlace, places};
 use crate::value::write_bare;
 use crate::writing::Writing;
 use std::alloc::{AllocError, Global};
@@ -14,11 +16,20 @@ use swift_lowering::lower;
 use swift_syntax::{Breach, ExecutorKindDecl, Refusal, Rule, Token, Tree, read_file};
 use swift_types::limits::BYTES;
 
+/// The script that a Swift file becomes.
+#[derive(Drop)]
+pub struct SwiftScript {
+    /// Its text.
+    pub text: Vec<u8>,
+    /// From which lines of the file its methods are, but for those that read a field.
+    pub places: Vec<MethodPlace>,
+}
+
 /// What becomes of a Swift file.
 #[derive(Drop)]
 pub enum Translation {
-    /// The text of a script.
-    Script(Vec<u8>),
+    /// A script.
+    Script(SwiftScript),
     /// The first rule of the subset that the file breaks.
     Refused(Refusal),
 }
@@ -118,34 +129,46 @@ fn script(
 }
 
 // The script of instructions, or the first rule that is broken.
-fn written(alloc: Global, text: &[u8], tokens: &[Token], tree: &Tree, code: &Code) -> Translation
+fn written(
+    alloc: Global,
+    text: &[u8],
+    tokens: &[Token],
+    tree: &Tree,
+    code: &Code,
+) -> Result<Translation, AllocError>
     requires { All (IsTokenOf text.now) tokens.now }
-    ensures script { IfScript (λ s. length s ≤ BYTES) result }
-    ensures blamed { IfRefused (IsBlamedIn text.now) result }
+    ensures script { IfOk result (IfScript (λ s. length s ≤ BYTES)) }
+    ensures placed { IfOk result (IfPlaced (IsPlaceIn text.now)) }
+    ensures blamed { IfOk result (IfRefused (IsBlamedIn text.now)) }
 {
     let (script, breach) = script(alloc, text, tokens, tree, code);
     if let Some(breach) = breach {
-        return Translation::Refused(breach.refusal(text, tokens));
+        return Ok(Translation::Refused(breach.refusal(text, tokens)));
     }
     if script.len() > BYTES {
         let breach = Breach {
             rule: Rule::TooLarge,
             token: 0,
         };
-        return Translation::Refused(breach.refusal(text, tokens));
+        return Ok(Translation::Refused(breach.refusal(text, tokens)));
     }
-    Translation::Script(script)
+    let places = places(alloc, text, tokens, tree, code)?;
+    Ok(Translation::Script(SwiftScript {
+        text: script,
+        places,
+    }))
 }
 
-/// The script that a Swift file becomes: its text, or the first rule that the file breaks. A script, and a file that becomes one, has at
-/// most 65,536 bytes.
+/// The script that a Swift file becomes, with the lines that its methods are from, or the first rule that the file breaks. The text of a
+/// script, and a file that becomes one, has at most 65,536 bytes.
 ///
 /// # Errors
 ///
-/// `AllocError` where there is no memory for the tokens.
+/// `AllocError` where there is no memory for the tokens, or for the table of methods.
 pub fn translate(alloc: Global, text: &[u8]) -> Result<Translation, AllocError>
     ensures script { IfOk result (IfScript (λ s. length s ≤ BYTES)) }
     ensures file { IfOk result (IfScript (λ s. length text.now ≤ BYTES)) }
+    ensures placed { IfOk result (IfPlaced (IsPlaceIn text.now)) }
     ensures blamed { IfOk result (IfRefused (IsBlamedIn text.now)) }
 {
     let file = read_file(alloc, text)?;
@@ -156,5 +179,6 @@ pub fn translate(alloc: Global, text: &[u8]) -> Result<Translation, AllocError>
     if let Some(refused) = lowered.refused {
         return Ok(Translation::Refused(refused));
     }
-    Ok(written(alloc, text, &file.tokens, &file.tree, &lowered.code))
+    let made = written(alloc, text, &file.tokens, &file.tree, &lowered.code)?;
+    Ok(made)
 }

@@ -13,6 +13,10 @@ mod laws;
 mod line;
 // The names of a script.
 mod naming;
+// From which lines of a file the methods of its script are.
+mod places;
+// The text of a table of methods.
+mod place_text;
 // The text of a refusal.
 mod refused;
 // How names of a script are spelled.
@@ -30,6 +34,8 @@ mod writer;
 // A script that is written.
 mod writing;
 
-pub use file::{Translation, translate};
+pub use file::{SwiftScript, Translation, translate};
 pub use laws::names_are_told_apart;
+pub use place_text::{method_line, places_text};
+pub use places::MethodPlace;
 pub use refused::refusal_text;

@@ -35,6 +35,16 @@ pub(crate) fn line_at(text: &[u8], place: usize) -> Line<'_>
     }
 }
 
+/// The number of the line on which a place lies, from 1. A place behind the text stands for its end. Linear in the text.
+#[tactic(auto, using(crate::proofs::Feeds::feeds_before))]
+pub(crate) fn line_number(text: &[u8], place: usize) -> usize
+    ensures number { result ≡ feeds (take place text.now) + 1 }
+    ensures most { result ≤ feeds text.now + 1 }
+{
+    let (left, _) = text.split_at(place.min(text.len()));
+    feeds(left) + 1
+}
+
 // How many lines end in a text.
 fn feeds(text: &[u8]) -> usize
     ensures feeds { result ≡ feeds text.now }

@@ -2,12 +2,13 @@
 //!
 //! A name of the file keeps its bytes, but for a keyword of scripts and a name that ends in `_`, which get one `_` more. All other names of
 //! variables and of fields of instances end in one `_`, so they are none of these; so is that of a variable that begins as those of printed
-//! values. A method that reads a field has the name of the field, which no method of its actor has. Closures are methods of the actor
-//! `Task`, a name that no file may give, and printed values are fields of that of `main`; both have their lines in their names.
+//! values. A method that reads a field has the name of the field, which no method of its actor has. Closures, and functions outside of actors
+//! that are `async`, are methods of the actor `Task`, a name that no file may give, and printed values are fields of that of `main`. Closures
+//! and printed values have their lines in their names; the name of such a function has no `_line` in it.
 
 use crate::spelling::{
-    spell_caught, spell_closure, spell_made, spell_main_closure, spell_name, spell_spot,
-    spell_temporary, spell_variable,
+    spell_caught, spell_closure, spell_function_closure, spell_made, spell_main_closure,
+    spell_name, spell_spot, spell_temporary, spell_variable,
 };
 use crate::writing::Writing;
 use swift_expressions::{NONE, Spot};
@@ -60,8 +61,8 @@ pub(crate) fn write_instance(writing: &mut Writing<'_>, instance: usize) {
     }
 }
 
-// Which of its kind something is on its line, from 2 on; 0 is the first.
-fn which_of(spot: Spot) -> usize {
+/// Which of its kind something is on its line, from 2 on; 0 is the first.
+pub(crate) fn which_of(spot: Spot) -> usize {
     if spot.before == 0 {
         0
     } else {
@@ -86,7 +87,8 @@ pub(crate) fn write_printed(writing: &mut Writing<'_>, place: usize) {
 /// The name of the field that holds the line of a precondition that fails.
 pub(crate) const PRECONDITION: &str = "precondition_line_";
 
-/// The name of the method that a closure became: that of the method in which it stands, behind its instance, and its line.
+/// The name of the method that a closure became: that of the method in which it stands, behind its instance where that is no function, and
+/// its line.
 pub(crate) fn write_unit(writing: &mut Writing<'_>, unit: usize) {
     let Some(found) = writing.unit_at(unit) else {
         return;
@@ -96,6 +98,9 @@ pub(crate) fn write_unit(writing: &mut Writing<'_>, unit: usize) {
     let which = which_of(found.spot);
     if found.method == NONE {
         spell_main_closure(&mut writing.out, alloc, line, which);
+    } else if found.actor == NONE {
+        let function = writing.bytes(found.method);
+        spell_function_closure(&mut writing.out, alloc, function, line, which);
     } else if let Some(declared) = writing.tree.instances.get(writing.instance).copied() {
         let instance = writing.bytes(declared.name);
         let method = writing.bytes(found.method);

@@ -51,7 +51,7 @@ fn is_do(text: &[u8], refusal: Refusal) -> bool {
 
 // What to do about a `do` that is not taken.
 const DO_HELP: &str =
-    "a `do` has one statement, with one `try await` behind `=`, `return` or nothing: put what else is done before it, or behind its `catch`, or into a method that throws";
+    "what a `do` catches is a `try await` of a call or task behind `=`, `return` or nothing, in the `do` itself: put an `if`, a loop, `throw` and `async let` with it into a method or function that is `async throws`";
 
 // The number of a rule, and what is wrong.
 fn head<'a>(alloc: Global, name: &'a str, title: &'a str) -> Result<String, AllocError>

@@ -2,7 +2,7 @@
 
 ghost use Rattle.std.specs.Prelude.{◌≡◌, ◌++◌, ◌∷◌, [], codes, decimal};
 ghost use Rattle.swift_translation.specs.Names as names;
-ghost use Rattle.swift_translation.specs.Names.{caught_name, closure_in, closure_in_main, file_name, pair, temporary_name, variable_name};
+ghost use Rattle.swift_translation.specs.Names.{caught_name, closure_in, closure_in_function, closure_in_main, file_name, pair, temporary_name, variable_name};
 ghost use Rattle.swift_translation.specs.WritingInside.{GoesOn};
 
 use crate::word::is_kept;
@@ -122,6 +122,20 @@ pub(crate) fn spell_closure(
     out.bytes(instance);
     out.say("_");
     out.bytes(method);
+    spell_spot(out, alloc, "_line", line, which)
+}
+
+/// The method that a closure became which stands in a function outside of actors.
+pub(crate) fn spell_function_closure(
+    out: &mut Writer,
+    alloc: Global,
+    function: &[u8],
+    line: usize,
+    which: usize,
+)
+    ensures { GoesOn out.old out.new (closure_in_function function.now line which) }
+{
+    out.bytes(function);
     spell_spot(out, alloc, "_line", line, which)
 }
 

@@ -29,6 +29,19 @@ fn write_method(writing: &mut Writing<'_>, instance: usize, method: usize) {
     }
 }
 
+// A method of an instance, or a function outside of actors, whatever the instance.
+fn write_called(writing: &mut Writing<'_>, instance: usize, method: usize) {
+    if let Some(declared) = writing.tree.methods.get(method).copied() {
+        if declared.actor == NONE {
+            writing.say("Task");
+        } else {
+            write_instance(writing, instance);
+        }
+        writing.say(".");
+        write_name(writing, declared.name);
+    }
+}
+
 // Whether what is written is a closure.
 fn is_closure(writing: &Writing<'_>) -> bool {
     match writing.frames.first() {
@@ -60,11 +73,7 @@ fn write_wait(writing: &mut Writing<'_>, what: Wait, serial: usize) {
         }
         Wait::Own(method, first) => {
             let instance = writing.instance;
-            write_instance(writing, instance);
-            writing.say(".");
-            if let Some(declared) = writing.tree.methods.get(method).copied() {
-                write_name(writing, declared.name);
-            }
+            write_called(writing, instance, method);
             write_arguments(writing, first, serial);
         }
         Wait::Unit(unit, first) => {
@@ -141,11 +150,7 @@ fn make_caught(writing: &mut Writing<'_>, frame: Frame, what: Wait) {
 pub(crate) fn write_callee(writing: &mut Writing<'_>, callee: Callee, serial: usize) {
     match callee {
         Callee::Method(instance, method, first) => {
-            write_instance(writing, instance);
-            writing.say(".");
-            if let Some(declared) = writing.tree.methods.get(method).copied() {
-                write_name(writing, declared.name);
-            }
+            write_called(writing, instance, method);
             write_arguments(writing, first, serial);
         }
         Callee::Unit(unit, first) => {

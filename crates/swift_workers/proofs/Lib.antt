@@ -4,3 +4,6 @@ pub mod Desks
 pub mod Left
 pub mod Opening
 pub mod Reported
+pub mod PoolCalls
+pub mod PoolLaws
+pub mod PoolSteps

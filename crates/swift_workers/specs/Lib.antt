@@ -2,4 +2,9 @@ pub mod BellInside
 pub mod CrewInside
 pub mod Leaves
 pub mod PartsInside
+pub mod PoolCallsInside
+pub mod PoolFactsInside
+pub mod PoolRule
+pub mod PoolSeatsInside
+pub mod Pools
 pub mod PoolsInside

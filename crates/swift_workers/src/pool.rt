@@ -1,8 +1,8 @@
 //! The tokens of executors that have jobs.
 
-ghost use Rattle.std.specs.Prelude.{◌≡◌, ◌≢◌, ℕ, ◌-◌, ◌<◌, ◌++◌, ◌∷◌, ◌↔◌, [], All, Err, None, IfNone, IfSome, IsSomeAnd, IsTrue, OnOk, OnErr, length, slice_get, take};
-ghost use Rattle.swift_workers.specs.declared.pool.Pool.{Pool};
-ghost use Rattle.swift_workers.specs.PoolsInside.{IsNext, IsOver, IsTakenFromPool, MayVisit, first_cause};
+ghost use Rattle.std.specs.Prelude.{◌≡◌, ◌≢◌, ◌-◌, ◌≤◌, ◌<◌, ◌++◌, ◌∷◌, ◌↔◌, [], All, None, Some, IfNone, IfSome, IsSomeAnd, IsTrue, OnOk, OnErr, length, slice_get, take};
+ghost use Rattle.swift_workers.specs.Pools.{IsCauseOf, MayVisit, or_else};
+ghost use Rattle.swift_workers.specs.PoolsInside.{HasEnded, IsNext, IsTakenFromPool};
 
 use crate::fault::Halt;
 use std::alloc::{AllocError, Global};
@@ -11,7 +11,7 @@ use swift_executor::may_run;
 use swift_script::Script;
 use swift_types::ExecId;
 
-/// What the workers of a run share under one lock (our own).
+/// The tokens of a run, as one worker at a time sees them (our own).
 #[derive(Drop)]
 pub struct Pool {
     // The executors that have jobs and that no worker visits, the oldest token first.
@@ -20,6 +20,13 @@ pub struct Pool {
     under_way: u32,
     // Why the run is given up.
     halt: Option<Halt>,
+}
+
+/// How a turn has ended: how many of its tokens were put, and the cause that it told for giving the run up.
+#[derive(Clone, Copy)]
+pub struct Ended {
+    pub put: usize,
+    pub told: Option<Halt>,
 }
 
 /// What a worker does next.
@@ -78,26 +85,38 @@ fn is_first_for(tokens: &VecDeque<ExecId>, script: &Script, workers: u32, worker
     }
 }
 
+// Why a turn gives the run up: its own cause, or else that a token was refused memory.
+fn cause_of(done: Result<(), Halt>, is_cut_short: bool) -> Option<Halt>
+    ensures { IsCauseOf done is_cut_short result }
+{
+    match done {
+        Err(halt) => Some(halt),
+        Ok(()) if is_cut_short => Some(Halt::Memory),
+        Ok(()) => None,
+    }
+}
+
 impl Pool {
-    /// No token, and no worker under way.
+    /// No token. One worker is under way, with the roots.
     pub fn new(alloc: Global) -> Pool
         ensures tokens { result.tokens.items ≡ [] }
-        ensures under_way { result.under_way ≡ 0 }
+        ensures under_way { result.under_way ≡ 1 }
         ensures halt { result.halt ≡ None }
     {
         Pool {
             tokens: VecDeque::new(alloc),
-            under_way: 0,
+            under_way: 1,
             halt: None,
         }
     }
 
     // Takes the token at this place.
     fn take(&mut self, place: usize) -> ExecId
-        requires { place < length self.old.tokens.items }
+        requires place { place < length self.old.tokens.items }
+        requires room { self.old.under_way < 4294967295 }
         ensures { IsTakenFromPool self.old place result self.new }
     {
-        self.under_way = self.under_way.saturating_add(1);
+        self.under_way += 1;
         let taken = if place == 0 {
             self.tokens.pop_front()
         } else {
@@ -111,6 +130,7 @@ impl Pool {
 
     /// Takes the oldest token that this worker may run.
     pub fn next(&mut self, script: &Script, workers: u32, worker: u32) -> WorkerNext
+        requires { self.old.under_way < 4294967295 }
         ensures { IsNext (MayVisit script.now workers worker) self.old result self.new }
     {
         if self.halt.is_some() {
@@ -126,7 +146,8 @@ impl Pool {
     // Takes the oldest token that this worker may run, where the run is not given up, by a look at each token.
     #[inline(never)]
     fn next_by_place(&mut self, script: &Script, workers: u32, worker: u32) -> WorkerNext
-        requires { self.old.halt ≡ None }
+        requires halt { self.old.halt ≡ None }
+        requires room { self.old.under_way < 4294967295 }
         ensures { IsNext (MayVisit script.now workers worker) self.old result self.new }
     {
         if let Some(place) = place_for(&self.tokens, script, workers, worker) {
@@ -172,62 +193,40 @@ impl Pool {
         Ok(())
     }
 
-    /// Puts these tokens behind the others, in order. After an error there are some of the first ones more.
-    pub fn put_all(&mut self, tokens: &[ExecId]) -> Result<(), AllocError>
-        ensures ok { OnOk result (self.new.tokens.items ≡ self.old.tokens.items ++ tokens.now) }
-        ensures err { OnErr result ((put : ℕ) × (put < length tokens.now) × (self.new.tokens.items ≡ self.old.tokens.items ++ take put tokens.now)) }
+    // Puts these tokens behind the others, in order, and says how many: where one is refused memory, none that comes after it is put.
+    fn put_all(&mut self, tokens: &[ExecId]) -> usize
+        ensures within { result ≤ length tokens.now }
+        ensures tokens { self.new.tokens.items ≡ self.old.tokens.items ++ take result tokens.now }
         ensures under_way { self.new.under_way ≡ self.old.under_way }
         ensures halt { self.new.halt ≡ self.old.halt }
     {
-        for on in tokens {
-            self.put(*on)?;
+        for put in 0..tokens.len() {
+            if self.put(tokens[put]).is_err() {
+                return put;
+            }
         }
-        Ok(())
+        tokens.len()
     }
 
-    /// A worker has finished what followed from its token. Where it was refused, the run is given up.
-    pub fn finish(&mut self, done: Result<(), Halt>)
-        ensures tokens { self.new.tokens.items ≡ self.old.tokens.items }
-        ensures under_way { self.new.under_way ≡ self.old.under_way - 1 }
-        ensures halt { self.new.halt ≡ first_cause self.old.halt done }
+    /// A worker has finished what followed from its token, and these tokens go behind the others. Where it was refused, or one of them was
+    /// refused memory, the run is given up. It says how many were put, and the cause.
+    pub fn end_turn(&mut self, tokens: &[ExecId], done: Result<(), Halt>) -> Ended
+        ensures { HasEnded self.old tokens.now done result self.new }
     {
         self.under_way = self.under_way.saturating_sub(1);
-        if let Err(halt) = done {
+        let put = self.put_all(tokens);
+        let told = cause_of(done, put < tokens.len());
+        if let Some(halt) = told {
             self.give_up(halt);
         }
-    }
-
-    /// A worker has finished what followed from its token, and these tokens go behind the others. Out of memory the run is given up.
-    pub fn end_turn(&mut self, tokens: &[ExecId], done: Result<(), Halt>)
-        ensures { IsOver self.old tokens.now done self.new }
-    {
-        self.finish(done);
-        if self.put_all(tokens).is_err() {
-            self.give_up(Halt::Memory);
-        }
-    }
-
-    /// The end of a worker's turn, and what it does next, in one: it puts these tokens behind the others, in order, it has
-    /// finished, and it takes the oldest token that it may run. Where it was refused, or a token was refused memory, the run is given up.
-    pub fn turn_over(
-        &mut self,
-        tokens: &[ExecId],
-        done: Result<(), Halt>,
-        script: &Script,
-        workers: u32,
-        worker: u32,
-    ) -> WorkerNext
-        ensures { (mid : Pool) × IsOver self.old tokens.now done mid × IsNext (MayVisit script.now workers worker) mid result self.new }
-    {
-        self.end_turn(tokens, done);
-        self.next(script, workers, worker)
+        Ended { put, told }
     }
 
     /// The run is given up, for the first cause that is told.
     pub fn give_up(&mut self, halt: Halt)
         ensures tokens { self.new.tokens.items ≡ self.old.tokens.items }
         ensures under_way { self.new.under_way ≡ self.old.under_way }
-        ensures halt { self.new.halt ≡ first_cause self.old.halt (Err halt) }
+        ensures halt { self.new.halt ≡ or_else self.old.halt (Some halt) }
     {
         if self.halt.is_none() {
             self.halt = Some(halt);

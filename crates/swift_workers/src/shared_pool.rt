@@ -1,20 +1,30 @@
 //! The pool as workers share it.
 
+ghost use Rattle.std.specs.Prelude.{◌≡◌, ◌≢◌, ◌⊎◌, ◌≤◌, ◌<◌, true, Ok, Err, None, Some, [], IfOk, IfNone, IsErr, IsSome, length};
+ghost use Rattle.swift_workers.specs.declared.pool.WorkerNext.TheVariants.{Stop};
+ghost use Rattle.swift_workers.specs.Pools.{IsEndOf, PoolCall, first_known, split_left, split_new};
+ghost use Rattle.swift_workers.specs.PoolCallsInside.{HasCalled, HasStopped, IsPoolSeatOf, IsRunOut};
+ghost use Rattle.swift_workers.specs.PoolSeatsInside.{HasTaken, MayGiveBack};
+ghost use Rattle.swift_workers.specs.PoolsInside.{IsNextOrRest};
+
 use crate::bell::{Bell, Rest};
 use crate::chain::Chain;
 use crate::fault::Halt;
+use crate::known::PoolTold;
 use crate::pool::{Pool, WorkerNext, is_for};
+use crate::rule::{Calls, Finds, NamesCall, OneMore, PoolRule};
+use crate::shelf::PoolShelf;
 use crossbeam_utils::CachePadded;
 use crossbeam_utils::atomic::AtomicCell;
-use std::alloc::{AllocError, Global};
-use std::sync::{Mutex, MutexGuard, Wait};
-use std::{array, hint};
+use std::alloc::Global;
+use std::array;
+use std::marker::{Brand, Model};
+use std::snapshot::Snapshot;
+use std::sync::Wait;
 use swift_script::Script;
+use swift_shared_book::lock::{Lock, LockSeat};
 use swift_types::ExecId;
 use swift_types::limits::WORKERS;
-
-// How often a worker looks at a lock that is held before it may sleep.
-const LOOKS: u32 = 100;
 
 // How long a worker watches the others before it sleeps: so many atomic steps on a line of its own, of some 8 ns each.
 const WATCH: u32 = 3_200;
@@ -56,7 +66,7 @@ const TRIES: u64 = 2_048;
 /// - A worker that rests is one that waits. So it is rung for what it alone may run, and at the end.
 #[derive(Drop)]
 pub struct SharedPool {
-    pool: CachePadded<Mutex<Pool>>,
+    lock: Lock<PoolShelf, PoolTold, PoolRule>,
     bells: [CachePadded<Bell>; WORKERS],
     // Whether the run is calm.
     calm: CachePadded<AtomicCell<bool>>,
@@ -64,67 +74,221 @@ pub struct SharedPool {
     turns: CachePadded<AtomicCell<u64>>,
 }
 
+impl Model for SharedPool {
+    ghost use Rattle.std.specs.Coded.{codes};
+    ghost use Rattle.swift_script.specs.Codes.{expression_code, statement_code, block_code};
+    ghost use Rattle.swift_workers.specs.PoolCallsInside.{SharedPoolView};
+
+    ghost Value = { SharedPoolView };
+
+    ghost coded = { Prim.hlevel (codes, expression_code, statement_code (block_code (Prim.hlevel (codes, expression_code)) (Prim.hlevel (codes, expression_code)))) };
+
+    ghost view = { λ p. record { id = p.lock.id; crew = p.lock.opened.view.crew } };
+}
+
+/// A worker's right to take the pool, and what it knows of the run: whether it owes what follows from a token that it took, whether it was
+/// told to stop, and each of its calls. A pool is made with its first seat, and each further one is split from another. It has no bytes.
+pub type PoolSeat = LockSeat<PoolShelf, PoolTold>;
+
 impl SharedPool {
-    /// No token, no worker under way, and nobody waits.
-    pub fn new(alloc: Global) -> SharedPool {
+    /// No token, and nobody waits. The seat is under way: it owes the tokens of the roots.
+    pub fn new(alloc: Global, script: &Script, workers: u32) -> Result<(SharedPool, PoolSeat), Halt>
+        ensures crew { IfOk result (λ r. r.0.crew ≡ record { script = script.now; workers = workers }) }
+        ensures seat { IfOk result (λ r. IsPoolSeatOf r.0 r.1) }
+        ensures known { IfOk result (λ r. r.1.known.view ≡ first_known r.0.crew) }
+    {
+        let Ok(pool) = Box::new(alloc, Pool::new(alloc)) else {
+            return Err(Halt::Memory);
+        };
+        let shelf = PoolShelf {
+            pool,
+            script: Snapshot::of(script),
+            workers: Snapshot::of(&workers),
+        };
+        let Ok((lock, seat)) = Lock::new(alloc, shelf) else {
+            return Err(Halt::Memory);
+        };
+        Ok((SharedPool::of(lock), seat))
+    }
+
+    // Nobody waits.
+    fn of(lock: Lock<PoolShelf, PoolTold, PoolRule>) -> SharedPool
+        ensures { result ≡ record { id = lock.id; crew = lock.opened.view.crew } }
+    {
         SharedPool {
-            pool: CachePadded::new(Mutex::new(Pool::new(alloc))),
+            lock,
             bells: array::from_fn(|_| CachePadded::new(Bell::new())),
             calm: CachePadded::new(AtomicCell::new(false)),
             turns: CachePadded::new(AtomicCell::new(0)),
         }
     }
 
-    // Locks the pool. It looks for a while first, also where another worker sleeps: the pool is locked for a moment, and to sleep
-    // costs more. `Mutex::lock` alone does not look there.
-    fn lock<R: Wait>(&self, rt: &R) -> MutexGuard<'_, Pool> {
-        for _ in 0..LOOKS {
-            if let Some(pool) = self.pool.try_lock() {
-                return pool;
-            }
-            hint::spin_loop();
-        }
-        self.pool.lock(rt)
+    /// A seat for one more worker.
+    pub fn split(&self, seat: &mut PoolSeat) -> PoolSeat
+        requires seat { IsPoolSeatOf self.now seat.old }
+        requires parts { seat.old.known.view.owes < seat.old.known.view.parts }
+        ensures left { (seat.new.lock ≡ seat.old.lock) × (seat.new.held ≡ None) × (seat.new.known.view ≡ split_left seat.old.known.view) }
+        ensures new { (result.lock ≡ self.now.id) × (result.held ≡ None) × (result.known.view ≡ split_new seat.old.known.view) }
+    {
+        seat.split::<OneMore, PoolRule>(&self.lock)
     }
 
-    /// Puts the first tokens, in order. It rings nobody, so it is for the time before the workers start.
-    pub fn put_first<R: Wait>(&self, rt: &R, tokens: &[ExecId]) -> Result<(), AllocError> {
-        self.lock(rt).put_all(tokens)
+    // Takes the pool, and waits until it can.
+    fn take<R: Wait>(&self, rt: &R, seat: &mut PoolSeat) -> PoolShelf
+        requires { IsPoolSeatOf self.now seat.old }
+        ensures { HasTaken self.now seat.old seat.new result }
+    {
+        self.lock.lock::<Finds, R>(rt, seat)
     }
 
-    /// What a worker does first (`Pool::next`).
-    pub fn next<R: Wait>(&self, rt: &R, script: &Script, workers: u32, worker: u32) -> WorkerNext {
-        let mut pool = self.lock(rt);
-        let next = pool.next(script, workers, worker);
+    // Gives the pool back, with which this call was made.
+    fn give_named<K: NamesCall>(
+        &self,
+        seat: &mut PoolSeat,
+        shelf: PoolShelf,
+        worker: u32,
+        ends: u32,
+        put: &[ExecId],
+        told: Option<Halt>,
+        next: Option<WorkerNext>,
+    )
+        requires name { K.call ≡ record { worker = worker; ends = ends; put = put.now; told = told; next = next } }
+        requires lock { seat.old.lock ≡ self.now.id }
+        requires gives { MayGiveBack seat.old.known.view seat.old.held shelf.script.value shelf.workers.value shelf.pool.value (record { worker = worker; ends = ends; put = put.now; told = told; next = next }) }
+        ensures { HasCalled (record { worker = worker; ends = ends; put = put.now; told = told; next = next }) seat.old seat.new }
+    {
+        let _of_worker = worker;
+        let _ends = ends;
+        let _put = put.len();
+        let _told = told;
+        let _next = next;
+        self.lock.unlock::<Calls<K>>(seat, shelf);
+    }
+
+    // The same, where the call has no name.
+    fn give(
+        &self,
+        seat: &mut PoolSeat,
+        shelf: PoolShelf,
+        worker: u32,
+        ends: u32,
+        put: &[ExecId],
+        told: Option<Halt>,
+        next: Option<WorkerNext>,
+    )
+        requires lock { seat.old.lock ≡ self.now.id }
+        requires gives { MayGiveBack seat.old.known.view seat.old.held shelf.script.value shelf.workers.value shelf.pool.value (record { worker = worker; ends = ends; put = put.now; told = told; next = next }) }
+        ensures { HasCalled (record { worker = worker; ends = ends; put = put.now; told = told; next = next }) seat.old seat.new }
+    {
+        self.give_named::<Brand>(seat, shelf, worker, ends, put, told, next);
+    }
+
+    /// Puts the first tokens, in order: what the first seat owes. It rings nobody, so it is for the time before the workers start. Where
+    /// one of them is refused memory, the run is given up.
+    pub fn put_first<R: Wait>(&self, rt: &R, seat: &mut PoolSeat, tokens: &[ExecId])
+        requires seat { IsPoolSeatOf self.now seat.old }
+        requires owes { seat.old.known.view.owes ≡ 1 }
+        ensures { (c : PoolCall) × HasCalled c seat.old seat.new × IsEndOf tokens.now (Ok tt) c × (c.next ≡ None) }
+    {
+        let mut shelf = self.take(rt, seat);
+        let ended = shelf.pool.end_turn(tokens, Ok(()));
+        self.give(seat, shelf, 0, 1, &tokens[..ended.put], ended.told, None);
+    }
+
+    /// What a worker does first.
+    pub fn next<R: Wait>(
+        &self,
+        rt: &R,
+        seat: &mut PoolSeat,
+        script: &Script,
+        workers: u32,
+        worker: u32,
+    ) -> WorkerNext
+        requires seat { IsPoolSeatOf self.now seat.old }
+        requires crew { self.now.crew ≡ record { script = script.now; workers = workers } }
+        requires owes { (seat.old.known.view.owes ≡ 0) × (0 < seat.old.known.view.parts) }
+        ensures { HasCalled (record { worker = worker; ends = 0; put = []; told = None; next = Some result }) seat.old seat.new }
+    {
+        let mut shelf = self.take(rt, seat);
+        let next = shelf.pool.next(script, workers, worker);
         self.note(worker, next);
+        self.give(seat, shelf, worker, 0, &[], None, Some(next));
         next
     }
 
-    /// The end of a worker's turn, and what it does next (`Pool::turn_over`). Where its chain is long it may be told to rest.
+    /// The end of a worker's turn, and what it does next: these tokens go behind the others, in order, and it takes the oldest token that it
+    /// may run. Where the turn was refused, or a token was refused memory, the run is given up. Where its chain is long it may be told to
+    /// rest.
     pub fn turn_over<R: Wait>(
         &self,
         rt: &R,
+        seat: &mut PoolSeat,
         tokens: &[ExecId],
         done: Result<(), Halt>,
         script: &Script,
         workers: u32,
         worker: u32,
         chain: Chain,
-    ) -> WorkerNext {
-        let mut pool = self.lock(rt);
-        let next = if chain.is_long() {
-            pool.end_turn(tokens, done);
-            self.rest_or_next(&mut pool, script, workers, worker)
-        } else {
-            pool.turn_over(tokens, done, script, workers, worker)
-        };
-        self.note(worker, next);
+    ) -> WorkerNext
+        requires seat { IsPoolSeatOf self.now seat.old }
+        requires crew { self.now.crew ≡ record { script = script.now; workers = workers } }
+        requires owes { seat.old.known.view.owes ≡ 1 }
+        ensures called { (c : PoolCall) × HasCalled c seat.old seat.new × IsEndOf tokens.now done c × (c.worker ≡ worker) × (c.next ≡ Some result) }
+        ensures refused { IsErr done → result ≡ Stop }
+    {
+        let mut shelf = self.take(rt, seat);
+        let pool = &mut *shelf.pool;
+        let ended = pool.end_turn(tokens, done);
+        let next = self.next_after(pool, script, workers, worker, chain);
         let left = pool.token_count();
+        self.note(worker, next);
         let rings = workers > 1 && self.rings(chain);
-        drop(pool);
+        self.give(
+            seat,
+            shelf,
+            worker,
+            1,
+            &tokens[..ended.put],
+            ended.told,
+            Some(next),
+        );
+        self.ring_after(tokens, next, left, rings, script, workers, worker);
+        next
+    }
+
+    // What a worker does after a turn.
+    fn next_after(
+        &self,
+        pool: &mut Pool,
+        script: &Script,
+        workers: u32,
+        worker: u32,
+        chain: Chain,
+    ) -> WorkerNext
+        requires { pool.old.under_way < 4294967295 }
+        ensures { IsNextOrRest script.now workers worker pool.old result pool.new }
+    {
+        if chain.is_long() {
+            self.rest_or_next(pool, script, workers, worker)
+        } else {
+            pool.next(script, workers, worker)
+        }
+    }
+
+    // After a turn that has put these tokens, of which so many are left, rings for those that its worker does not take.
+    fn ring_after(
+        &self,
+        tokens: &[ExecId],
+        next: WorkerNext,
+        left: usize,
+        rings: bool,
+        script: &Script,
+        workers: u32,
+        worker: u32,
+    ) {
         if workers == 1 || matches!(next, WorkerNext::Rest) {
             // Nobody else is there to be rung, or who sees to the tokens is awake.
-            return next;
+            return;
         }
         for on in tokens {
             let is_asked = rings || !is_for(script, workers, worker, *on);
@@ -132,7 +296,6 @@ impl SharedPool {
                 self.ring_for(script, workers, *on);
             }
         }
-        next
     }
 
     // A worker rests where another that does not wait may run each token that lies there. Else it does what the pool says.
@@ -142,7 +305,10 @@ impl SharedPool {
         script: &Script,
         workers: u32,
         worker: u32,
-    ) -> WorkerNext {
+    ) -> WorkerNext
+        requires { pool.old.under_way < 4294967295 }
+        ensures { IsNextOrRest script.now workers worker pool.old result pool.new }
+    {
         for (other, bell) in self.bells.iter().enumerate() {
             let other = other as u32;
             if other < workers
@@ -193,17 +359,41 @@ impl SharedPool {
     }
 
     /// After a pause that it was told, a worker waits here until there may be a token for it, or the run has ended. Then it is told what
-    /// it does next.
-    pub fn pause<R: Wait>(&self, rt: &R, script: &Script, workers: u32, worker: u32) -> WorkerNext {
+    /// it does next. It owes nothing meanwhile.
+    pub fn pause<R: Wait>(
+        &self,
+        rt: &R,
+        seat: &mut PoolSeat,
+        script: &Script,
+        workers: u32,
+        worker: u32,
+    ) -> WorkerNext
+        requires seat { IsPoolSeatOf self.now seat.old }
+        requires crew { self.now.crew ≡ record { script = script.now; workers = workers } }
+        requires owes { (seat.old.known.view.owes ≡ 0) × (0 < seat.old.known.view.parts) }
+        ensures { HasCalled (record { worker = worker; ends = 0; put = []; told = None; next = Some result }) seat.old seat.new }
+    {
         if let Some(bell) = self.bells.get(worker as usize) {
             bell.wait(rt);
         }
-        self.look(rt, script, workers, worker)
+        self.look(rt, seat, script, workers, worker)
     }
 
     /// A worker that was told to rest watches the others here. Where they are quick it waits, as in a pause; else the calm ends. Then
-    /// it is told what it does next.
-    pub fn rest<R: Wait>(&self, rt: &R, script: &Script, workers: u32, worker: u32) -> WorkerNext {
+    /// it is told what it does next. It owes nothing meanwhile.
+    pub fn rest<R: Wait>(
+        &self,
+        rt: &R,
+        seat: &mut PoolSeat,
+        script: &Script,
+        workers: u32,
+        worker: u32,
+    ) -> WorkerNext
+        requires seat { IsPoolSeatOf self.now seat.old }
+        requires crew { self.now.crew ≡ record { script = script.now; workers = workers } }
+        requires owes { (seat.old.known.view.owes ≡ 0) × (0 < seat.old.known.view.parts) }
+        ensures { HasCalled (record { worker = worker; ends = 0; put = []; told = None; next = Some result }) seat.old seat.new }
+    {
         if let Some(bell) = self.bells.get(worker as usize) {
             // One that was rung meanwhile has not seen enough.
             if self.are_quick(bell) || bell.rest() != Rest::Waits {
@@ -212,19 +402,46 @@ impl SharedPool {
                 self.end_calm();
             }
         }
-        self.look(rt, script, workers, worker)
+        self.look(rt, seat, script, workers, worker)
     }
 
     // What a worker does next that was rung. In a calm run it may rest again.
-    fn look<R: Wait>(&self, rt: &R, script: &Script, workers: u32, worker: u32) -> WorkerNext {
-        let mut pool = self.lock(rt);
-        let next = if self.calm.load() {
-            self.rest_or_next(&mut pool, script, workers, worker)
+    fn look<R: Wait>(
+        &self,
+        rt: &R,
+        seat: &mut PoolSeat,
+        script: &Script,
+        workers: u32,
+        worker: u32,
+    ) -> WorkerNext
+        requires seat { IsPoolSeatOf self.now seat.old }
+        requires crew { self.now.crew ≡ record { script = script.now; workers = workers } }
+        requires owes { (seat.old.known.view.owes ≡ 0) × (0 < seat.old.known.view.parts) }
+        ensures { HasCalled (record { worker = worker; ends = 0; put = []; told = None; next = Some result }) seat.old seat.new }
+    {
+        let mut shelf = self.take(rt, seat);
+        let next = self.next_at_look(&mut shelf.pool, script, workers, worker);
+        self.note(worker, next);
+        self.give(seat, shelf, worker, 0, &[], None, Some(next));
+        next
+    }
+
+    // What a worker does that looks into the pool again.
+    fn next_at_look(
+        &self,
+        pool: &mut Pool,
+        script: &Script,
+        workers: u32,
+        worker: u32,
+    ) -> WorkerNext
+        requires { pool.old.under_way < 4294967295 }
+        ensures { IsNextOrRest script.now workers worker pool.old result pool.new }
+    {
+        if self.calm.load() {
+            self.rest_or_next(pool, script, workers, worker)
         } else {
             pool.next(script, workers, worker)
-        };
-        self.note(worker, next);
-        next
+        }
     }
 
     // Whether the others end many turns while the worker of this bell lets time pass. The time begins with a turn's end, since one of
@@ -243,15 +460,25 @@ impl SharedPool {
     }
 
     /// The run is given up, for the first cause that is told.
-    pub fn give_up<R: Wait>(&self, rt: &R, halt: Halt) {
-        self.lock(rt).give_up(halt);
+    pub fn give_up<R: Wait>(&self, rt: &R, seat: &mut PoolSeat, halt: Halt)
+        requires { IsPoolSeatOf self.now seat.old }
+        ensures { (c : PoolCall) × HasCalled c seat.old seat.new × (c.ends ≡ 0) × (c.told ≡ Some halt) × (c.next ≡ None) }
+    {
+        let mut shelf = self.take(rt, seat);
+        shelf.pool.give_up(halt);
+        self.give(seat, shelf, 0, 0, &[], Some(halt), None);
         self.ring_all();
     }
 
-    /// Why the run was given up, if it was. For when each worker has ended.
-    pub fn into_halt(self) -> Option<Halt> {
+    /// Why the run was given up, if it was. Where it was not, and the worker of this seat was told to stop, no token is left, and no worker
+    /// owes anything. A pool that was not given back gives the run up, too.
+    pub fn into_halt(self, seat: PoolSeat) -> Option<Halt>
+        requires { IsPoolSeatOf self seat }
+        ensures told { seat.known.view.told ≡ true → IsSome result }
+        ensures over { seat.known.view.over ≡ true → IfNone result (IsRunOut self.crew seat.known) }
+    {
         let SharedPool {
-            pool,
+            lock,
             bells,
             calm,
             turns,
@@ -259,7 +486,10 @@ impl SharedPool {
         drop(bells);
         drop(calm);
         drop(turns);
-        pool.into_inner().into_inner().halt()
+        match lock.close::<Finds>(seat) {
+            Some(shelf) => shelf.pool.halt(),
+            None => Some(Halt::Unfinished),
+        }
     }
 
     // How many workers are on their way to the pool that may run this executor.

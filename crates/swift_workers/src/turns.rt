@@ -1,9 +1,13 @@
 //! The turns of one worker.
 
-ghost use Rattle.std.specs.Prelude.{◌≡◌, [], OnOk};
+ghost use Rattle.std.specs.Prelude.{◌≡◌, ◌≢◌, ◌<◌, true, Some, Result, [], OnOk};
 ghost use Rattle.std.specs.List.{AllByRecursion};
 ghost use Rattle.swift_tasks.specs.Books.{IsJobOf};
 ghost use Rattle.swift_workers.specs.CrewInside.{AreAtSites, AreDesksOf, IsHandOf};
+ghost use Rattle.swift_workers.specs.declared.fault.Halt.{Halt as HaltOf};
+ghost use Rattle.swift_workers.specs.declared.pool.WorkerNext.TheVariants.{Stop};
+ghost use Rattle.swift_workers.specs.Pools.{IsEndOf, PoolCall};
+ghost use Rattle.swift_workers.specs.PoolCallsInside.{HasCalled, HasStopped, IsPoolSeatOf};
 ghost use Rattle.swift_workers.specs.PoolsInside.{left_after};
 
 use crate::chain::Chain;
@@ -11,6 +15,7 @@ use crate::crew::{Crew, Hand};
 use crate::fault::Halt;
 use crate::pool::WorkerNext;
 use crate::sending::send_all;
+use crate::shared_pool::PoolSeat;
 use futures::task::{Context, Doorbell, Solo};
 use std::alloc::AllocGlobal;
 use std::random::RandomSource;
@@ -84,15 +89,60 @@ fn turn_at<R: Wait, G: Gate>(
     send_all(rt, crew, hand, gate)
 }
 
-// Runs turns until the pool says that there are none left. After a refusal jobs that were made may stand in the hand.
-//
-// Each token that a turn takes or makes is in the pool again at its end, or the run has been given up: the one that is taken is put
-// back where more is pending, unless the visit is refused; and one more is put for each executor that was idle, unless memory is. What a
-// turn has to put is put after a refusal too.
-fn drain<R: Wait, G: Gate>(rt: &R, cx: &mut Context<'_>, crew: Crew<'_>, hand: &mut Hand, gate: &G)
+// A turn at the executor whose token this is, and its end. Each token that it takes or makes is in the pool again then, or the run has been
+// given up: the one that is taken is put back where more is pending, unless the visit is refused; and one more is put for each executor
+// that was idle, unless memory is. What a turn has to put is put after a refusal too, and then the pool says to stop.
+fn turn<R: Wait, G: Gate>(
+    rt: &R,
+    cx: &mut Context<'_>,
+    crew: Crew<'_>,
+    hand: &mut Hand,
+    seat: &mut PoolSeat,
+    on: ExecId,
+    chain: &mut Chain,
+    gate: &G,
+) -> WorkerNext
     requires sites { AreAtSites crew.book.now crew.execs.now }
     requires script { crew.book.now.script ≡ crew.script.now }
     requires hand { IsHandOf crew.book.now crew.execs.now hand.old }
+    requires pool { crew.pool.now.crew ≡ record { script = crew.script.now; workers = crew.workers } }
+    requires seat { IsPoolSeatOf crew.pool.now seat.old }
+    requires owes { seat.old.known.view.owes ≡ 1 }
+    ensures hand { result ≢ Stop → IsHandOf crew.entry.book.now crew.entry.execs.now hand.new }
+    ensures put { (c : PoolCall) × (done : Result (Unit {0}) HaltOf) × HasCalled c seat.old seat.new × IsEndOf hand.new.tokens.items done c × (c.next ≡ Some result) }
+{
+    let worker = hand.worker;
+    let done = turn_at(rt, cx, crew, hand, on, gate);
+    chain.note(hand.is_link);
+    crew.pool.turn_over(
+        rt,
+        seat,
+        &hand.tokens,
+        done,
+        crew.script,
+        crew.workers,
+        worker,
+        *chain,
+    )
+}
+
+// Runs turns until the pool says to stop. After a refusal jobs that were made may stand in the hand.
+fn drain<R: Wait, G: Gate>(
+    rt: &R,
+    cx: &mut Context<'_>,
+    crew: Crew<'_>,
+    hand: &mut Hand,
+    seat: &mut PoolSeat,
+    gate: &G,
+)
+    requires sites { AreAtSites crew.book.now crew.execs.now }
+    requires script { crew.book.now.script ≡ crew.script.now }
+    requires hand { IsHandOf crew.book.now crew.execs.now hand.old }
+    requires pool { crew.pool.now.crew ≡ record { script = crew.script.now; workers = crew.workers } }
+    requires seat { IsPoolSeatOf crew.pool.now seat.old }
+    requires owes { (seat.old.known.view.owes ≡ 0) × (0 < seat.old.known.view.parts) }
+    ensures seat { IsPoolSeatOf crew.entry.pool.now seat.new }
+    ensures stopped { (seat.new.known.view.owes ≡ 0) × (seat.new.known.view.over ≡ true) }
 {
     let Crew {
         script,
@@ -102,44 +152,47 @@ fn drain<R: Wait, G: Gate>(rt: &R, cx: &mut Context<'_>, crew: Crew<'_>, hand: &
     } = crew;
     let worker = hand.worker;
     let mut chain = Chain::new();
-    let mut next = pool.next(rt, script, workers, worker);
-    for _ in 0..u64::MAX {
+    let mut next = pool.next(rt, seat, script, workers, worker);
+    for _ in rt.forever() {
         match next {
             WorkerNext::Stop => return,
             WorkerNext::Pause => {
-                next = pool.pause(rt, script, workers, worker);
+                next = pool.pause(rt, seat, script, workers, worker);
             }
             WorkerNext::Rest => {
-                next = pool.rest(rt, script, workers, worker);
+                next = pool.rest(rt, seat, script, workers, worker);
                 chain.end_rest(matches!(next, WorkerNext::Visit(_)));
             }
             WorkerNext::Visit(on) => {
-                let done = turn_at(rt, cx, crew, hand, on, gate);
-                chain.note(hand.is_link);
-                next = pool.turn_over(rt, &hand.tokens, done, script, workers, worker, chain);
-                if done.is_err() {
-                    return;
-                }
+                next = turn(rt, cx, crew, hand, seat, on, &mut chain, gate);
             }
         }
     }
+    unreachable!()
 }
 
-/// What a worker does, from the start of its thread to its end. Jobs that it could not send are given up with its hand.
-pub fn work<R, G>(rt: &R, crew: Crew<'_>, mut hand: Hand, gate: &G)
+/// What a worker does, from the start of its thread to its end. Jobs that it could not send are given up with its hand. Once it has ended
+/// it owes the pool nothing, and it was told to stop, or has told why the run is given up.
+pub fn work<R, G>(rt: &R, crew: Crew<'_>, mut hand: Hand, mut seat: PoolSeat, gate: &G) -> PoolSeat
 where
     R: RandomSource + AllocGlobal + Wait,
     G: Gate,
     requires sites { AreAtSites crew.book.now crew.execs.now }
     requires script { crew.book.now.script ≡ crew.script.now }
     requires hand { IsHandOf crew.book.now crew.execs.now hand }
+    requires pool { crew.pool.now.crew ≡ record { script = crew.script.now; workers = crew.workers } }
+    requires seat { IsPoolSeatOf crew.pool.now seat }
+    requires owes { (seat.known.view.owes ≡ 0) × (0 < seat.known.view.parts) }
+    ensures seat { IsPoolSeatOf crew.entry.pool.now result }
+    ensures stopped { HasStopped result }
 {
     let Ok(solo) = Solo::new(rt, Doorbell::spinning()) else {
-        crew.pool.give_up(rt, Halt::Memory);
-        return;
+        crew.pool.give_up(rt, &mut seat, Halt::Memory);
+        return seat;
     };
     let mut cx = solo.begin();
-    drain(rt, &mut cx, crew, &mut hand, gate);
+    drain(rt, &mut cx, crew, &mut hand, &mut seat, gate);
     drop(hand);
     cx.cancel();
+    seat
 }

@@ -13,12 +13,14 @@ ghost use Rattle.swift_shared_book.specs.Shared.{IsSeatOf, seat_of};
 ghost use Rattle.swift_workers.specs.declared.fault.RunFault.TheVariants.{Illegal, Workers};
 ghost use Rattle.swift_workers.specs.CrewInside.{AreAtSites, AreHandsOf, AreOthers, IsHandOf};
 ghost use Rattle.swift_workers.specs.Leaves.{AreEndings, AreReplayed, KeepInvariants};
+ghost use Rattle.swift_workers.specs.Pools.{first_known};
+ghost use Rattle.swift_workers.specs.PoolCallsInside.{HasStopped, IsPoolSeatOf};
 
 use crate::crew::{Crew, Hand, open_all, others_of, split_all};
 use crate::fault::{Halt, RunFault};
 use crate::leave::report_of;
 use crate::sending::{add_roots, send_all};
-use crate::shared_pool::SharedPool;
+use crate::shared_pool::{PoolSeat, SharedPool};
 use crate::turns::work;
 use std::alloc::{AllocGlobal, Global};
 use std::random::RandomSource;
@@ -159,7 +161,7 @@ where
     ensures seat { IsSeatOf book.now seat.new }
     ensures maker { OnOk result (seat.new.knows.maker ≡ Some (record { executors = executor_count script.now; roots = root_count script.now })) }
 {
-    let pool = SharedPool::new(alloc);
+    let (pool, place) = SharedPool::new(alloc, script, workers)?;
     let crew = Crew {
         script,
         execs,
@@ -167,8 +169,8 @@ where
         pool: &pool,
         workers,
     };
-    let played = play_roots(rt, crew, first, others, seat, gate);
-    first_of(pool.into_halt(), played)
+    let (place, played) = play_roots(rt, crew, first, others, seat, place, gate);
+    first_of(pool.into_halt(place), played)
 }
 
 // The first cause that is there.
@@ -182,15 +184,16 @@ fn first_of(halt: Option<Halt>, played: Result<(), Halt>) -> Result<(), Halt>
     }
 }
 
-// Adds the roots, sends their jobs and has the workers run.
+// Adds the roots, sends their jobs and has the workers run. The seat of the pool comes back: where the workers have run, it owes nothing.
 fn play_roots<R, G>(
     rt: &R,
     crew: Crew<'_>,
     mut first: Hand,
     others: Vec<Hand>,
     seat: &mut BookSeat,
+    mut place: PoolSeat,
     gate: &G,
-) -> Result<(), Halt>
+) -> (PoolSeat, Result<(), Halt>)
 where
     R: RandomSource + AllocGlobal + Threads + Wait + Sync,
     G: Gate + Sync,
@@ -198,20 +201,54 @@ where
     requires script { crew.book.now.script ≡ crew.script.now }
     requires first { IsHandOf crew.book.now crew.execs.now first }
     requires others { AreHandsOf crew.book.now crew.execs.now others.items }
+    requires workers { length others.items < 4294967295 }
+    requires pool { crew.pool.now.crew ≡ record { script = crew.script.now; workers = crew.workers } }
+    requires place { IsPoolSeatOf crew.pool.now place }
+    requires known { place.known.view ≡ first_known crew.pool.now.crew }
     requires seat { IsSeatOf crew.book.now seat.old }
     requires maker { seat.old.knows.maker ≡ Some (record { executors = executor_count crew.script.now; roots = 0 }) }
+    ensures place { IsPoolSeatOf crew.entry.pool.now result.0 }
+    ensures stopped { OnOk result.1 (HasStopped result.0) }
+    ensures seat { IsSeatOf crew.entry.book.now seat.new }
+    ensures maker { OnOk result.1 (seat.new.knows.maker ≡ Some (record { executors = executor_count crew.entry.script.now; roots = root_count crew.entry.script.now })) }
+{
+    if let Err(halt) = send_roots(rt, crew, &mut first, seat, gate) {
+        return (place, Err(halt));
+    }
+    crew.pool.put_first(rt, &mut place, &first.tokens);
+    (start(rt, crew, first, others, place, gate), Ok(()))
+}
+
+// Adds the roots, and sends their jobs.
+fn send_roots<R: Wait, G: Gate>(
+    rt: &R,
+    crew: Crew<'_>,
+    first: &mut Hand,
+    seat: &mut BookSeat,
+    gate: &G,
+) -> Result<(), Halt>
+    requires sites { AreAtSites crew.book.now crew.execs.now }
+    requires script { crew.book.now.script ≡ crew.script.now }
+    requires first { IsHandOf crew.book.now crew.execs.now first.old }
+    requires seat { IsSeatOf crew.book.now seat.old }
+    requires maker { seat.old.knows.maker ≡ Some (record { executors = executor_count crew.script.now; roots = 0 }) }
+    ensures first { OnOk result (IsHandOf crew.entry.book.now crew.entry.execs.now first.new) }
     ensures seat { IsSeatOf crew.entry.book.now seat.new }
     ensures maker { OnOk result (seat.new.knows.maker ≡ Some (record { executors = executor_count crew.entry.script.now; roots = root_count crew.entry.script.now })) }
 {
     add_roots(rt, crew.script, crew.book, seat, &mut first.jobs)?;
-    send_all(rt, crew, &mut first, gate)?;
-    crew.pool.put_first(rt, &first.tokens)?;
-    start(rt, crew, first, others, gate);
-    Ok(())
+    send_all(rt, crew, first, gate)
 }
 
-// Each worker on a thread of its own, and the first on this one.
-fn start<R, G>(rt: &R, crew: Crew<'_>, first: Hand, mut others: Vec<Hand>, gate: &G)
+// Each worker on a thread of its own, with a seat of its own, and the first on this one, whose seat comes back.
+fn start<R, G>(
+    rt: &R,
+    crew: Crew<'_>,
+    first: Hand,
+    mut others: Vec<Hand>,
+    mut place: PoolSeat,
+    gate: &G,
+) -> PoolSeat
 where
     R: RandomSource + AllocGlobal + Threads + Wait + Sync,
     G: Gate + Sync,
@@ -219,29 +256,43 @@ where
     requires script { crew.book.now.script ≡ crew.script.now }
     requires first { IsHandOf crew.book.now crew.execs.now first }
     requires others { AreHandsOf crew.book.now crew.execs.now others.items }
+    requires pool { crew.pool.now.crew ≡ record { script = crew.script.now; workers = crew.workers } }
+    requires place { IsPoolSeatOf crew.pool.now place }
+    requires owes { (place.known.view.owes ≡ 0) × (length others.items < place.known.view.parts) }
+    ensures place { IsPoolSeatOf crew.entry.pool.now result }
+    ensures stopped { HasStopped result }
 {
     thread::scope(
         thread::scope_env(),
         rt,
-        |scope| -> ()
+        |scope| -> PoolSeat
             requires sites { AreAtSites crew.book.now crew.execs.now }
             requires script { crew.book.now.script ≡ crew.script.now }
             requires first { IsHandOf crew.book.now crew.execs.now first }
             requires others { AreHandsOf crew.book.now crew.execs.now others.items }
+            requires pool { crew.pool.now.crew ≡ record { script = crew.script.now; workers = crew.workers } }
+            requires place { IsPoolSeatOf crew.pool.now place }
+            requires owes { (place.known.view.owes ≡ 0) × (length others.items < place.known.view.parts) }
+            ensures place { IsPoolSeatOf crew.entry.pool.now result }
+            ensures stopped { HasStopped result }
         {
             while let Some(hand) = others.pop() {
+                let own = crew.pool.split(&mut place);
                 let spawned = scope.spawn(
                     move || -> ()
                         requires sites { AreAtSites crew.book.now crew.execs.now }
                         requires script { crew.book.now.script ≡ crew.script.now }
                         requires hand { IsHandOf crew.book.now crew.execs.now hand }
-                    { work(rt, crew, hand, gate) },
+                        requires pool { crew.pool.now.crew ≡ record { script = crew.script.now; workers = crew.workers } }
+                        requires own { IsPoolSeatOf crew.pool.now own }
+                        requires owes { (own.known.view.owes ≡ 0) × (0 < own.known.view.parts) }
+                    { drop(work(rt, crew, hand, own, gate)) },
                 );
                 if spawned.is_err() {
-                    crew.pool.give_up(rt, Halt::Memory);
+                    crew.pool.give_up(rt, &mut place, Halt::Memory);
                 }
             }
-            work(rt, crew, first, gate);
+            work(rt, crew, first, place, gate)
         },
-    );
+    )
 }

@@ -5,7 +5,7 @@ pub(crate) static HEAD: &str = "<!doctype html>
 <html lang=\"en\">
 <head>
 <meta charset=\"utf-8\">
-<meta http-equiv=\"Content-Security-Policy\" content=\"default-src 'none'; style-src 'sha256-tNtsAbIgZ/g99N4szxYKXFee7ckWG4SN5tjiU4RBT8A='; script-src 'sha256-r8Lul+Cfc7xCNySV/LFNS25wG3mSiQYWnQN1UqafywA='\">
+<meta http-equiv=\"Content-Security-Policy\" content=\"default-src 'none'; style-src 'sha256-tNtsAbIgZ/g99N4szxYKXFee7ckWG4SN5tjiU4RBT8A='; script-src 'sha256-54z3J1Y73shWbLlxXCoXzDsSeBZjfVc2E6uea9KvTfE='\">
 <meta name=\"viewport\" content=\"width=device-width, initial-scale=1\">
 <title>Outcomes</title>
 <style>";

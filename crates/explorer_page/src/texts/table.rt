@@ -21,6 +21,7 @@ const VERDICTS = { holds: \"\\u2713\", false: \"\\u2717 false\", overflow: \"\\u
 const ENDS = {
     complete: \"The search came to its end: no order of turns leads to another one.\",
     limit: \"The search has NOT come to its end: it met its limit. There may be more; --limit N goes further.\",
+    room: \"The search has NOT come to its end: the room for tasks ran short. There may be more.\",
     partial: \"The search has NOT followed every order of turns. There may be more.\",
 };
 
@@ -29,7 +30,8 @@ function showSummary() {
     document.title = at(\"title\").textContent = `How ${name} can end`;
     const many = askedOutcomes.length === 0 ? \"No outcome was found\" : `${counted(askedOutcomes.length, \"outcome was\", \"outcomes were\")} found`;
     const end = made(\"span\", { class: answer.search === \"complete\" ? null : \"bad\" }, ENDS[answer.search]);
-    at(\"summary\").append(`${many}. `, end, ` It has seen ${counted(answer.states, \"state\")}.`);
+    const left = \"to_go\" in answer ? `, ${answer.to_go} of them still to go` : \"\";
+    at(\"summary\").append(`${many}. `, end, ` It has seen ${counted(answer.states, \"state\")}${left}.`);
     if (isSwift) showSwift();
 }
 

@@ -4,8 +4,6 @@
 pub(crate) static CHOSEN: &str =
     "// The turn that is chosen, the tasks, and what happened in a line.
 
-// ---- The turn that is chosen ----
-
 function showFields(turn, run) {
     const fields = fieldsBefore(turn);
     const changes = new Map((run ? [] : turn.changes).map((change) => [change.field, change]));
@@ -63,10 +61,9 @@ function choose(slot) {
 // Chooses a turn, and shows those of its task where they are hidden.
 function chooseTurn(turn) {
     if (!turn) return;
-    if (hidden.delete(turn.task)) {
-        showTasks();
-        relay();
-    }
+    const wasHidden = hidden.delete(turn.task);
+    if (wasHidden) showTasks();
+    if (wasHidden) relay();
     choose(slotOf.get(turn));
 }
 
@@ -76,8 +73,6 @@ function relay() {
     layOut();
     choose(chosen);
 }
-
-// ---- Tasks ----
 
 function taskItem(number) {
     const { from, by, ending: end } = report.tasks[number];
@@ -115,8 +110,6 @@ function filter(isShown) {
     relay();
 }
 
-// ---- What happened, in a line ----
-
 function toTurn(turn, text = turn.name) {
     const link = make(\"button\", { type: \"button\", class: \"link\", \"data-go\": turn.name }, text);
     link.addEventListener(\"click\", () => chooseTurn(turn));
@@ -141,10 +134,9 @@ function showSummary() {
     const failed = report.tasks.filter((task) => task.ending.is === \"fault\").map((task) => task.task);
     const many = `${counted(turns.length + folded, \"turn\")} of ${counted(report.tasks.length, \"task\")}`;
     const pieces = [`${many} on ${counted(executors.length, \"executor\")}, by ${counted(more.workers, \"worker\")}. `];
-    const taken = counted(undone.length, \"turn was\", \"turns were\");
-    if (undone.length > 0) pieces.push(`${taken} undone: `, ...some(undone, (turn) => toTurn(turn)), \". \");
+    if (undone.length > 0) pieces.push(`${counted(undone.length, \"turn was\", \"turns were\")} undone: `, ...some(undone, (turn) => toTurn(turn)), \". \");
     if (failed.length === 0) pieces.push(\"Each task ended with a value. \");
-    else pieces.push(`${counted(failed.length, \"task\", \"tasks\")} ended with a fault: `, ...some(failed, failure), \". \");
+    else pieces.push(`${counted(failed.length, \"task\")} ended with a fault: `, ...some(failed, failure), \". \");
     if (folded > 0) pieces.push(`The first ${folded} of these turns were folded, and are not here.`);
     found(\"summary\").replaceChildren(...pieces);
     const name = more.name.split(\"/\").pop();
@@ -155,10 +147,7 @@ function showSummary() {
 const LINKS = { goes: \"goes on\", call: \"calls\", return: \"returns\", spawn: \"makes a task\", waits: \"waits\", wake: \"wakes\" };
 
 function showLegend() {
-    for (const [link, text] of Object.entries(LINKS)) {
-        const stroke = shape(\"path\", { class: \"link-line \" + link, d: \"M0,4h34\" });
-        const sample = shape(\"svg\", { width: 34, height: 8, class: \"task c8\" }, stroke);
-        found(\"links\").append(make(\"span\", {}, sample, text));
-    }
+    const sample = (link) => shape(\"svg\", { width: 34, height: 8, class: \"task c8\" }, shape(\"path\", { class: \"link-line \" + link, d: \"M0,4h34\" }));
+    found(\"links\").append(...Object.entries(LINKS).map(([link, text]) => make(\"span\", {}, sample(link), text)));
 }
 ";

@@ -3,8 +3,6 @@
 /// Its text.
 pub(crate) static LANES: &str = "// The lanes with a box for each turn, and the overview above them.
 
-// ---- Elements ----
-
 function fill(element, attributes, children) {
     for (const [name, value] of Object.entries(attributes)) if (value !== null) element.setAttribute(name, value);
     element.append(...children);
@@ -16,8 +14,7 @@ const shape = (name, attributes, ...children) => fill(document.createElementNS(\
 const words = (text, x, y, names) => shape(\"text\", { x, y, class: names }, text);
 const colour = (number) => `task c${number % 12}`;
 
-// ---- Cells: turns that are shown, and runs of turns that are folded, in order ----
-
+// Cells are turns that are shown, and runs of turns that are folded, in order.
 const PITCHES = [1, 2, 3, 5, 8, 12, 18, 28, 44, 72, 116, 150, 180];
 const GUTTER = 132;
 const hidden = new Set();
@@ -29,11 +26,7 @@ let chosen = 0;
 const isFull = (level = zoom) => PITCHES[level] >= 110;
 const isNamed = () => PITCHES[zoom] >= 44;
 
-function sizes() {
-    if (isFull()) return { over: 34, tall: 52, under: 46 };
-    return isNamed() ? { over: 24, tall: 24, under: 8 } : { over: 10, tall: 20, under: 8 };
-}
-
+const sizes = () => (isFull() ? { over: 34, tall: 52, under: 46 } : isNamed() ? { over: 24, tall: 24, under: 8 } : { over: 10, tall: 20, under: 8 });
 const laneTall = () => { const { over, tall, under } = sizes(); return over + tall + under; };
 
 // Adds a run of turns that only give way: the first one, and the others folded where they are three or more.
@@ -50,11 +43,10 @@ function layCells() {
     cells = [];
     for (const turn of turns) {
         if (hidden.has(turn.task)) continue;
-        if (found(\"fold\").checked && givesWay(turn)) run.push(turn);
-        else {
-            addRun(run);
-            cells.push({ turn, run: null });
-        }
+        const isQuiet = found(\"fold\").checked && givesWay(turn);
+        if (!isQuiet) addRun(run);
+        if (isQuiet) run.push(turn);
+        else cells.push({ turn, run: null });
     }
     addRun(run);
     slotOf.clear();
@@ -73,8 +65,6 @@ const gap = () => Math.min(12, PITCHES[zoom] / 4);
 const endOf = (turn) => Math.max(lastSlot[turn.last], slotOf.get(turn)) * PITCHES[zoom] + PITCHES[zoom] - gap();
 const boxTop = (turn) => turn.executor * laneTall() + sizes().over;
 
-// ---- Drawing ----
-
 // A field of a lane: without its actor where the lane has the actor's name.
 const shortField = (turn, field) => (field.startsWith(executors[turn.executor] + \".\") ? field.split(\".\")[1] : field);
 const shortMethod = (turn) => shortField(turn, turn.method);
@@ -89,7 +79,7 @@ function below(turn) {
 // What stands in a box: texts, each with its place from the left, its line, and its classes.
 function inBox(turn, wide) {
     const room = Math.floor((wide - 14) / 6.63);
-    const short = turn.exit.is === \"call\" ? \"call \" + turn.exit.method.split(\".\")[1] : exitText(turn.exit);
+    const short = turn.exit.is === \"call\" ? \"call \" + turn.exit.method.split(\".\")[1] : stateText(turn.exit);
     const at = `${turn.raised ? \"\\u25b2\" : \"\"}p${turn.priority}${turn.cancelled ? \" c1\" : \"\"}`;
     const left = room - turn.name.length - at.length - 2;
     return [
@@ -97,7 +87,7 @@ function inBox(turn, wide) {
         [left > 3 ? fitting(taskNames[turn.task], left) : \"\", 7 + 6.63 * (turn.name.length + 1), 0, \"\"],
         [at, wide - 7, 0, turn.raised ? \"bold end\" : \"faint end\"],
         [fitting(shortMethod(turn), room), 7, 1, \"\"],
-        [fitting(`${resumeText(turn.resume)} \\u2192 ${short}`, room), 7, 2, turn.undone ? \"bad\" : \"faint\"],
+        [fitting(`${stateText(turn.resume)} \\u2192 ${short}`, room), 7, 2, turn.undone ? \"bad\" : \"faint\"],
     ];
 }
 
@@ -130,12 +120,9 @@ function drawTurn(turn, slot) {
     if (turn.undone && isNamed()) group.append(shape(\"path\", { class: \"cross\", d: cross }));
     if (isFull()) {
         inBox(turn, own).forEach(([text, from, at, names]) => group.append(words(text, x + from, y + 15 + 15 * at, names)));
-        below(turn).forEach((text, at) => {
-            group.append(words(fitting(text, Math.floor(own / 6.63)), x, y + tall + 13 + 13 * at, turn.undone ? \"bad\" : \"faint\"));
-        });
-    } else if (isNamed() && turn.name.length * 5.42 < own) {
-        group.append(words(turn.name, x + own / 2, y + 15, \"tiny middle \" + (turn.undone ? \"bad\" : \"\")));
-    }
+        const under = below(turn).map((text) => fitting(text, Math.floor(own / 6.63)));
+        under.forEach((text, at) => group.append(words(text, x, y + tall + 13 + 13 * at, turn.undone ? \"bad\" : \"faint\")));
+    } else if (isNamed() && turn.name.length * 5.42 < own) group.append(words(turn.name, x + own / 2, y + 15, `tiny middle ${turn.undone ? \"bad\" : \"\"}`));
     return group;
 }
 
@@ -228,8 +215,6 @@ function layOut() {
     drawOverview();
     drawView();
 }
-
-// ---- The overview ----
 
 const overviewStep = () => Math.min(30, (overview.clientWidth || 1000) / Math.max(1, cells.length));
 const rowTall = () => Math.max(4, Math.min(12, 84 / executors.length));

@@ -83,6 +83,6 @@ function sentences(turn) {
 // The turn's line in the journal.
 function line(turn) {
     const given = `w${turn.worker} ${turn.method} p${turn.priority} c${turn.cancelled ? 1 : 0}`;
-    return `${turn.place} ${turn.name} ${given} ${resumeText(turn.resume)} -> ${exitText(turn.exit)}`;
+    return `${turn.place} ${turn.name} ${given} ${stateText(turn.resume)} -> ${stateText(turn.exit)}`;
 }
 ";

@@ -60,7 +60,7 @@ pub(crate) fn write_beside(out: &mut PictureText, lines: &[u8]) {
     }
     for (place, byte) in lines.iter().enumerate() {
         if *byte != b'\n' {
-            out.say(&[*byte]);
+            out.escaped(&[*byte]);
         } else if place.saturating_add(1) < lines.len() {
             out.say(b"; ");
         }

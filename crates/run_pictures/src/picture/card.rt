@@ -17,18 +17,27 @@ use swift_types::ActorId;
 // How many characters of a font of 11 pixels find room in a line of a box.
 const IN_BOX: usize = 17;
 
+// How wide such a character is, in hundredths of a pixel.
+const CHARACTER: usize = 662;
+
+// How many characters of a name are shown at least.
+const LEAST_NAME: usize = 4;
+
 // The title of a box: the line of its turn, and what it did.
 fn write_title(
     out: &mut PictureText,
-    script: &Script,
+    view: View<'_>,
     turn: &TurnBox,
     is_undone: bool,
     lines: &[u8],
 ) {
+    let script = view.script;
     out.say(b"<title>");
     out.turn(turn);
     out.put(&[
-        TextPiece::Text(" w"),
+        TextPiece::Text(" ("),
+        TextPiece::Name(view.name(turn.task.0 as usize)),
+        TextPiece::Text(") w"),
         TextPiece::Number(turn.worker as usize),
         TextPiece::Text(" "),
     ]);
@@ -148,6 +157,41 @@ fn write_first_line(
     end_text(out)
 }
 
+// How many characters what a turn was given takes in a box.
+fn env_length(turn: &TurnBox, was_raised: bool) -> usize {
+    let raised = if was_raised { 1 } else { 0 };
+    let given: usize = if turn.env.cancelled { 5 } else { 2 };
+    given.saturating_add(raised)
+}
+
+// In the first line of a box, what the task is called, as far as there is room for it.
+fn write_name_in(
+    out: &mut PictureText,
+    view: View<'_>,
+    turn: &TurnBox,
+    was_raised: bool,
+    is_undone: bool,
+    at: (usize, usize),
+    scratch: &mut PictureText,
+) {
+    scratch.clear();
+    scratch.turn(turn);
+    let before = scratch.bytes().len().saturating_add(1);
+    let taken = before
+        .saturating_add(env_length(turn, was_raised))
+        .saturating_add(1);
+    let room = IN_BOX.saturating_sub(taken);
+    if room < LEAST_NAME {
+        return;
+    }
+    let x = (before.saturating_mul(CHARACTER) / 100)
+        .saturating_add(8)
+        .saturating_add(at.0);
+    let class = if is_undone { "u" } else { "v" };
+    let place = (x, at.1.saturating_add(17));
+    write_text(out, class, place, view.name(turn.task.0 as usize), room)
+}
+
 // The other lines in a box: the method, what the turn began with, and how it ended.
 fn write_other_lines(
     out: &mut PictureText,
@@ -203,8 +247,33 @@ pub(crate) struct View<'a> {
     pub log: &'a EventLog,
     pub picture: &'a Picture,
     pub layout: &'a Layout,
+    /// What each task is called.
+    pub names: &'a [Vec<u8>],
     /// What the turns of each executor did to its fields.
     pub values: &'a [Vec<TurnValues>],
+    /// The invariant that each of them would have left false, in words.
+    pub broken: &'a [Vec<Vec<u8>>],
+}
+
+impl<'a> View<'a> {
+    /// What a task is called.
+    pub fn name(&self, task: usize) -> &'a [u8] {
+        match self.names.get(task) {
+            Some(name) => name,
+            None => &[],
+        }
+    }
+
+    /// The invariant that the turn at a place of an executor's journal would have left false; nothing where it is none.
+    pub fn broken_at(&self, executor: usize, place: usize) -> &'a [u8] {
+        let Some(turns) = self.broken.get(executor) else {
+            return &[];
+        };
+        match turns.get(place) {
+            Some(invariant) => invariant,
+            None => &[],
+        }
+    }
 }
 
 // What of a box reaches into further rows: its outline, with the turn's name.
@@ -242,10 +311,11 @@ pub(crate) fn write_card(
     let width = view.layout.first_right(placed).saturating_sub(left);
     let is_undone = placed.is_undone;
     out.say(b"<g>");
-    write_title(out, view.script, turn, is_undone, lines);
+    write_title(out, view, turn, is_undone, lines);
     write_outline(out, turn, is_undone, at, width);
     let raised = was_raised(view.picture, turn, placed);
     write_first_line(out, turn, raised, is_undone, at);
+    write_name_in(out, view, turn, raised, is_undone, at, line);
     write_other_lines(out, view.script, turn, is_undone, at, line);
     write_rest(out, view, turn, placed);
     out.say(b"</g>\n");

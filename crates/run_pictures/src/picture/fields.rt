@@ -21,22 +21,37 @@ fn write_field(out: &mut PictureText, script: &Script, executor: ExecId, change:
     out.say(script.field_name(*actor, change.field))
 }
 
-// A field with its values before and after, or of a turn that was undone with the value that it would have left.
-fn write_change(
-    out: &mut PictureText,
-    script: &Script,
-    executor: ExecId,
-    change: &Change,
-    is_undone: bool,
-) {
+// A field with its values before and after.
+fn write_change(out: &mut PictureText, script: &Script, executor: ExecId, change: &Change) {
     write_field(out, script, executor, change);
     out.say(b" ");
-    if !is_undone {
-        out.number(change.before);
-        out.say(b" -> ");
-    }
+    out.number(change.before);
+    out.say(b" -> ");
     out.number(change.after);
     out.say(b"\n")
+}
+
+// An expression without the parentheses round all of it, as its printed form has them.
+fn bare(formula: &[u8]) -> &[u8] {
+    if formula.starts_with(b"( ") {
+        formula
+            .get(2..formula.len().saturating_sub(2))
+            .unwrap_or(formula)
+    } else {
+        formula
+    }
+}
+
+/// Which invariant a turn would have left false, in a line; nothing where none is given.
+pub(crate) fn write_broken(out: &mut PictureText, invariant: &[u8]) {
+    if invariant.is_empty() {
+        return;
+    }
+    out.put(&[
+        TextPiece::Text("breaks "),
+        TextPiece::Name(bare(invariant)),
+        TextPiece::Text("\n"),
+    ])
 }
 
 /// Which fields a turn changed, or would have changed where it was undone: each in a line.
@@ -54,6 +69,6 @@ pub(crate) fn write_changes(
         out.say(b"would leave\n");
     }
     for change in &values.changes {
-        write_change(out, script, ExecId(executor), change, is_undone);
+        write_change(out, script, ExecId(executor), change);
     }
 }

@@ -168,8 +168,8 @@ fn width_of(cells: usize) -> usize {
 }
 
 impl Layout {
-    /// Where the boxes and lanes of a picture of so many tasks stand, by what each turn did to the fields, in time linear in the picture and
-    /// the log. An `Err` says that a growth was refused.
+    /// Where the boxes and lanes of a picture of so many tasks stand, by what each turn did to the fields, in time linear in the picture
+    /// and the log. An `Err` says that a growth was refused.
     pub fn of(
         alloc: Global,
         picture: &Picture,

@@ -2,12 +2,12 @@
 
 ghost use Rattle.std.specs.Prelude.{◌≤◌};
 
+use crate::picture::card::View;
 use crate::picture::layout::Layout;
 use crate::picture::picture_text::PictureText;
 use crate::picture::pieces::TextPiece;
 use crate::picture::text::{begin_text, end_text, write_text};
 use swift_events::Origin;
-use swift_script::Script;
 use swift_types::Ending;
 
 // How many tasks are told at most.
@@ -63,10 +63,18 @@ fn write_on_rows(out: &mut PictureText, y: usize) {
     end_text(out)
 }
 
-// The task of a number: its colour, where it comes from, and how it ended.
+// The name of a task that is no root.
+fn write_name(line: &mut PictureText, view: View<'_>, task: usize, origin: Origin) {
+    if let Origin::Root = origin {
+        return;
+    }
+    line.put(&[TextPiece::Name(view.name(task)), TextPiece::Text(", ")])
+}
+
+// The task of a number: its colour, what it is called, where it comes from, and how it ended.
 fn write_task(
     out: &mut PictureText,
-    script: &Script,
+    view: View<'_>,
     task: usize,
     ended: (Origin, Ending),
     at: (usize, usize),
@@ -87,7 +95,8 @@ fn write_task(
         TextPiece::Number(task),
         TextPiece::Text(" "),
     ]);
-    line.origin(script, task, ended.0);
+    write_name(line, view, task, ended.0);
+    line.origin(view.script, task, ended.0);
     line.say(b": ");
     line.ending(ended.1);
     let place = (at.0.saturating_add(22), at.1.saturating_add(10));
@@ -96,20 +105,19 @@ fn write_task(
 
 fn write_tasks(
     out: &mut PictureText,
-    script: &Script,
-    layout: &Layout,
+    view: View<'_>,
     endings: &[(Origin, Ending)],
     top: usize,
     line: &mut PictureText,
 ) {
-    let entries = entries(layout);
+    let entries = entries(view.layout);
     for (task, ended) in endings.iter().enumerate() {
         if task >= TOLD {
             return;
         }
         let x = (task % entries).saturating_mul(WIDE).saturating_add(16);
         let y = (task / entries).saturating_mul(ROW).saturating_add(top);
-        write_task(out, script, task, *ended, (x, y), line);
+        write_task(out, view, task, *ended, (x, y), line);
     }
 }
 
@@ -132,13 +140,13 @@ fn write_sample(out: &mut PictureText, class: &str, word: &str, x: usize, y: usi
 /// Which colour is which task, and which line stands for what.
 pub(crate) fn write_legend(
     out: &mut PictureText,
-    script: &Script,
-    layout: &Layout,
+    view: View<'_>,
     endings: &[(Origin, Ending)],
     line: &mut PictureText,
 ) {
+    let layout = view.layout;
     let top = layout.legend.saturating_add(ABOVE);
-    write_tasks(out, script, layout, endings, top, line);
+    write_tasks(out, view, endings, top, line);
     let y = top
         .saturating_add(tasks_height(layout, endings.len()))
         .saturating_add(18);

@@ -92,13 +92,24 @@ impl PictureText {
         }
     }
 
-    /// Goes on with at most `most` bytes of a text, the last two of which are dots where some are left out.
+    /// Goes on with these bytes as XML wants them.
+    pub(crate) fn escaped(&mut self, text: &[u8]) {
+        for byte in text {
+            match *byte {
+                b'<' => self.say(b"&lt;"),
+                b'&' => self.say(b"&amp;"),
+                other => self.say(&[other]),
+            }
+        }
+    }
+
+    /// Goes on with at most `most` bytes of a text, the last two of which are dots where some are left out, as XML wants them.
     pub(crate) fn fitting(&mut self, text: &[u8], most: usize) {
         if text.len() <= most {
-            return self.say(text);
+            return self.escaped(text);
         }
         let (head, _) = text.split_at(most.saturating_sub(2));
-        self.say(head);
+        self.escaped(head);
         self.say(b"..")
     }
 

@@ -67,8 +67,8 @@ fn row_at(row: usize, cells: usize, top: usize) -> Row {
     }
 }
 
-/// Puts rows of so many cells one below the other, the first one here, and in each row its lanes. One row has all lanes; of several each has those with a box
-/// in it. An `Err` says that a growth was refused.
+/// Puts rows of so many cells one below the other, the first one here, and in each row its lanes. One row has all lanes; of several each
+/// has those with a box in it. An `Err` says that a growth was refused.
 pub(crate) fn lay_rows(
     alloc: Global,
     lanes: &[Lane],

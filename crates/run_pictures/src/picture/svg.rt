@@ -2,7 +2,7 @@
 
 use crate::picture::boxes::TurnBox;
 use crate::picture::card::{View, write_card};
-use crate::picture::fields::write_changes;
+use crate::picture::fields::{write_broken, write_changes};
 use crate::picture::folds::write_folds;
 use crate::picture::layout::{LEFT, Lane, Layout, OVER, TALL, left_of};
 use crate::picture::legend::write_legend;
@@ -18,9 +18,11 @@ use crate::picture::text::{begin_text, end_text, write_text};
 use crate::picture::{Picture, word};
 use crate::{TurnValues, turn_values};
 use std::alloc::{AllocError, Global};
+use swift_events::Origin;
 use swift_report::Report;
 use swift_script::Script;
-use swift_types::{ExecId, ExecutorKind};
+use swift_types::{Ending, ExecId, ExecutorKind, TaskId};
+use task_names::task_name;
 
 // How many characters of 13 pixels find room before the lanes.
 const IN_GUTTER: usize = 18;
@@ -233,6 +235,7 @@ fn write_lines_below(
     let Some(values) = view.values.get(turn.executor) else {
         return;
     };
+    write_broken(out, view.broken_at(turn.executor, at));
     if let Some(done) = values.get(at) {
         write_changes(out, view.script, turn.executor, done, placed.is_undone);
     }
@@ -269,8 +272,12 @@ fn values_at(
     turn_values(alloc, script, checkpoint.fields(), journal)
 }
 
-// What the turns of each executor did to its fields.
-fn all_values(
+/// What the turns of each executor's journal did to its fields. Each turn is played once more.
+///
+/// # Errors
+///
+/// `AllocError` where no memory is left for it.
+pub fn played_turns(
     alloc: Global,
     script: &Script,
     report: &Report,
@@ -280,6 +287,22 @@ fn all_values(
         all.push(values_at(alloc, script, report, executor)?)?;
     }
     Ok(all)
+}
+
+// What each task is called.
+fn names_of(
+    alloc: Global,
+    script: &Script,
+    endings: &[(Origin, Ending)],
+) -> Result<Vec<Vec<u8>>, AllocError> {
+    let mut names = Vec::with_capacity(alloc, endings.len())?;
+    for place in 0..endings.len() {
+        let Ok(number) = u32::try_from(place) else {
+            return Err(AllocError);
+        };
+        names.push(task_name(alloc, script, endings, TaskId(number))?)?;
+    }
+    Ok(names)
 }
 
 fn write_boxes(out: &mut PictureText, view: View<'_>, scratch: &mut Scratch) {
@@ -306,24 +329,27 @@ fn write_svg(
     write_boxes(out, view, scratch);
     let folds = write_folds(alloc, out, view.picture, view.layout);
     out.need(folds);
-    write_legend(
-        out,
-        view.script,
-        view.layout,
-        &report.endings,
-        &mut scratch.line,
-    );
+    write_legend(out, view, &report.endings, &mut scratch.line);
     out.say(b"</svg>\n");
     out.need(scratch.below.whole());
     out.need(scratch.line.whole())
 }
 
+/// What the turns of a run's journals did, by executors, in order.
+#[derive(Clone, Copy)]
+pub struct PlayedTurns<'a> {
+    /// What each did to the fields, as `played_turns` gives it.
+    pub values: &'a [Vec<TurnValues>],
+    /// The invariant that each would have left false, as the printed form has it; empty where it is none.
+    pub broken: &'a [Vec<Vec<u8>>],
+}
+
 /// A picture of the run of a script as SVG (the form is our own): a lane for each executor, in it from left to right a box for each turn,
 /// and lines for what made what. `name` is the path of the script, of which the last part is shown. More than twelve turns stand in rows of
 /// twelve cells, below an overview, and four turns and more in a row that only give way are folded (`cells_of`, `gives_way`). Only the last
-/// 1,000 cells are shown, and of the turns before them the number. It stands alone: no script, and no font that has to be loaded. Each turn
-/// is played once more, for what it did to the fields; beside that it is linear in the picture and the log, and takes for each row the
-/// executors.
+/// 1,000 cells are shown, and of the turns before them the number. It stands alone: no script, and no font that has to be loaded. What
+/// stands below boxes is told by `played`. It is linear in the picture and the log, and takes for each row the executors, and what names of
+/// tasks cost (`task_name`).
 ///
 /// # Errors
 ///
@@ -333,17 +359,21 @@ pub fn svg_text(
     script: &Script,
     report: &Report,
     picture: &Picture,
+    played: PlayedTurns<'_>,
     name: &str,
     workers: u32,
 ) -> Result<Vec<u8>, AllocError> {
-    let values = all_values(alloc, script, report)?;
-    let layout = Layout::of(alloc, picture, &values, &report.log, report.endings.len())?;
+    let names = names_of(alloc, script, &report.endings)?;
+    let tasks = report.endings.len();
+    let layout = Layout::of(alloc, picture, played.values, &report.log, tasks)?;
     let view = View {
         script,
         log: &report.log,
         picture,
         layout: &layout,
-        values: &values,
+        names: &names,
+        values: played.values,
+        broken: played.broken,
     };
     let mut scratch = Scratch {
         below: PictureText::new(alloc),

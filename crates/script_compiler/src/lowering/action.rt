@@ -1,12 +1,11 @@
 //! Statements without a block. Each of these functions writes the instructions of its part after those that are there,
 //! and answers the number of the one that it begins with.
 
-ghost use Rattle.std.specs.Prelude.{◌≡◌, ◌≤◌, ◌+◌, true, ◌++◌, length, map, IfOk, OnOk};
+ghost use Rattle.std.specs.Prelude.{◌≡◌, ◌≤◌, ◌+◌, ◌++◌, length, map, IfOk, OnOk};
 ghost use Rattle.script_grammar.specs.Tree.{view_wait, view_value, view_make, view_action};
 ghost use Rattle.script_code.specs.Tree.{term_of, act, end};
 ghost use Rattle.script_code.specs.Layout.{meaning_of, entry, written};
 ghost use Rattle.script_compiler.specs.Lowered.{wait_to, set_at, value_to, make_to, action_code};
-ghost use Rattle.script_compiler.specs.Known.{wait_known, value_known, make_known, action_known};
 ghost use Rattle.script_compiler.specs.RoomInside.{greatest};
 
 use crate::lowering::call::{call, lower_awaited, lower_cancelled};
@@ -28,8 +27,7 @@ fn wait(
     wait: &Wait,
     next: u32,
 ) -> Result<u32, AllocError>
-    requires known { wait_known plan.now.directory scope.now (view_wait wait.now) ≡ true }
-    requires room { length instructions.old.items + 1 ≤ greatest }
+    requires { length instructions.old.items + 1 ≤ greatest }
     ensures lines { OnOk result (map meaning_of instructions.new.items ≡ map meaning_of instructions.old.items ++ written (wait_to plan.now scope.now place (view_wait wait.now)) (length instructions.old.items) next) }
     ensures start { IfOk result (λ n. n ≡ entry (wait_to plan.now scope.now place (view_wait wait.now)) (length instructions.old.items) next) }
 {
@@ -66,8 +64,7 @@ fn assignment(
     value: &Value,
     next: u32,
 ) -> Result<u32, AllocError>
-    requires known { value_known plan.now.directory scope.now (view_value value.now) ≡ true }
-    requires room { length instructions.old.items + 1 ≤ greatest }
+    requires { length instructions.old.items + 1 ≤ greatest }
     ensures lines { OnOk result (map meaning_of instructions.new.items ≡ map meaning_of instructions.old.items ++ written (value_to plan.now scope.now place (view_value value.now)) (length instructions.old.items) next) }
     ensures start { IfOk result (λ n. n ≡ entry (value_to plan.now scope.now place (view_value value.now)) (length instructions.old.items) next) }
 {
@@ -90,8 +87,7 @@ fn make(
     make: &Make,
     next: u32,
 ) -> Result<u32, AllocError>
-    requires known { make_known plan.now.directory scope.now (view_make make.now) ≡ true }
-    requires room { length instructions.old.items ≤ greatest }
+    requires { length instructions.old.items ≤ greatest }
     ensures lines { OnOk result (map meaning_of instructions.new.items ≡ map meaning_of instructions.old.items ++ written (act (make_to plan.now scope.now handle (view_make make.now)) end) (length instructions.old.items) next) }
     ensures start { IfOk result (λ n. n ≡ entry (act (make_to plan.now scope.now handle (view_make make.now)) end) (length instructions.old.items) next) }
 {
@@ -123,8 +119,7 @@ pub(crate) fn action(
     action: &Action,
     next: u32,
 ) -> Result<u32, AllocError>
-    requires known { action_known plan.now.directory scope.now (view_action action.now) ≡ true }
-    requires room { length instructions.old.items + 1 ≤ greatest }
+    requires { length instructions.old.items + 1 ≤ greatest }
     ensures lines { OnOk result (map meaning_of instructions.new.items ≡ map meaning_of instructions.old.items ++ written (action_code plan.now scope.now (view_action action.now)) (length instructions.old.items) next) }
     ensures start { IfOk result (λ n. n ≡ entry (action_code plan.now scope.now (view_action action.now)) (length instructions.old.items) next) }
 {

@@ -8,7 +8,7 @@ ghost use Rattle.script_names.specs.Scope.{ScopeView};
 ghost use Rattle.script_names.specs.Rules.{scope_after, scope_within};
 ghost use Rattle.script_code.specs.Layout.{meaning_of, entry, written};
 ghost use Rattle.script_compiler.specs.Lowered.{stmt_code, block_code};
-ghost use Rattle.script_compiler.specs.Known.{makes_new, opens_known, head_known, stmt_known, block_known};
+ghost use Rattle.script_compiler.specs.New.{makes_new, opens_new, stmt_new, block_new};
 ghost use Rattle.script_compiler.specs.RoomInside.{greatest};
 ghost use Rattle.script_compiler.specs.StandingInside.{scope_through};
 ghost use Rattle.script_compiler.specs.HeadsInside.{foot, HeadsAs, is_isolated};
@@ -16,7 +16,6 @@ ghost use Rattle.script_compiler.specs.HeadsInside.{foot, HeadsAs, is_isolated};
 use crate::lowering::action::action;
 use crate::lowering::expression::expression;
 use crate::lowering::instruction::{write, write_test};
-use crate::lowering::number::declared;
 use crate::lowering::plan::Plan;
 use crate::lowering::standing::StandingNames;
 use script_code::{Act, Instruction, link};
@@ -49,7 +48,7 @@ fn pass_back(scope: &mut StandingNames<'_>, stmt: &Stmt)
 
 // What stands in a block, by its head.
 fn enter(alloc: Global, scope: &mut StandingNames<'_>, head: &Head) -> Result<(), AllocError>
-    requires known { opens_known scope.old (view_head head.now) ≡ true }
+    requires new { opens_new scope.old (view_head head.now) ≡ true }
     requires room { length scope.old.kinds < greatest }
     ensures { OnOk result (scope.new ≡ scope_within scope.old (view_head head.now)) }
 {
@@ -58,8 +57,8 @@ fn enter(alloc: Global, scope: &mut StandingNames<'_>, head: &Head) -> Result<()
         Head::Bind(_, _) => scope.bind(),
         Head::Group(name) => scope.add(alloc, &name.text, NameKind::Group)?,
         Head::Assume(name) => {
-            let actor = declared(scope.declared().actor(&name.text));
-            scope.assume(actor as usize);
+            let actor = scope.declared().actor_or_len(&name.text);
+            scope.assume(actor);
         }
     }
     Ok(())
@@ -67,13 +66,12 @@ fn enter(alloc: Global, scope: &mut StandingNames<'_>, head: &Head) -> Result<()
 
 // Whether an `assume` names an actor of another executor, so that its block is not run.
 fn is_isolated(plan: &Plan, scope: &StandingNames<'_>, head: &Head) -> bool
-    requires { opens_known scope.now (view_head head.now) ≡ true }
     ensures { result ≡ is_isolated plan.now scope.now (view_head head.now) }
 {
     match head {
         Head::Assume(name) => {
-            let actor = declared(scope.declared().actor(&name.text));
-            plan.executor(actor as usize) != plan.executor(scope.actor())
+            let actor = scope.declared().actor_or_len(&name.text);
+            plan.executor(actor) != plan.executor(scope.actor())
         }
         Head::If(_) | Head::While(_) | Head::Bind(_, _) | Head::Group(_) => false,
     }
@@ -103,7 +101,6 @@ fn head_act(
     scope: &StandingNames<'_>,
     head: &Head,
 ) -> Result<Act, AllocError>
-    requires { head_known plan.now.directory (view_head head.now) ≡ true }
     ensures { IfOk result (λ a. HeadsAs a plan.now scope.now (view_head head.now)) }
 {
     match head {
@@ -127,7 +124,7 @@ fn statement(
     stmt: &Stmt,
     next: u32,
 ) -> Result<u32, AllocError>
-    requires known { stmt_known plan.now.directory scope.old (view_stmt stmt.now) ≡ true }
+    requires new { stmt_new scope.old (view_stmt stmt.now) ≡ true }
     requires room { length scope.old.kinds + (length instructions.old.items + 2 * stmt_size (view_stmt stmt.now)) ≤ greatest }
     ensures lines { OnOk result (map meaning_of instructions.new.items ≡ map meaning_of instructions.old.items ++ written (stmt_code plan.now scope.old (view_stmt stmt.now)) (length instructions.old.items) next) }
     ensures start { IfOk result (λ n. n ≡ entry (stmt_code plan.now scope.old (view_stmt stmt.now)) (length instructions.old.items) next) }
@@ -176,7 +173,7 @@ pub(crate) fn block(
     block: &[Stmt],
     next: u32,
 ) -> Result<u32, AllocError>
-    requires known { block_known plan.now.directory scope.old (block_tree (map view_stmt block.now)) ≡ true }
+    requires new { block_new scope.old (block_tree (map view_stmt block.now)) ≡ true }
     requires room { length scope.old.kinds + (length instructions.old.items + 2 * block_size (block_tree (map view_stmt block.now))) ≤ greatest }
     ensures lines { OnOk result (map meaning_of instructions.new.items ≡ map meaning_of instructions.old.items ++ written (block_code plan.now scope.old (block_tree (map view_stmt block.now))) (length instructions.old.items) next) }
     ensures start { IfOk result (λ n. n ≡ entry (block_code plan.now scope.old (block_tree (map view_stmt block.now))) (length instructions.old.items) next) }

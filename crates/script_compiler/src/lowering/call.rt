@@ -1,15 +1,13 @@
 //! Calls, and what is waited for.
 
-ghost use Rattle.std.specs.Prelude.{◌≡◌, true, IfOk};
+ghost use Rattle.std.specs.Prelude.{◌≡◌, IfOk};
 ghost use Rattle.script_grammar.specs.Tree.{view_call, view_awaited};
-ghost use Rattle.script_names.specs.Texts.{is_among, place_of};
+ghost use Rattle.script_names.specs.Texts.{place_of};
 ghost use Rattle.script_names.specs.Scope.{meaning_of};
 ghost use Rattle.script_code.specs.Tree.{target_of as target_said, wanted_of as wanted_said};
 ghost use Rattle.script_compiler.specs.Lowered.{target_of, task_named, wanted_of, cancelled_named};
-ghost use Rattle.script_compiler.specs.Known.{call_known, task_known, awaited_known, cancelled_known};
 
 use crate::lowering::expression::expressions;
-use crate::lowering::number::declared;
 use crate::lowering::plan::Plan;
 use crate::lowering::standing::StandingNames;
 use script_code::Cancelled;
@@ -25,28 +23,27 @@ pub(crate) fn call(
     scope: &StandingNames<'_>,
     call: &Call,
 ) -> Result<script_code::CompiledCall, AllocError>
-    requires { call_known plan.now.directory scope.now (view_call call.now) ≡ true }
     ensures { IfOk result (λ c. target_said c ≡ target_of plan.now scope.now (view_call call.now)) }
 {
-    let (actor, method) = (&call.actor.text, &call.method.text);
     let script = scope.declared();
+    let actor = script.actor_or_len(&call.actor.text);
+    let method = script.method_or_len(alloc, &call.actor.text, &call.method.text)?;
+    let args = expressions(alloc, plan, scope, &call.args)?;
     Ok(script_code::CompiledCall {
-        actor: ActorId(declared(script.actor(actor))),
-        method: MethodId(declared(script.method(alloc, actor, method)?)),
-        args: expressions(alloc, plan, scope, &call.args)?,
+        actor: ActorId(actor as u32),
+        method: MethodId(method as u32),
+        args,
     })
 }
 
 fn root(scope: &StandingNames<'_>, name: &[u8]) -> RootId
-    requires { is_among scope.now.directory.roots name.now ≡ true }
     ensures { result.0 ≡ place_of scope.now.directory.roots name.now }
 {
-    RootId(declared(scope.declared().root(name)))
+    RootId(scope.declared().root_or_len(name) as u32)
 }
 
 // A name after `task` is the task variable of that name, or else the root.
 fn task(scope: &StandingNames<'_>, name: &[u8]) -> script_code::CompiledAwait
-    requires { task_known scope.now name.now (meaning_of scope.now name.now) ≡ true }
     ensures { wanted_said result ≡ task_named scope.now name.now (meaning_of scope.now name.now) }
 {
     match scope.meaning(name) {
@@ -62,7 +59,6 @@ pub(crate) fn lower_awaited(
     scope: &StandingNames<'_>,
     awaited: &Awaited,
 ) -> Result<script_code::CompiledAwait, AllocError>
-    requires { awaited_known plan.now.directory scope.now (view_awaited awaited.now) ≡ true }
     ensures { IfOk result (λ w. wanted_said w ≡ wanted_of plan.now scope.now (view_awaited awaited.now)) }
 {
     match awaited {
@@ -76,7 +72,6 @@ pub(crate) fn lower_awaited(
 
 /// A name after `cancel` is the task variable or the group of that name, or else the root.
 pub(crate) fn lower_cancelled(scope: &StandingNames<'_>, name: &[u8]) -> Cancelled
-    requires { cancelled_known scope.now name.now (meaning_of scope.now name.now) ≡ true }
     ensures { result ≡ cancelled_named scope.now name.now (meaning_of scope.now name.now) }
 {
     match scope.meaning(name) {

@@ -1,11 +1,10 @@
 //! Expressions, with places for their names.
 
-ghost use Rattle.std.specs.Prelude.{◌≡◌, true, map, IfOk};
+ghost use Rattle.std.specs.Prelude.{◌≡◌, map, IfOk};
 ghost use Rattle.script_grammar.specs.Tree.{Named, view, view_if};
-ghost use Rattle.script_names.specs.Texts.{is_among, place_of};
+ghost use Rattle.script_names.specs.Texts.{place_of};
 ghost use Rattle.script_code.specs.Tree.{local as local_term, term_of, terms_of, term_if};
 ghost use Rattle.script_compiler.specs.Lowered.{default_of, place_named, lowered, lowered_if};
-ghost use Rattle.script_compiler.specs.Known.{expression_known, expressions_known, optional_known};
 
 use crate::lowering::plan::Plan;
 use crate::lowering::standing::StandingNames;
@@ -38,9 +37,8 @@ fn lower_name(plan: &Plan, scope: &StandingNames<'_>, name: &[u8]) -> Formula
     }
 }
 
-// What is read of a task local that is declared.
+// What is read of a task local.
 fn local(plan: &Plan, name: &[u8]) -> Formula
-    requires { is_among plan.now.directory.locals name.now ≡ true }
     ensures { term_of result ≡ local_term (place_of plan.now.directory.locals name.now) (default_of plan.now name.now) }
 {
     let (local, default) = plan.local(name);
@@ -54,7 +52,6 @@ pub(crate) fn expression(
     scope: &StandingNames<'_>,
     expr: &Expr,
 ) -> Result<Formula, AllocError>
-    requires { expression_known plan.now.directory (view expr.now) ≡ true }
     ensures { IfOk result (λ f. term_of f ≡ lowered plan.now scope.now (view expr.now)) }
 {
     match expr {
@@ -86,7 +83,6 @@ pub(crate) fn expressions(
     scope: &StandingNames<'_>,
     exprs: &[Expr],
 ) -> Result<Vec<Formula>, AllocError>
-    requires { expressions_known plan.now.directory (map view exprs.now) ≡ true }
     ensures { IfOk result (λ v. terms_of v.items ≡ map (lowered plan.now scope.now) (map view exprs.now)) }
 {
     let mut formulas = Vec::with_capacity(alloc, exprs.len())?;
@@ -103,7 +99,6 @@ pub(crate) fn expression_if(
     scope: &StandingNames<'_>,
     expr: &Option<Expr>,
 ) -> Result<Option<Formula>, AllocError>
-    requires { optional_known plan.now.directory (view_if expr.now) ≡ true }
     ensures { IfOk result (λ f. term_if f ≡ lowered_if plan.now scope.now (view_if expr.now)) }
 {
     match expr {

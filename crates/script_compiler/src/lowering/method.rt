@@ -11,7 +11,7 @@ ghost use Rattle.script_code.specs.Instructions.{FollowsCode};
 ghost use Rattle.script_code.specs.Layout.{code_at};
 ghost use Rattle.script_compiler.specs.Counts.{counts_of, most_of};
 ghost use Rattle.script_compiler.specs.Lowered.{lowered, block_code};
-ghost use Rattle.script_compiler.specs.Known.{expression_known, block_known, parameters_new};
+ghost use Rattle.script_compiler.specs.New.{block_new, parameters_new};
 ghost use Rattle.script_compiler.specs.RoomInside.{greatest};
 
 use crate::lowering::block::block;
@@ -48,9 +48,9 @@ pub fn lower(
     params: &[Name],
     body: &[Stmt],
 ) -> Result<Lowered, AllocError>
-    // Its parameters are new, and all that its body names is known, as it is where names are in order.
+    // Its parameters are new, and so is all that its body makes, as it is where names are in order.
     requires parameters { parameters_new (fields_alone plan.now.directory actor) (map text_of params.now) ≡ true }
-    requires body { block_known plan.now.directory (with_parameters (fields_alone plan.now.directory actor) (map text_of params.now)) (block_tree (map view_stmt body.now)) ≡ true }
+    requires body { block_new (with_parameters (fields_alone plan.now.directory actor) (map text_of params.now)) (block_tree (map view_stmt body.now)) ≡ true }
     // It is no larger than a script may be, so its places and instructions have numbers of 32 bits.
     requires size { length params.now + block_size (block_tree (map view_stmt body.now)) ≤ BYTES }
     // To follow the instructions from instruction 0 on is to do the statements.
@@ -73,8 +73,6 @@ pub fn lower(
 
 /// An expression over the fields of the actor at a place alone: an invariant. `Err` is as that of `lower`.
 pub fn formula(alloc: Global, plan: &Plan, actor: usize, expr: &Expr) -> Result<Formula, AllocError>
-    // Each task local that it reads is declared.
-    requires { expression_known plan.now.directory (view expr.now) ≡ true }
     ensures { IfOk result (λ f. term_of f ≡ lowered plan.now (fields_alone plan.now.directory actor) (view expr.now)) }
 {
     let scope = StandingNames::fields_alone(alloc, plan.declared(), actor);
@@ -104,7 +102,7 @@ fn instructions(
     scope: &mut StandingNames<'_>,
     body: &[Stmt],
 ) -> Result<Vec<Instruction>, AllocError>
-    requires known { block_known plan.now.directory scope.old (block_tree (map view_stmt body.now)) ≡ true }
+    requires new { block_new scope.old (block_tree (map view_stmt body.now)) ≡ true }
     requires room { length scope.old.kinds + 2 * block_size (block_tree (map view_stmt body.now)) < greatest }
     ensures { let code = block_code plan.now scope.old (block_tree (map view_stmt body.now)) in
         IfOk result (λ v. FollowsCode v.items code (code_at code)) }

@@ -1,19 +1,15 @@
 //! What lowering knows of a whole script.
 
-ghost use Rattle.std.specs.Prelude.{◌≡◌, ◌==◌, ◌+◌, ◌<◌, ◌≤◌, ℕ, pos, true, None, ◌∷◌, ◌++◌, [], Some, length, map, option_copied, slice_get, unwrap_or, count_by, List, IfOk};
-ghost use Rattle.swift_types.specs.declared.limits.TheConstants.{ACTORS, BYTES, EXECUTORS};
-ghost use Rattle.script_grammar.specs.Tree.{text_if, view_decl};
-ghost use Rattle.script_grammar.specs.Size.{script_size};
-ghost use Rattle.script_names.specs.Texts.{is_among, place_of};
-ghost use Rattle.script_names.specs.Directory.{directory_of, executors_in, actors_in};
-ghost use Rattle.script_names.specs.Rules.{names_error};
+ghost use Rattle.std.specs.Prelude.{◌≡◌, ◌==◌, ◌+◌, ◌<◌, ◌≤◌, ℕ, ◌∷◌, length, map, slice_get, unwrap_or, count_by, List, IfOk};
+ghost use Rattle.swift_types.specs.declared.limits.TheConstants.{ACTORS, EXECUTORS};
+ghost use Rattle.script_grammar.specs.Tree.{text_if, view_local, view_actor};
+ghost use Rattle.script_names.specs.Texts.{place_of};
 ghost use Rattle.script_compiler.specs.Few.{HasFewNames};
-ghost use Rattle.script_compiler.specs.Plan.{AreActorPlaces, defaults_in, on_executor, executors_from, plan_of, executor_at, actor_place_in, actor_place_of};
-ghost use Rattle.script_compiler.specs.PlanInside.{has_executor, have_executors};
+ghost use Rattle.script_compiler.specs.Plan.{AreActorPlaces, on_executor, executor_at, actor_place_in, actor_place_of};
+ghost use Rattle.script_compiler.specs.PlanInside.{executors_on, plan_from};
 ghost use Rattle.script_compiler.specs.Lowered.{default_of};
 
-use crate::lowering::number::declared;
-use script_grammar::{Decl, Name};
+use script_grammar::{Actor, Local, Name};
 use script_names::Declared;
 use std::alloc::{AllocError, Global};
 use std::marker::Model;
@@ -57,16 +53,21 @@ impl Model for Plan {
 impl Plan {
     /// The plan of a script, from what it declares. Linear in the declarations, and for these places in the pairs of actors,
     /// of which there are 64 at most. `Err` says that there was no memory.
-    pub fn of(alloc: Global, declared: Declared, decls: &[Decl]) -> Result<Plan, AllocError>
-        // These are the declarations of the same script.
-        requires declared { declared ≡ directory_of (map view_decl decls.now) }
-        // Their names are in order, so there are few of them, and each executor that is named is declared.
-        requires names { names_error (map view_decl decls.now) ≡ None }
-        // They are no larger than a script may be, so all that they declare has numbers of 32 bits.
-        requires size { script_size (map view_decl decls.now) ≤ BYTES }
-        ensures { IfOk result (λ p. p ≡ plan_of (map view_decl decls.now)) }
+    pub(crate) fn of(
+        alloc: Global,
+        declared: Declared,
+        locals: &[Local],
+        actors: &[Actor],
+    ) -> Result<Plan, AllocError>
+        // All that they declare has numbers of 32 bits.
+        requires names { HasFewNames declared }
+        requires executors { length declared.executors ≤ EXECUTORS }
+        requires actors { length actors.now ≤ ACTORS }
+        ensures { IfOk result (λ p. p ≡ plan_from declared (map view_local locals.now) (map view_actor actors.now)) }
     {
-        let (defaults, executors, actor_places) = places(alloc, &declared, decls)?;
+        let defaults = defaults(alloc, locals)?;
+        let executors = executors(alloc, &declared, actors)?;
+        let actor_places = actor_places(alloc, &executors)?;
         Ok(Plan {
             declared,
             defaults,
@@ -101,95 +102,47 @@ impl Plan {
         }
     }
 
-    /// A task local that is declared, and its default.
+    /// A task local, and its default.
     #[tactic(auto, unfolding(crate::specs::Lowered::default_of))]
     pub(crate) fn local(&self, name: &[u8]) -> (LocalId, i64)
-        requires { is_among self.now.directory.locals name.now ≡ true }
         ensures number { result.0.0 ≡ place_of self.now.directory.locals name.now }
         ensures default { result.1 ≡ default_of self.now name.now }
     {
-        let place = declared(self.declared.local(name));
-        let default = self.defaults.get(place as usize).copied().unwrap_or(0);
-        (LocalId(place), default)
+        let place = self.declared.local_or_len(name);
+        let default = self.defaults.get(place).copied().unwrap_or(0);
+        (LocalId(place as u32), default)
     }
 }
 
-// The defaults of the task locals, and of each actor its executor and its place there.
-fn places(
-    alloc: Global,
-    declared: &Declared,
-    decls: &[Decl],
-) -> Result<(Vec<i64>, Vec<u32>, Vec<u32>), AllocError>
-    requires declared { declared.now ≡ directory_of (map view_decl decls.now) }
-    requires names { names_error (map view_decl decls.now) ≡ None }
-    requires size { script_size (map view_decl decls.now) ≤ BYTES }
-    ensures names { IfOk result (λ p. HasFewNames declared.now) }
-    ensures defaults { IfOk result (λ p. p.0.items ≡ defaults_in (map view_decl decls.now)) }
-    ensures executors { IfOk result (λ p. p.1.items ≡ (plan_of (map view_decl decls.now)).executors) }
-    ensures few { IfOk result (λ p. length p.1.items ≤ ACTORS) }
-    ensures actor_places { IfOk result (λ p. AreActorPlaces p.1.items p.2.items) }
-{
-    let defaults = defaults(alloc, decls)?;
-    let executors = executors(alloc, declared, decls)?;
-    let actor_places = actor_places(alloc, &executors)?;
-    Ok((defaults, executors, actor_places))
-}
-
-fn defaults(alloc: Global, decls: &[Decl]) -> Result<Vec<i64>, AllocError>
-    ensures { IfOk result (λ v. v.items ≡ defaults_in (map view_decl decls.now)) }
+fn defaults(alloc: Global, locals: &[Local]) -> Result<Vec<i64>, AllocError>
+    ensures { IfOk result (λ v. v.items ≡ map (λ l. l.default) (map view_local locals.now)) }
 {
     let mut defaults = Vec::new(alloc);
-    for decl in decls {
-        match decl {
-            Decl::Local(local) => defaults.push(local.default)?,
-            Decl::Executor(_) | Decl::Actor(_) | Decl::Root(_) => {}
-        }
+    for local in locals {
+        defaults.push(local.default)?;
     }
     Ok(defaults)
 }
 
-// How many executors are declared.
-fn executor_count(decls: &[Decl]) -> u32
-    requires { length (executors_in (map view_decl decls.now)) ≤ EXECUTORS }
-    ensures { result ≡ length (executors_in (map view_decl decls.now)) }
-{
-    let mut count = 0;
-    for decl in decls {
-        match decl {
-            Decl::Executor(_) => count += 1,
-            Decl::Local(_) | Decl::Actor(_) | Decl::Root(_) => {}
-        }
-    }
-    count
-}
-
 // The executor of each actor. Those without one have their own, after the declared ones.
-fn executors(alloc: Global, declared: &Declared, decls: &[Decl]) -> Result<Vec<u32>, AllocError>
-    requires declared { declared.now.executors ≡ executors_in (map view_decl decls.now) }
-    requires have { have_executors declared.now.executors (map view_decl decls.now) ≡ true }
-    requires executors { length (executors_in (map view_decl decls.now)) ≤ EXECUTORS }
-    requires actors { length (actors_in (map view_decl decls.now)) ≤ ACTORS }
-    ensures executors { IfOk result (λ v. v.items ≡ executors_from declared.now.executors (length declared.now.executors) (map view_decl decls.now)) }
-    ensures as_many { IfOk result (λ v. length v.items ≡ length (actors_in (map view_decl decls.now))) }
+fn executors(alloc: Global, declared: &Declared, actors: &[Actor]) -> Result<Vec<u32>, AllocError>
+    requires executors { length declared.now.executors ≤ EXECUTORS }
+    requires actors { length actors.now ≤ ACTORS }
+    ensures executors { IfOk result (λ v. v.items ≡ executors_on declared.now.executors (length declared.now.executors) (map view_actor actors.now)) }
+    ensures as_many { IfOk result (λ v. length v.items ≡ length actors.now) }
 {
     let mut executors = Vec::new(alloc);
-    let mut own = executor_count(decls);
-    for decl in decls {
-        match decl {
-            Decl::Actor(actor) => {
-                let (executor, next) = executor_on(declared, own, &actor.executor);
-                executors.push(executor)?;
-                own = next;
-            }
-            Decl::Executor(_) | Decl::Local(_) | Decl::Root(_) => {}
-        }
+    let mut own = declared.executor_count() as u32;
+    for actor in actors {
+        let (executor, next) = executor_on(declared, own, &actor.executor);
+        executors.push(executor)?;
+        own = next;
     }
     Ok(executors)
 }
 
 // An actor's executor, and the number that the next actor's own executor has.
 fn executor_on(declared: &Declared, own: u32, on: &Option<Name>) -> (u32, u32)
-    requires has { has_executor declared.now.executors (text_if on.now) ≡ true }
     requires executors { length declared.now.executors ≤ EXECUTORS }
     requires own { own < EXECUTORS + ACTORS }
     ensures executor { (others : ℕ → List ℕ) → on_executor declared.now.executors own (text_if on.now) others ≡ result.0 ∷ others result.1 }
@@ -197,10 +150,7 @@ fn executor_on(declared: &Declared, own: u32, on: &Option<Name>) -> (u32, u32)
 {
     match on {
         None => (own, own + 1),
-        Some(name) => match declared.executor(&name.text) {
-            Some(place) => (place as u32, own),
-            None => unreachable!(),
-        },
+        Some(name) => (declared.executor_or_len(&name.text) as u32, own),
     }
 }
 

@@ -4,7 +4,8 @@ use Rattle.script_code.specs.Seen.{rows_of}
 use Rattle.swift_journal.specs.Records.{RecordView, owned_view}
 use Rattle.swift_report.specs.Text.{turn_text}
 use Rattle.nuchapay_runs.specs.LinesInside.{line_in}
-use Rattle.nuchapay_runs.specs.Noted.{notes_text}
+use Rattle.nuchapay_runs.specs.Noted.{first_lines, notes_text}
+use Rattle.nuchapay_runs.specs.Notes.{note_lines}
 use Rattle.run_pictures.specs.Values.{ValuesView, turn_values, values_view}
 use Rattle.run_pictures.specs.declared.picture.boxes.TurnBox.{TurnBox}
 use Rattle.nuchapay_runs.proofs.Joined.{both, same}
@@ -19,9 +20,10 @@ returns-clause-noted c = λ d.
     let found = owned_view c.in_ok-found.found in
     let v = values_view c.in_ok-values.values in
     let line = ap (λ (b : TurnBox). turn_text p c.args.line (line_in b)) (c.box_at-turn.ensures d) in
+    let first = ap (λ (b : TurnBox). note_lines (first_lines p c.args.endings.now b.task.0 b.number)) (c.box_at-turn.ensures d) in
     let notes =
     ap (λ (rows : List (Vec ℤ)). notes_text p e (rows_of rows) v) c.deref.ensures.value
     ∙ ap₂ (λ (f : List (List ℤ)) (w : ValuesView). notes_text p e f w) c.in_ok-values.ensures.fields c.in_ok-values.ensures.values
     ∙ notes_after p e before found
     ∙ ap (λ (x : RecordView). notes_text p e before (turn_values p before x)) (c.in_ok-found.ensures d) in
-    both (same line c.write_turn.ensures) (same notes c.write_notes.ensures)
+    both (both (same line c.write_turn.ensures) (same first c.write_first.ensures)) (same notes c.write_notes.ensures)

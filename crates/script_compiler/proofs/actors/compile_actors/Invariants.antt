@@ -1,13 +1,8 @@
-use Rattle.std.proofs.Common.{◌≡◌, ◌++◌, true, map, drop, length}
-use Rattle.script_grammar.specs.Tree.{view_decl}
-use Rattle.script_printing.specs.Script.{script_in}
+use Rattle.std.proofs.Common.{◌≡◌, ◌++◌, map, drop, length}
+use Rattle.script_grammar.specs.Tree.{view_actor}
 use Rattle.script_compiler.specs.Compiled.{actors_from}
 use Rattle.script_compiler.specs.IsCompiled.{actor_view}
-use Rattle.script_compiler.specs.NamesInside.{invariants_known}
 use Rattle.script_compiler.proofs.actors.compile_actors.Given as goal
 
-abbrev pub invariant-loop-decl : goal.invariant-loop-decl
-invariant-loop-decl l = record {
-  are : map actor_view l.actors.items ++ actors_from l.plan (length l.actors.items) (script_in (map view_decl (drop l.decl-index l.decls))).actors ≡ actors_from l.plan 0 (script_in (map view_decl l.decls)).actors;
-  known : invariants_known l.plan.directory (map view_decl (drop l.decl-index l.decls)) ≡ true;
-}
+abbrev pub invariant-loop-actor : goal.invariant-loop-actor
+invariant-loop-actor l = map actor_view l.compiled.items ++ actors_from l.plan (length l.compiled.items) (map view_actor (drop l.actor-index l.actors)) ≡ actors_from l.plan 0 (map view_actor l.actors)

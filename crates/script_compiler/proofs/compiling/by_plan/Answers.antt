@@ -1,51 +1,38 @@
-use Rattle.std.proofs.Common.{◌++◌, ◌∙◌, map, length, ap, arith}
+use Rattle.std.proofs.Common.{◌++◌, map, length, ap, arith}
 use Rattle.std.proofs.lemmas.List.{length-map}
-use Rattle.script_grammar.specs.Tree.{view_decl}
-use Rattle.script_printing.specs.Script.{script_in}
-use Rattle.script_compiler.specs.Plan.{PlanView}
+use Rattle.script_grammar.specs.Tree.{view_executor, view_actor}
+use Rattle.script_compiler.specs.Checked.{tree_from}
 use Rattle.script_compiler.specs.Compiled.{own_executors}
 use Rattle.script_compiler.specs.IsCompiled.{actor_view}
-use Rattle.script_compiler.specs.RootsInside.{have_root_methods}
-use Rattle.script_compiler.specs.NamesInside.{all_methods_known, invariants_known}
-use Rattle.script_compiler.proofs.InOrder.{few_actors, roots_have_methods, names_are_known}
+use Rattle.script_compiler.proofs.InOrder.{few_here, new_here}
+use Rattle.script_compiler.proofs.Small.{small_here}
 use Rattle.script_compiler.proofs.ExecutorsMade.{as_many, by_actors, same_invariants}
 use Rattle.script_compiler.proofs.compiling.by_plan.Goals as goal
 
 pub returns : goal.returns
 returns c =
+    let actors = map view_actor c.args.actors.now in
     record {
-      executors = by_actors c.args.plan.now c.deref.result.now c.in_ok-actors.actors.items (script_in (map view_decl c.args.decls.now)).actors ((script_in (map view_decl c.args.decls.now)).executors ++ own_executors (script_in (map view_decl c.args.decls.now)).actors) _ c.deref.ensures.value c.in_ok-actors.ensures c.in_ok-executors.ensures.view;
-      invariants = same_invariants c.in_ok-executors.executors.items c.deref.result.now c.in_ok-actors.actors.items _ c.deref.ensures.value c.in_ok-actors.ensures c.in_ok-executors.ensures.invariants;
-      locals = c.in_ok-locals.ensures;
-      actors = c.in_ok-actors.ensures;
+      executors = by_actors c.args.plan.now c.deref.result.now c.in_ok-compiled.compiled.items actors (map view_executor c.args.executors.now ++ own_executors actors) _ c.deref.ensures.value c.in_ok-compiled.ensures c.in_ok-serial.ensures.view;
+      invariants = same_invariants c.in_ok-serial.serial.items c.deref.result.now c.in_ok-compiled.compiled.items _ c.deref.ensures.value c.in_ok-compiled.ensures c.in_ok-serial.ensures.invariants;
+      locals = c.in_ok-values.ensures;
+      actors = c.in_ok-compiled.ensures;
       methods = c.in_ok-methods.ensures;
-      roots = c.in_ok-roots.ensures;
+      roots = c.in_ok-tasks.ensures;
     }
 
 pub compile_executors-requires : goal.compile_executors-requires
 compile_executors-requires c =
-    let decls = map view_decl c.args.decls.now in
-    let few = few_actors decls c.requires.names in
-    let made = ap length c.in_ok-actors.ensures in
-    omega (arith, few, made, length-map c.in_ok-actors.actors.items actor_view, as_many c.args.plan.now 0 (script_in decls).actors, ap length c.deref.ensures.value)
+    let few = few_here (tree_from c.args.executors.now c.args.locals.now c.args.actors.now c.args.roots.now) c.args.plan.now.directory c.requires in
+    let made = ap length c.in_ok-compiled.ensures in
+    omega (arith, few, made, length-map c.in_ok-compiled.compiled.items actor_view, as_many c.args.plan.now 0 (map view_actor c.args.actors.now), ap length c.deref.ensures.value)
 
 pub compile_methods-requires : goal.compile_methods-requires
 compile_methods-requires c =
-    let decls = map view_decl c.args.decls.now in
+    let tree = tree_from c.args.executors.now c.args.locals.now c.args.actors.now c.args.roots.now in
+    let few = few_here tree c.args.plan.now.directory c.requires in
     record {
-      few = few_actors decls c.requires.names;
-      size = c.requires.size;
-      known = ap (λ (p : PlanView). all_methods_known p.directory 0 decls) c.requires.plan ∙ (names_are_known decls c.requires.names).1;
+      few = omega (arith, few, length-map c.args.actors.now view_actor);
+      size = small_here tree c.args.plan.now.directory c.requires;
+      new = new_here tree c.args.plan.now.directory c.requires;
     }
-
-pub compile_actors-requires : goal.compile_actors-requires
-compile_actors-requires c =
-    let decls = map view_decl c.args.decls.now in
-    ap (λ (p : PlanView). invariants_known p.directory decls) c.requires.plan
-    ∙ (names_are_known decls c.requires.names).0
-
-pub compile_roots-requires : goal.compile_roots-requires
-compile_roots-requires c =
-    let decls = map view_decl c.args.decls.now in
-    ap (λ (p : PlanView). have_root_methods p.directory (script_in decls).roots) c.requires.plan
-    ∙ roots_have_methods decls c.requires.names

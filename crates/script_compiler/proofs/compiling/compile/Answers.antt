@@ -1,14 +1,33 @@
-use Rattle.std.proofs.Common.{map, subst, ◌∙◌}
+use Rattle.std.proofs.Common.{ap, subst, sym, ◌∙◌, length, arith}
 use Rattle.std.specs.Prelude.{IfOk}
-use Rattle.script_grammar.specs.Tree.{view_decl}
+use Rattle.std.proofs.lemmas.List.{length-map}
+use Rattle.script_grammar.specs.Tree.{view_actor}
+use Rattle.script_names.specs.Directory.{DirectoryView}
 use Rattle.script_compiler.specs.Plan.{PlanView}
-use Rattle.script_printing.specs.Script.{script_in}
+use Rattle.script_compiler.specs.Checked.{tree_from, IsChecked}
 use Rattle.script_compiler.specs.Compiled.{compiled_by}
 use Rattle.script_compiler.specs.IsCompiled.{IsCompiled}
-use Rattle.script_compiler.proofs.ByKinds.{same_plan}
+use Rattle.script_compiler.proofs.ByKinds.{plan_made}
+use Rattle.script_compiler.proofs.InOrder.{few_here, few_declared}
+use Rattle.script_compiler.proofs.Room.{few_names}
 use Rattle.script_compiler.proofs.compiling.compile.Goals as goal
+
+pub of-requires : goal.of-requires
+of-requires c =
+    let tree = tree_from c.args.executors.now c.args.locals.now c.args.actors.now c.args.roots.now in
+    let few = few_here tree c.args.declared c.requires in
+    record {
+      names = few_names c.args.declared c.requires.decls c.requires.declared c.requires.names c.requires.size;
+      executors = few_declared tree c.args.declared c.requires;
+      actors = omega (arith, few, length-map c.args.actors.now view_actor);
+    }
+
+pub by_plan-requires : goal.by_plan-requires
+by_plan-requires c =
+    let tree = tree_from c.args.executors.now c.args.locals.now c.args.actors.now c.args.roots.now in
+    subst (IsChecked tree) (sym (ap (λ (p : PlanView). p.directory) c.in_ok-plan.ensures)) c.requires
 
 pub returns : goal.returns
 returns c =
-    let decls = map view_decl c.args.decls.now in
-    subst (λ (p : PlanView). IfOk c.by_plan.result (λ m. IsCompiled m (compiled_by p (script_in decls)))) (c.in_ok-plan.ensures ∙ same_plan decls) c.by_plan.ensures
+    let tree = tree_from c.args.executors.now c.args.locals.now c.args.actors.now c.args.roots.now in
+    subst (λ (p : PlanView). IfOk c.by_plan.result (λ m. IsCompiled m (compiled_by p tree))) (c.in_ok-plan.ensures ∙ plan_made tree c.args.declared c.requires) c.by_plan.ensures

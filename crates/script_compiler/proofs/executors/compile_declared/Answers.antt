@@ -1,14 +1,13 @@
 use Rattle.std.proofs.Common.{◌++◌, ◌∙◌, List, map, sym, length}
 use Rattle.std.proofs.lemmas.List.{append-nil, at_drop_all}
-use Rattle.script_grammar.specs.declared.declaration.Decl.{Decl}
-use Rattle.script_grammar.specs.Tree.{view_decl}
-use Rattle.script_printing.specs.Script.{script_in}
+use Rattle.script_grammar.specs.declared.declaration.Executor.{Executor}
+use Rattle.script_grammar.specs.Tree.{view_executor}
 use Rattle.script_compiler.specs.IsCompiled.{executor_view}
 use Rattle.script_compiler.specs.MembersInside.{executors_by}
 use Rattle.script_compiler.proofs.executors.compile_declared.Goals as goal
 
 pub returns-clause-view : goal.returns-clause-view
 returns-clause-view c =
-    sym (append-nil (map executor_view c.loop-decl.all.items))
-    ∙ sym (at_drop_all (λ (ds : List Decl). map executor_view c.loop-decl.all.items ++ executors_by c.args.plan.now (length c.args.actors.now) (length c.loop-decl.all.items) (script_in (map view_decl ds)).executors) c.args.decls.now c.loop-decl.decl-index c.loop-decl-test.false)
-    ∙ c.loop-decl.invariant.view
+    sym (append-nil (map executor_view c.loop-executor.all.items))
+    ∙ sym (at_drop_all (λ (xs : List Executor). map executor_view c.loop-executor.all.items ++ executors_by c.args.plan.now (length c.args.actors.now) (length c.loop-executor.all.items) (map view_executor xs)) c.args.executors.now c.loop-executor.executor-index c.loop-executor-test.false)
+    ∙ c.loop-executor.invariant.view

@@ -1,13 +1,12 @@
 use Rattle.std.proofs.Common.{◌≡◌, ◌++◌, map, drop, length}
 use Rattle.std.specs.Prelude.{All}
-use Rattle.script_grammar.specs.Tree.{view_decl}
-use Rattle.script_printing.specs.Script.{script_in}
+use Rattle.script_grammar.specs.Tree.{view_executor}
 use Rattle.script_compiler.specs.IsCompiled.{actor_view, executor_view, HasInvariants}
 use Rattle.script_compiler.specs.MembersInside.{executors_by}
 use Rattle.script_compiler.proofs.executors.compile_declared.Given as goal
 
-abbrev pub invariant-loop-decl : goal.invariant-loop-decl
-invariant-loop-decl l = record {
-  view : map executor_view l.all.items ++ executors_by l.plan (length l.actors) (length l.all.items) (script_in (map view_decl (drop l.decl-index l.decls))).executors ≡ executors_by l.plan (length l.actors) 0 (script_in (map view_decl l.decls)).executors;
+abbrev pub invariant-loop-executor : goal.invariant-loop-executor
+invariant-loop-executor l = record {
+  view : map executor_view l.all.items ++ executors_by l.plan (length l.actors) (length l.all.items) (map view_executor (drop l.executor-index l.executors)) ≡ executors_by l.plan (length l.actors) 0 (map view_executor l.executors);
   invariants : All (HasInvariants (map actor_view l.actors)) l.all.items;
 }

@@ -5,9 +5,9 @@ use Rattle.script_compiler.proofs.Small.{method_next}
 use Rattle.script_compiler.proofs.Steps.{method_more}
 use Rattle.script_compiler.proofs.methods.add_methods.Goals as goal
 
-pub compile_method-requires-clause-known : goal.compile_method-requires-clause-known
-compile_method-requires-clause-known c =
-    (methods_next c.args.plan.now.directory c.args.actor.0 c.args.methods.now c.loop-method.method-index c.method-item.result c.loop-method-test.true c.method-item.is c.loop-method.invariant.known).0
+pub compile_method-requires-clause-new : goal.compile_method-requires-clause-new
+compile_method-requires-clause-new c =
+    (methods_next c.args.plan.now.directory c.args.actor.0 c.args.methods.now c.loop-method.method-index c.method-item.result c.loop-method-test.true c.method-item.is c.loop-method.invariant.new).0
 
 pub compile_method-requires-clause-size : goal.compile_method-requires-clause-size
 compile_method-requires-clause-size c =
@@ -19,5 +19,5 @@ loop-method-preserved c = record {
       λ done h. method_more (method_of c.args.plan.now c.args.actor.0) c.args.methods.now c.loop-method.method-index c.method-item.result c.loop-method.all.items c.push.new.self.items c.in_ok-compile_method.field-0 done
       c.loop-method-test.true c.method-item.is c.in_ok-push.ensures.items c.in_ok-compile_method.ensures (c.loop-method.invariant.are done h);
   size = omega (arith, c.loop-method.invariant.size, method_next c.args.methods.now c.loop-method.method-index c.method-item.result c.loop-method-test.true c.method-item.is);
-  known = (methods_next c.args.plan.now.directory c.args.actor.0 c.args.methods.now c.loop-method.method-index c.method-item.result c.loop-method-test.true c.method-item.is c.loop-method.invariant.known).1;
+  new = (methods_next c.args.plan.now.directory c.args.actor.0 c.args.methods.now c.loop-method.method-index c.method-item.result c.loop-method-test.true c.method-item.is c.loop-method.invariant.new).1;
 }

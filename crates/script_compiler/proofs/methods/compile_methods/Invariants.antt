@@ -1,17 +1,15 @@
-use Rattle.std.proofs.Common.{◌≡◌, ◌+◌, ◌≤◌, true, length, map, drop}
-use Rattle.swift_types.specs.declared.limits.TheConstants.{ACTORS, BYTES}
-use Rattle.script_grammar.specs.Tree.{view_decl}
-use Rattle.script_grammar.specs.Size.{script_size}
-use Rattle.script_printing.specs.Script.{script_in}
+use Rattle.std.proofs.Common.{◌≡◌, ◌≤◌, true, map, drop}
+use Rattle.swift_types.specs.declared.limits.TheConstants.{BYTES}
+use Rattle.script_grammar.specs.Tree.{view_actor}
 use Rattle.script_compiler.specs.Compiled.{methods_from}
-use Rattle.script_compiler.specs.NamesInside.{all_methods_known}
+use Rattle.script_compiler.specs.MembersInside.{actors_size}
+use Rattle.script_compiler.specs.NamesInside.{actors_new}
 use Rattle.script_compiler.proofs.Steps.{AreDone}
 use Rattle.script_compiler.proofs.methods.compile_methods.Given as goal
 
-abbrev pub invariant-loop-decl : goal.invariant-loop-decl
-invariant-loop-decl l = record {
-  are : AreDone l.plan l.actor.0 l.methods.items (drop l.decl-index l.decls) (methods_from l.plan 0 (script_in (map view_decl l.decls)).actors);
-  few : l.actor.0 + length (script_in (map view_decl (drop l.decl-index l.decls))).actors ≤ ACTORS;
-  size : script_size (map view_decl (drop l.decl-index l.decls)) ≤ BYTES;
-  known : all_methods_known l.plan.directory l.actor.0 (map view_decl (drop l.decl-index l.decls)) ≡ true;
+abbrev pub invariant-loop-place : goal.invariant-loop-place
+invariant-loop-place l = record {
+  are : AreDone l.plan l.place l.methods.items (drop l.place l.actors) (methods_from l.plan 0 (map view_actor l.actors));
+  size : actors_size (map view_actor (drop l.place l.actors)) ≤ BYTES;
+  new : actors_new l.plan.directory l.place (map view_actor (drop l.place l.actors)) ≡ true;
 }

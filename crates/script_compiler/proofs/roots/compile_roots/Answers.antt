@@ -1,14 +1,24 @@
-use Rattle.std.proofs.Common.{◌++◌, ◌∙◌, List, map, sym}
+use Rattle.std.proofs.Common.{◌+◌, ◌++◌, ◌∙◌, List, map, drop, ap, sym}
 use Rattle.std.proofs.lemmas.List.{append-nil, at_drop_all}
-use Rattle.script_grammar.specs.declared.declaration.Decl.{Decl}
-use Rattle.script_grammar.specs.Tree.{view_decl}
-use Rattle.script_printing.specs.Script.{script_in}
+use Rattle.script_grammar.specs.declared.declaration.Root.{Root}
+use Rattle.script_grammar.specs.Tree.{view_root}
 use Rattle.script_compiler.specs.Compiled.{root_of}
 use Rattle.script_compiler.specs.IsCompiled.{root_view}
+use Rattle.script_compiler.proofs.Steps.{front, one_more}
 use Rattle.script_compiler.proofs.roots.compile_roots.Goals as goal
+
+pub loop-root-preserved : goal.loop-root-preserved
+loop-root-preserved c =
+    let p = c.args.plan.now in
+    let roots = c.args.roots.now in
+    let i = c.loop-root.root-index in
+    let root = c.root-item.result in
+    one_more root_view c.loop-root.compiled.items c.push.new.self.items c.in_ok-compile_root.field-0 (root_of p (view_root root)) (map (root_of p) (map view_root (drop i roots))) (map (root_of p) (map view_root (drop (i + 1) roots))) _
+    c.in_ok-push.ensures.items c.in_ok-compile_root.ensures (ap (λ (xs : List Root). map (root_of p) (map view_root xs)) (front roots i root c.loop-root-test.true c.root-item.is)) c.loop-root.invariant
 
 pub returns : goal.returns
 returns c =
-    sym (append-nil (map root_view c.loop-decl.roots.items))
-    ∙ sym (at_drop_all (λ (ds : List Decl). map root_view c.loop-decl.roots.items ++ map (root_of c.args.plan.now) (script_in (map view_decl ds)).roots) c.args.decls.now c.loop-decl.decl-index c.loop-decl-test.false)
-    ∙ c.loop-decl.invariant.done
+    let made = c.loop-root.compiled.items in
+    sym (append-nil (map root_view made))
+    ∙ sym (at_drop_all (λ (xs : List Root). map root_view made ++ map (root_of c.args.plan.now) (map view_root xs)) c.args.roots.now c.loop-root.root-index c.loop-root-test.false)
+    ∙ c.loop-root.invariant

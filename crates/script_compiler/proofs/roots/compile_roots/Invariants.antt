@@ -1,13 +1,8 @@
-use Rattle.std.proofs.Common.{◌≡◌, ◌++◌, true, map, drop}
-use Rattle.script_grammar.specs.Tree.{view_decl}
-use Rattle.script_printing.specs.Script.{script_in}
+use Rattle.std.proofs.Common.{◌≡◌, ◌++◌, map, drop}
+use Rattle.script_grammar.specs.Tree.{view_root}
 use Rattle.script_compiler.specs.Compiled.{root_of}
 use Rattle.script_compiler.specs.IsCompiled.{root_view}
-use Rattle.script_compiler.specs.RootsInside.{have_root_methods}
 use Rattle.script_compiler.proofs.roots.compile_roots.Given as goal
 
-abbrev pub invariant-loop-decl : goal.invariant-loop-decl
-invariant-loop-decl l = record {
-  done : map root_view l.roots.items ++ map (root_of l.plan) (script_in (map view_decl (drop l.decl-index l.decls))).roots ≡ map (root_of l.plan) (script_in (map view_decl l.decls)).roots;
-  have : have_root_methods l.plan.directory (script_in (map view_decl (drop l.decl-index l.decls))).roots ≡ true;
-}
+abbrev pub invariant-loop-root : goal.invariant-loop-root
+invariant-loop-root l = map root_view l.compiled.items ++ map (root_of l.plan) (map view_root (drop l.root-index l.roots)) ≡ map (root_of l.plan) (map view_root l.roots)

@@ -2,8 +2,7 @@ use Rattle.std.proofs.Common.{◌≡◌, sym, subst}
 use Rattle.std.specs.Arc.{arc_value}
 use Rattle.swift_script.specs.Scripts.{ScriptView}
 use Rattle.swift_explorer.specs.AheadInside.{StartsHold}
-use Rattle.swift_explorer.specs.FusedInside.{AreTold}
-use Rattle.swift_explorer.specs.SilentInside.{HaveMarks}
+use Rattle.swift_explorer.specs.MarksInside.{AreTold, HaveSilentMarks}
 use Rattle.swift_explorer.proofs.Paths.{path_some, was_done}
 use Rattle.swift_explorer.proofs.RunningAhead.{followed_ahead}
 use Rattle.swift_explorer.proofs.search.follow_ahead.Goals as goal
@@ -19,7 +18,7 @@ run_ahead-requires c =
     record {
       history = path_some script _ y f.is.followed.script_is p;
       told = subst (λ (s : ScriptView). AreTold s c.args.away.now) own c.requires.told;
-      marked = subst (λ (s : ScriptView). HaveMarks s c.args.marks.now) own c.requires.marked;
+      marked = subst (λ (s : ScriptView). HaveSilentMarks s c.args.marks.now) own c.requires.marked;
       hold = subst StartsHold own c.requires.hold;
     }
 

@@ -1,28 +1,29 @@
+use Rattle.std.proofs.Common.{◌+◌, ◌*◌}
 use Rattle.swift_expressions.proofs.value.+value.Given as goal
 
 abbrev pub decreases-binary : goal.decreases-binary
-decreases-binary l = l.depth
+decreases-binary l = l.depth * 2 + 1
 
 abbrev pub decreases-shortcut : goal.decreases-shortcut
-decreases-shortcut l = l.depth
+decreases-shortcut l = l.depth * 2 + 1
 
 abbrev pub decreases-choice : goal.decreases-choice
-decreases-choice l = l.depth
+decreases-choice l = l.depth * 2 + 1
 
 abbrev pub decreases-awaited : goal.decreases-awaited
-decreases-awaited l = l.depth
+decreases-awaited l = l.depth * 2 + 1
 
 abbrev pub decreases-tried : goal.decreases-tried
-decreases-tried l = l.depth
+decreases-tried l = l.depth * 2 + 1
 
 abbrev pub decreases-prefixed : goal.decreases-prefixed
-decreases-prefixed l = l.depth
+decreases-prefixed l = l.depth * 2 + 1
 
 abbrev pub decreases-otherwise : goal.decreases-otherwise
-decreases-otherwise l = l.depth
+decreases-otherwise l = l.depth * 2 + 1
 
 abbrev pub decreases-lower_operands : goal.decreases-lower_operands
-decreases-lower_operands l = l.depth
+decreases-lower_operands l = l.depth * 2 + 1
 
 abbrev pub decreases-value : goal.decreases-value
-decreases-value l = l.depth
+decreases-value l = l.depth * 2

@@ -1,25 +1,26 @@
+use Rattle.std.proofs.Common.{◌+◌, ◌*◌}
 use Rattle.swift_syntax.proofs.expression.+expression.Given as goal
 
 abbrev pub decreases-operands : goal.decreases-operands
-decreases-operands l = l.depth
+decreases-operands l = l.depth * 8
 
 abbrev pub decreases-prefixed : goal.decreases-prefixed
-decreases-prefixed l = l.depth
+decreases-prefixed l = l.depth * 8 + 5
 
 abbrev pub decreases-called : goal.decreases-called
-decreases-called l = l.depth
+decreases-called l = l.depth * 8 + 2
 
 abbrev pub decreases-named : goal.decreases-named
-decreases-named l = l.depth
+decreases-named l = l.depth * 8 + 3
 
 abbrev pub decreases-atom : goal.decreases-atom
-decreases-atom l = l.depth
+decreases-atom l = l.depth * 8 + 4
 
 abbrev pub decreases-arguments : goal.decreases-arguments
-decreases-arguments l = l.depth
+decreases-arguments l = l.depth * 8 + 1
 
 abbrev pub decreases-covered : goal.decreases-covered
-decreases-covered l = l.depth
+decreases-covered l = l.depth * 8
 
 abbrev pub decreases-choice : goal.decreases-choice
-decreases-choice l = l.depth
+decreases-choice l = l.depth * 8 + 1

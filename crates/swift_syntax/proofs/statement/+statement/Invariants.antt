@@ -1,25 +1,26 @@
+use Rattle.std.proofs.Common.{◌+◌, ◌*◌}
 use Rattle.swift_syntax.proofs.statement.+statement.Given as goal
 
 abbrev pub decreases-valued : goal.decreases-valued
-decreases-valued l = l.blocks
+decreases-valued l = l.blocks * 8 + 1
 
 abbrev pub decreases-conditional : goal.decreases-conditional
-decreases-conditional l = l.blocks
+decreases-conditional l = l.blocks * 8 + 2
 
 abbrev pub decreases-tested : goal.decreases-tested
-decreases-tested l = l.blocks
+decreases-tested l = l.blocks * 8 + 2
 
 abbrev pub decreases-for_in : goal.decreases-for_in
-decreases-for_in l = l.blocks
+decreases-for_in l = l.blocks * 8 + 2
 
 abbrev pub decreases-do_catch : goal.decreases-do_catch
-decreases-do_catch l = l.blocks
+decreases-do_catch l = l.blocks * 8 + 2
 
 abbrev pub decreases-statement : goal.decreases-statement
-decreases-statement l = l.blocks
+decreases-statement l = l.blocks * 8 + 7
 
 abbrev pub decreases-statements : goal.decreases-statements
-decreases-statements l = l.blocks
+decreases-statements l = l.blocks * 8
 
 abbrev pub decreases-block : goal.decreases-block
-decreases-block l = l.blocks
+decreases-block l = l.blocks * 8 + 1

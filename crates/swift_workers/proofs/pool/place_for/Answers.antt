@@ -3,7 +3,7 @@ use Rattle.std.proofs.lemmas.List.{take_all}
 use Rattle.std.proofs.lemmas.List.Elements.{All-more}
 use Rattle.std.specs.List.{All}
 use Rattle.swift_types.specs.declared.id.ExecId.{ExecId}
-use Rattle.swift_workers.specs.PoolsInside.{MayVisit}
+use Rattle.swift_workers.specs.Pools.{MayVisit}
 use Rattle.swift_workers.proofs.pool.place_for.Goals as goal
 
 pub loop-place-preserved : goal.loop-place-preserved

@@ -13,19 +13,18 @@ use Rattle.script_compiler.specs.StandingInside.{scope_through}
 use Rattle.script_compiler.specs.HeadsInside.{foot, HeadsAs, is_isolated}
 use Rattle.script_compiler.proofs.Lines.{IsWritten, more_lines}
 use Rattle.script_compiler.proofs.Blocks.{through_more, step_back}
-use Rattle.script_compiler.proofs.Statements.{code_in, headed_size, else_size, held_known, while_written, block_written, else_written, answered, ok_of, not_loop, left_is}
-use Rattle.script_compiler.specs.Known.{makes_new, block_known}
-use Rattle.script_compiler.proofs.Known.{stmt_at, new_there, stmt_back}
+use Rattle.script_compiler.proofs.Statements.{code_in, headed_size, else_size, held_new, while_written, block_written, else_written, answered, ok_of, not_loop, left_is}
+use Rattle.script_compiler.specs.New.{makes_new, block_new}
+use Rattle.script_compiler.proofs.New.{stmt_at, new_there, stmt_back}
 use Rattle.script_compiler.proofs.Room.{size_next, size_left, not_empty, stands_through, stands_back, block_takes, foot_takes}
 use Rattle.script_compiler.proofs.lowering.block.+block.Goals as goal
 
 pub block-pass-requires-clause-new : goal.block-pass-requires-clause-new
 block-pass-requires-clause-new t c =
-    let d = c.args.plan.now.directory in
     let body = c.args.block.now in
     let x = c.stmt-item.result in
     let here = scope_through c.args.scope.now (map view_stmt (take c.loop-stmt.stmt-index body)) in
-    subst (λ (y : ScopeView). makes_new y (view_stmt x) ≡ true) (sym c.loop-stmt.invariant) (new_there d here (view_stmt x) (stmt_at d c.args.scope.now body c.loop-stmt.stmt-index x c.loop-stmt-test.true c.stmt-item.is c.requires.known))
+    subst (λ (y : ScopeView). makes_new y (view_stmt x) ≡ true) (sym c.loop-stmt.invariant) (new_there here (view_stmt x) (stmt_at c.args.scope.now body c.loop-stmt.stmt-index x c.loop-stmt-test.true c.stmt-item.is c.requires.new))
 
 pub block-pass-requires-clause-room : goal.block-pass-requires-clause-room
 block-pass-requires-clause-room t c =
@@ -48,7 +47,7 @@ block-statement-requires t c =
     let same = ap (λ (n : ℕ). block_size (block_tree (map view_stmt (drop n body)))) next in (
       search (rules, the_lemmas),
       (
-        stmt_back c.args.plan.now.directory c.args.scope.now c.loop-left.scope c.pass_back.new.scope body left i x next lt c.index-block-left.is c.loop-left.invariant.standing c.pass_back.ensures c.requires.known,
+        stmt_back c.args.scope.now c.loop-left.scope c.pass_back.new.scope body left i x next lt c.index-block-left.is c.loop-left.invariant.standing c.pass_back.ensures c.requires.new,
         omega (
           arith,
           c.requires.room,
@@ -87,8 +86,8 @@ statement-block-requires-in-IfElse-2 t c =
     let same = ap (λ (y : ScopeView). length y.kinds) kept in (
       search (rules, the_lemmas),
       (
-        ap (λ (y : ScopeView). block_known p.directory y (block_tree (map view_stmt held))) kept
-            ∙ held_known p.directory s c.args.stmt.now c.in-IfElse.test c.in-IfElse.held c.in-IfElse.failed held c.in-IfElse.is c.deref-in-IfElse-2.ensures.value c.requires.known,
+        ap (λ (y : ScopeView). block_new y (block_tree (map view_stmt held))) kept
+            ∙ held_new s c.args.stmt.now c.in-IfElse.test c.in-IfElse.held c.in-IfElse.failed held c.in-IfElse.is c.deref-in-IfElse-2.ensures.value c.requires.new,
         omega (
           arith,
           c.requires.room,

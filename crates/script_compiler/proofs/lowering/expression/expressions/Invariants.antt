@@ -1,12 +1,8 @@
-use Rattle.std.proofs.Common.{◌≡◌, ◌++◌, true, drop, map}
+use Rattle.std.proofs.Common.{◌≡◌, ◌++◌, drop, map}
 use Rattle.script_grammar.specs.Tree.{view}
 use Rattle.script_code.specs.Tree.{terms_of}
 use Rattle.script_compiler.specs.Lowered.{lowered}
-use Rattle.script_compiler.specs.Known.{expressions_known}
 use Rattle.script_compiler.proofs.lowering.expression.expressions.Given as goal
 
 abbrev pub invariant-loop-expr : goal.invariant-loop-expr
-invariant-loop-expr l = record {
-  terms : terms_of l.formulas.items ++ map (lowered l.plan l.scope) (map view (drop l.expr-index l.exprs)) ≡ map (lowered l.plan l.scope) (map view l.exprs);
-  rest : expressions_known l.plan.directory (map view (drop l.expr-index l.exprs)) ≡ true;
-}
+invariant-loop-expr l = terms_of l.formulas.items ++ map (lowered l.plan l.scope) (map view (drop l.expr-index l.exprs)) ≡ map (lowered l.plan l.scope) (map view l.exprs)

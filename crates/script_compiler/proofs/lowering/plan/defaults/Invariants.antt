@@ -1,7 +1,6 @@
 use Rattle.std.proofs.Common.{◌≡◌, ◌++◌, drop, map}
-use Rattle.script_grammar.specs.Tree.{view_decl}
-use Rattle.script_compiler.specs.Plan.{defaults_in}
+use Rattle.script_grammar.specs.Tree.{view_local}
 use Rattle.script_compiler.proofs.lowering.plan.defaults.Given as goal
 
-abbrev pub invariant-loop-decl : goal.invariant-loop-decl
-invariant-loop-decl l = l.defaults.items ++ defaults_in (map view_decl (drop l.decl-index l.decls)) ≡ defaults_in (map view_decl l.decls)
+abbrev pub invariant-loop-local : goal.invariant-loop-local
+invariant-loop-local l = l.defaults.items ++ map (λ x. x.default) (map view_local (drop l.local-index l.locals)) ≡ map (λ x. x.default) (map view_local l.locals)

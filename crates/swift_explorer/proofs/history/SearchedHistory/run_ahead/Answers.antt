@@ -2,8 +2,7 @@ use Rattle.std.proofs.Common.{sym, subst, ap}
 use Rattle.std.specs.Arc.{arc_value}
 use Rattle.swift_script.specs.Scripts.{ScriptView}
 use Rattle.swift_explorer.specs.AheadInside.{StartsHold}
-use Rattle.swift_explorer.specs.FusedInside.{AreTold}
-use Rattle.swift_explorer.specs.SilentInside.{HaveMarks}
+use Rattle.swift_explorer.specs.MarksInside.{AreTold, HaveSilentMarks}
 use Rattle.swift_explorer.proofs.RunningAhead.{ahead_none, ahead_on, ahead_some, not_lost}
 use Rattle.swift_explorer.proofs.history.SearchedHistory.run_ahead.Goals as goal
 
@@ -19,7 +18,7 @@ run_and_push-requires c =
     record {
       history = ahead_some x y c.args.moves.now.items c.turns.moves.items ahead c.requires.history;
       told = subst (λ (s : ScriptView). AreTold s c.args.away.now) own c.requires.told;
-      marked = subst (λ (s : ScriptView). HaveMarks s c.args.marks.now) own c.requires.marked;
+      marked = subst (λ (s : ScriptView). HaveSilentMarks s c.args.marks.now) own c.requires.marked;
       hold = subst StartsHold own c.requires.hold;
     }
 

@@ -1,4 +1,5 @@
 use Rattle.std.proofs.Common.{◌≡◌, ◌+◌}
+use Rattle.std.specs.Prelude.{IsTrue}
 use Rattle.std.specs.Arc.{arc_value}
 use Rattle.swift_explorer.specs.SearchInside.{HasGoneOn, HasGrown}
 use Rattle.swift_explorer.proofs.search.Search.go_through.Given as goal
@@ -8,4 +9,5 @@ invariant-loop l = record {
   grown : HasGrown l.fn.self l.self;
   gone_on : HasGoneOn (arc_value l.fn.self.script) l.self l.next;
   far : l.next ≡ l.from + l.counter;
+  met : IsTrue l.self.met_limit → IsTrue l.fn.self.met_limit;
 }

@@ -3,8 +3,7 @@ use Rattle.std.specs.Arc.{arc_value}
 use Rattle.std.proofs.lemmas.Bool.{false≢true}
 use Rattle.swift_script.specs.Scripts.{ScriptView}
 use Rattle.swift_explorer.specs.AheadInside.{StartsHold}
-use Rattle.swift_explorer.specs.FusedInside.{AreTold}
-use Rattle.swift_explorer.specs.SilentInside.{HaveMarks}
+use Rattle.swift_explorer.specs.MarksInside.{AreTold, HaveSilentMarks}
 use Rattle.swift_explorer.proofs.Sound.{sound_none}
 use Rattle.swift_explorer.proofs.StartInvariants.{starts_hold}
 use Rattle.swift_explorer.proofs.search.Search.new.Goals as goal
@@ -16,5 +15,5 @@ returns-clause-sound c =
     let own_away : c.deref-2.result.now ≡ script = search rules in
     let own_marks : c.deref-3.result.now ≡ script = search rules in
     sound_none script _ (search rules) c.new.ensures.items c.new-2.ensures c.new-3.ensures.items c.new-4.ensures (search rules)
-    (subst (λ (s : ScriptView). AreTold s c.in_ok-away.away.items) own_away c.in_ok-away.ensures) (subst (λ (s : ScriptView). HaveMarks s c.in_ok-marks.marks.items) own_marks c.in_ok-marks.ensures)
+    (subst (λ (s : ScriptView). AreTold s c.in_ok-away.away) own_away c.in_ok-away.ensures) (subst (λ (s : ScriptView). HaveSilentMarks s c.in_ok-marks.marks.items) own_marks c.in_ok-marks.ensures)
     (subst StartsHold own (starts_hold c.deref.result.now c.facts.ensures.starts)) (λ is. absurd (false≢true is)) (λ is. absurd (false≢true is)) c.new-5.ensures.empty

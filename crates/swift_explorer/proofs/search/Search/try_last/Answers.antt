@@ -6,8 +6,7 @@ use Rattle.swift_script.specs.Scripts.{ScriptView}
 use Rattle.swift_explorer.specs.Outcomes.{IsBrokenAfter}
 use Rattle.swift_explorer.specs.HistoryInside.{IsPath, WasDone}
 use Rattle.swift_explorer.specs.AheadInside.{StartsHold}
-use Rattle.swift_explorer.specs.FusedInside.{AreTold}
-use Rattle.swift_explorer.specs.SilentInside.{HaveMarks}
+use Rattle.swift_explorer.specs.MarksInside.{AreTold, HaveSilentMarks}
 use Rattle.swift_explorer.specs.SearchInside.{HasGrown, IsFollowedAhead, IsSound, paths_of}
 use Rattle.swift_explorer.proofs.Growing.{grown_on, like_grown}
 use Rattle.swift_explorer.proofs.Keeping.{keeps_none}
@@ -117,7 +116,7 @@ follow_ahead-requires c =
     let sound = c.requires.sound in
     record {
       path = subst (λ (s : ScriptView). IsPath s c.args.path.now c.args.history) own c.requires.followed;
-      told = subst (AreTold script) (sym c.deref.ensures.value) (subst (λ (s : ScriptView). AreTold s x.away.items) own sound.told);
-      marked = subst (HaveMarks script) (sym c.deref-2.ensures.value) (subst (λ (s : ScriptView). HaveMarks s x.marks.items) own sound.marked);
+      told = subst (λ (s : ScriptView). AreTold s x.away) own sound.told;
+      marked = subst (HaveSilentMarks script) (sym c.deref.ensures.value) (subst (λ (s : ScriptView). HaveSilentMarks s x.marks.items) own sound.marked);
       hold = subst StartsHold own sound.hold;
     }

@@ -1,0 +1,271 @@
+//! From a search to a hint.
+
+ghost use Rattle.std.specs.Prelude.{◌≡◌, IfOk, IfSome, length, min, take};
+ghost use Rattle.std.specs.Arc.{arc_value};
+ghost use Rattle.explorer_progress.specs.Hints.{Begins, IsHint};
+
+use crate::again::{PlayedReport, played};
+use crate::repeated::{Repeated, leaves_frames, repeated_before};
+use crate::turns::{TurnAt, turns_of};
+use std::alloc::{AllocError, Global};
+use std::sync::Arc;
+use swift_events::Origin;
+use swift_explorer::{
+    Completion, FoundOutcomes, Move, RunOutcome, complete_schedule, schedule_report,
+};
+use swift_script::Script;
+use swift_types::{Ending, Fault, MethodId, TaskId};
+
+// A search of a script with more roots is led to no end for a hint: that takes time by the square of the tasks.
+const ROOTS: usize = 64;
+
+/// A task whose turns repeat, and the method that the first of these is of.
+#[derive(Clone, Copy)]
+pub struct RepeatedTask {
+    pub task: TaskId,
+    pub method: MethodId,
+}
+
+/// Tasks that repeat their turns, where no other task is ready (our own): the states after each round are one, but for the numbers of
+/// turns.
+#[derive(Drop)]
+pub struct NoProgress {
+    /// A schedule that ends with the first round.
+    pub schedule: Vec<Move>,
+    /// How many turns a round has.
+    pub turns: usize,
+    /// The tasks, each one once.
+    pub tasks: Vec<RepeatedTask>,
+}
+
+// Whether a task was ended since it had had all its turns.
+fn ends_at_limit(endings: &[(Origin, Ending)]) -> bool {
+    for ended in endings {
+        if matches!(ended.1, Ending::Fault(Fault::Turns)) {
+            return true;
+        }
+    }
+    false
+}
+
+// The first outcome in which some task was ended so.
+fn first_at_limit(outcomes: &[RunOutcome]) -> Option<&RunOutcome> {
+    for outcome in outcomes {
+        if ends_at_limit(&outcome.endings) {
+            return Some(outcome);
+        }
+    }
+    None
+}
+
+// The place of the first turn that begins with the fault of a task that has had all its turns.
+fn limit_in(run: &PlayedReport, turns: &[TurnAt]) -> Option<usize> {
+    for place in 0..turns.len() {
+        if run.is_at_limit(turns[place]) {
+            return Some(place);
+        }
+    }
+    None
+}
+
+// The turns of a task among the first of these.
+fn turns_of_task(
+    alloc: Global,
+    turns: &[TurnAt],
+    end: usize,
+    task: TaskId,
+) -> Result<Vec<TurnAt>, AllocError> {
+    let mut own = Vec::new(alloc);
+    for turn in &turns[..end.min(turns.len())] {
+        if turn.task.0 == task.0 {
+            own.push(*turn)?;
+        }
+    }
+    Ok(own)
+}
+
+// So many of the first steps of a schedule, or all where there are fewer.
+fn first_steps(alloc: Global, schedule: &[Move], many: usize) -> Result<Vec<Move>, AllocError>
+    ensures { IfOk result (λ steps. steps.items ≡ take (min many (length schedule.now)) schedule.now) }
+{
+    let many = many.min(schedule.len());
+    Vec::from_slice(alloc, &schedule[..many])
+}
+
+// The steps up to the one at a place.
+fn steps_to(alloc: Global, schedule: &[Move], step: usize) -> Result<Vec<Move>, AllocError>
+    ensures { IfOk result (λ steps. Begins steps.items schedule.now) }
+{
+    let steps = first_steps(alloc, schedule, step.saturating_add(1))?;
+    Ok(steps)
+}
+
+// The report of a schedule, played, and its turns in order.
+fn run_of(
+    alloc: Global,
+    script: &Arc<Script>,
+    schedule: &[Move],
+) -> Result<Option<(PlayedReport, Vec<TurnAt>)>, AllocError> {
+    let Some(report) = schedule_report(alloc, script, schedule)? else {
+        return Ok(None);
+    };
+    let Some(turns) = turns_of(alloc, schedule, &report)? else {
+        return Ok(None);
+    };
+    let run = played(alloc, script, report)?;
+    Ok(Some((run, turns)))
+}
+
+// The steps of an outcome's schedule up to where the task that has had all its turns begins to repeat its own, where it does.
+fn before_spinning(
+    alloc: Global,
+    script: &Arc<Script>,
+    schedule: &[Move],
+) -> Result<Option<Vec<Move>>, AllocError> {
+    let Some((run, turns)) = run_of(alloc, script, schedule)? else {
+        return Ok(None);
+    };
+    let Some(end) = limit_in(&run, &turns) else {
+        return Ok(None);
+    };
+    if end >= turns.len() {
+        return Ok(None);
+    }
+    let own = turns_of_task(alloc, &turns, end, turns[end].task)?;
+    let Some(repeated) = repeated_before(alloc, &run, &own, own.len())? else {
+        return Ok(None);
+    };
+    match own.get(repeated.from) {
+        Some(first) => Ok(Some(steps_to(alloc, schedule, first.step)?)),
+        None => Ok(None),
+    }
+}
+
+fn is_among(tasks: &[RepeatedTask], task: TaskId) -> bool {
+    for one in tasks {
+        if one.task.0 == task.0 {
+            return true;
+        }
+    }
+    false
+}
+
+// The tasks of these turns.
+fn tasks_of(
+    alloc: Global,
+    run: &PlayedReport,
+    turns: &[TurnAt],
+) -> Result<Vec<RepeatedTask>, AllocError> {
+    let mut tasks = Vec::new(alloc);
+    for turn in turns {
+        if !is_among(&tasks, turn.task)
+            && let Some(method) = run.method(*turn)
+        {
+            tasks.push(RepeatedTask {
+                task: turn.task,
+                method,
+            })?;
+        }
+    }
+    Ok(tasks)
+}
+
+// What is said of turns that repeat up to the turn at a place, where all tasks that are ready are among them: each of these has had a turn
+// in the time of a round and of one turn of each task.
+fn hint_of(
+    alloc: Global,
+    run: &PlayedReport,
+    turns: &[TurnAt],
+    schedule: &[Move],
+    end: usize,
+    repeated: Repeated,
+) -> Result<Option<NoProgress>, AllocError>
+    ensures { IfOk result (λ o. IfSome o (λ hint. Begins hint.schedule.items schedule.now)) }
+{
+    let Repeated { from, period } = repeated;
+    let round = from.saturating_add(period);
+    if round > turns.len() || from > round {
+        return Ok(None);
+    }
+    let long = period.saturating_add(run.report.endings.len());
+    let first = &turns[from..round];
+    if end.saturating_sub(from) < long || !leaves_frames(run, first) {
+        return Ok(None);
+    }
+    let tasks = tasks_of(alloc, run, first)?;
+    match turns.get(round.saturating_sub(1)) {
+        Some(last) => Ok(Some(NoProgress {
+            schedule: steps_to(alloc, schedule, last.step)?,
+            turns: period,
+            tasks,
+        })),
+        None => Ok(None),
+    }
+}
+
+// What is said of a whole schedule.
+fn hint_in(
+    alloc: Global,
+    script: &Arc<Script>,
+    schedule: &[Move],
+) -> Result<Option<NoProgress>, AllocError>
+    ensures { IfOk result (λ o. IfSome o (λ hint. Begins hint.schedule.items schedule.now)) }
+{
+    let Some((run, turns)) = run_of(alloc, script, schedule)? else {
+        return Ok(None);
+    };
+    let Some(end) = limit_in(&run, &turns) else {
+        return Ok(None);
+    };
+    let Some(repeated) = repeated_before(alloc, &run, &turns, end)? else {
+        return Ok(None);
+    };
+    hint_of(alloc, &run, &turns, schedule, end, repeated)
+}
+
+// What is said where a schedule is led to its end, with a turn of each task that is ready in a circle.
+fn hint_after(
+    alloc: Global,
+    script: &Arc<Script>,
+    start: &[Move],
+) -> Result<Option<NoProgress>, AllocError>
+    ensures { IfOk result (λ o. IfSome o (IsHint (arc_value script.now))) }
+{
+    match complete_schedule(alloc, script, start)? {
+        Completion::Whole(whole) => {
+            let found = hint_in(alloc, script, &whole)?;
+            Ok(found)
+        }
+        Completion::Stopped(_, _) | Completion::Unfinished => Ok(None),
+    }
+}
+
+/// Tasks of a script that repeat their turns for ever (our own): by the first outcome in which a task was ended since it had had all its
+/// turns, from where it begins to repeat its own; or, where a search met its limit and found none such, from the beginning. From there the
+/// schedule is led on, each time with the next task's turn; where that comes to a task that has had all its turns, and the turns before
+/// that repeat and change nothing else, it is said which.
+///
+/// It is a hint: that the schedule can be done is promised, and that its last turns repeat is tested. It costs a run of up to 1,000 turns
+/// of each task, followed twice.
+///
+/// # Errors
+///
+/// `AllocError` where no memory was left.
+pub fn no_progress(
+    alloc: Global,
+    script: &Arc<Script>,
+    found: &FoundOutcomes,
+) -> Result<Option<NoProgress>, AllocError>
+    ensures { IfOk result (λ o. IfSome o (IsHint (arc_value script.now))) }
+{
+    if let Some(outcome) = first_at_limit(&found.outcomes) {
+        return match before_spinning(alloc, script, &outcome.schedule)? {
+            Some(start) => hint_after(alloc, script, &start),
+            None => Ok(None),
+        };
+    }
+    if found.met_limit && script.root_count() <= ROOTS {
+        return hint_after(alloc, script, &[]);
+    }
+    Ok(None)
+}

@@ -1,0 +1,26 @@
+-- A call as it is compiled.
+use Rattle.std.proofs.Common.{◌≡◌, ℕ, List, map, ap, ◌∙◌}
+use Rattle.script_grammar.specs.Tree.{CallTree}
+use Rattle.script_names.specs.Texts.{place_of}
+use Rattle.script_names.specs.Directory.{DirectoryView, method_place}
+use Rattle.script_names.specs.Scope.{ScopeView}
+use Rattle.script_code.specs.Tree.{Term, CallTarget}
+use Rattle.script_compiler.specs.Plan.{PlanView}
+use Rattle.script_compiler.specs.Lowered.{lowered, target_of}
+
+pub target_made : (p : PlanView) (s : ScopeView) (c : CallTree) (d : DirectoryView) (called actor method : List ℕ) (i k : ℕ) (args : List Term)
+    → d ≡ s.directory → called ≡ c.actor → actor ≡ c.actor → method ≡ c.method → i ≡ place_of d.actors called → k ≡ method_place d actor method → args ≡ map (lowered p s) c.args
+    → ◌≡◌ {A = CallTarget} (record { actor = i; method = k; args = args }) (target_of p s c)
+target_made p s c d called actor method i k args directory first again last place number given =
+    let here : i ≡ place_of s.directory.actors c.actor =
+    place
+    ∙ ap (λ (x : DirectoryView). place_of x.actors called) directory
+    ∙ ap (λ (x : List ℕ). place_of s.directory.actors x) first in
+    let there : k ≡ method_place s.directory c.actor c.method =
+    number
+    ∙ ap (λ (x : DirectoryView). method_place x actor method) directory
+    ∙ ap (λ (x : List ℕ). method_place s.directory x method) again
+    ∙ ap (λ (x : List ℕ). method_place s.directory c.actor x) last in
+    ap (λ (x : ℕ). record { actor = x; method = k; args = args }) here
+    ∙ ap (λ (x : ℕ). record { actor = place_of s.directory.actors c.actor; method = x; args = args }) there
+    ∙ ap (λ (x : List Term). record { actor = place_of s.directory.actors c.actor; method = method_place s.directory c.actor c.method; args = x }) given

@@ -1,0 +1,9 @@
+use Rattle.std.proofs.Common.{◌≡◌, length}
+use Rattle.swift_explorer.specs.MarksInside.{HaveMarks}
+use Rattle.swift_explorer.proofs.marks.methods_marks.Given as goal
+
+abbrev pub invariant-loop-place : goal.invariant-loop-place
+invariant-loop-place l = record {
+  many : length l.marks.items ≡ l.place;
+  have : HaveMarks l.kind l.script l.marks.items;
+}

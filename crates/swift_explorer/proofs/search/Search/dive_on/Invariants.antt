@@ -1,0 +1,5 @@
+use Rattle.swift_explorer.specs.SearchInside.{HasSeen}
+use Rattle.swift_explorer.proofs.search.Search.dive_on.Given as goal
+
+abbrev pub invariant-loop : goal.invariant-loop
+invariant-loop l = HasSeen l.fn.self l.self

@@ -1,6 +1,0 @@
-use Rattle.std.proofs.Common.{◌≡◌, ◌++◌, drop}
-use Rattle.swift_explorer.specs.FoundText.{outcomes_text}
-use Rattle.swift_explorer.proofs.text.put_outcomes.Given as goal
-
-abbrev pub invariant-loop-place : goal.invariant-loop-place
-invariant-loop-place l = l.out.items ++ outcomes_text l.script l.place (drop l.place l.outcomes) ≡ l.initial.out.items ++ outcomes_text l.script 0 l.outcomes
