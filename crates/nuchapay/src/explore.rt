@@ -191,7 +191,7 @@ pub fn explored(
     let script = Arc::new(alloc, read(alloc, heading.text)?)?;
     let asked = ask(alloc, &script, heading.text, words, without_fault)?;
     let found = search_all(rt, &script, limit as usize)?;
-    say_no_progress(rt, &script, &found);
+    say_no_progress(rt, &script, &found)?;
     let answer = answered(alloc, &script, &asked, &found)?;
     let text = said_of(alloc, heading, &script, &asked, &found, format)?;
     let saved = kept_of(alloc, heading.text, &script, &asked, &found, save)?;

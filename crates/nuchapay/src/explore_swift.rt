@@ -74,7 +74,7 @@ pub fn explored_swift(
     let script = Arc::new(alloc, read(alloc, heading.text)?)?;
     let asked = ask(alloc, &script, heading.text, words, without_fault)?;
     let found = search_all(rt, &script, limit as usize)?;
-    say_may_spin(rt, heading.name, places, &script, &found);
+    say_may_spin(rt, heading.name, places, &script, &found)?;
     let answer = swift_answered(alloc, &script, &asked, &found)?;
     let text = swift_said_of(alloc, heading, &script, &asked, &found, format)?;
     let saved = swift_kept_of(alloc, heading.text, &script, &asked, &found, save)?;

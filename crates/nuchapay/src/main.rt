@@ -46,7 +46,7 @@ use crate::explore::explored;
 use crate::explore_swift::explored_swift;
 use crate::input::{is_swift, name_of, say_no_script, script};
 use crate::output::{tell, write_out, write_said};
-use crate::places::{ScriptFile, say_run_places};
+use crate::places::ScriptFile;
 use crate::schedule_answers::{say_broken, say_saved, say_scheduled};
 use crate::scheduled::broken_line;
 use crate::search_answers::say_explored;
@@ -134,8 +134,7 @@ where
             tell(host, run_json(rt, text, workers, quiet, &Open, out))
         }
         Question::Values(workers) => {
-            let status = tell(host, write_said(host, report_of(rt, text, workers)));
-            say_run_places(host, file, status)
+            tell(host, write_said(host, report_of(rt, text, workers), file))
         }
         Question::Why(word, workers) => {
             say_turn(host, file, word, explained_turn(rt, text, word, workers))

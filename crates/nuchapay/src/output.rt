@@ -1,5 +1,6 @@
 //! What the program writes, and how it ends.
 
+use crate::places::{ScriptFile, methods_text};
 use crate::values::Said;
 use swift_report::write_all;
 use swift_tool::{ToolFault, status};
@@ -18,9 +19,16 @@ pub fn write_out(rt: &HostRuntime, text: &[u8]) -> Result<bool, ToolFault> {
     Ok(true)
 }
 
-/// Writes what is said of a run. Whether each task ended with a value.
-pub fn write_said(rt: &HostRuntime, said: Result<Said, ToolFault>) -> Result<bool, ToolFault> {
+/// Writes what is said of a run, and behind it from which lines of a Swift file each method is: nothing before there is memory for both.
+/// Whether each task ended with a value.
+pub fn write_said(
+    rt: &HostRuntime,
+    said: Result<Said, ToolFault>,
+    file: ScriptFile<'_>,
+) -> Result<bool, ToolFault> {
     let said = said?;
-    write_all(&mut rt.stdout(), &said.text)?;
+    let methods = methods_text(rt.alloc(), file)?;
+    write_out(rt, &said.text)?;
+    write_out(rt, &methods)?;
     Ok(said.is_well)
 }

@@ -1,9 +1,7 @@
 //! From which lines of a Swift file turns are.
 
-use crate::output::{tell, write_out};
-use std::alloc::AllocError;
+use std::alloc::{AllocError, Global};
 use std::str;
-use swift_tool::ToolFault;
 use swift_translation::{MethodPlace, method_line, places_text};
 
 /// A script, and from which lines of a Swift file its methods are; none where it is not made of one.
@@ -17,40 +15,20 @@ pub struct ScriptFile<'a> {
     pub places: &'a [MethodPlace],
 }
 
-// Writes a title and what is said under it, if anything is. The status to end with.
-fn say_under(rt: &HostRuntime, title: &str, said: Result<Vec<u8>, AllocError>) -> u8 {
-    match said {
-        Ok(said) => {
-            if said.is_empty() {
-                return 0;
-            }
-            match write_out(rt, title.as_bytes()) {
-                Ok(_) => tell(rt, write_out(rt, &said)),
-                Err(fault) => tell(rt, Err(fault)),
-            }
-        }
-        Err(fault) => tell(rt, Err(ToolFault::from(fault))),
+// What is said under a title; nothing where there is nothing to say.
+fn under(alloc: Global, title: &str, said: &[u8]) -> Result<Vec<u8>, AllocError> {
+    let mut text = Vec::new(alloc);
+    if !said.is_empty() {
+        text.extend_from_slice(title.as_bytes())?;
+        text.extend_from_slice(said)?;
     }
+    Ok(text)
 }
 
-/// Says from which lines of a Swift file each method is; nothing of a script. The status to end with: this one, unless that fails.
-pub fn say_places(rt: &HostRuntime, file: ScriptFile<'_>, status: u8) -> u8 {
-    match say_under(
-        rt,
-        "\nmethods\n",
-        places_text(rt.alloc(), file.name, file.places),
-    ) {
-        0 => status,
-        failed => failed,
-    }
-}
-
-/// Says it behind what was said of a run, if that was: its status tells. The status to end with.
-pub fn say_run_places(rt: &HostRuntime, file: ScriptFile<'_>, status: u8) -> u8 {
-    if status > 1 {
-        return status;
-    }
-    say_places(rt, file, status)
+/// From which lines of a Swift file each method is, as it is told behind a run or a search; nothing of a script.
+pub fn methods_text(alloc: Global, file: ScriptFile<'_>) -> Result<Vec<u8>, AllocError> {
+    let lines = places_text(alloc, file.name, file.places)?;
+    under(alloc, "\nmethods\n", &lines)
 }
 
 // The method of the turn that a text explains: the fourth word of its first line.
@@ -61,16 +39,13 @@ fn method_in(said: &[u8]) -> &str {
     }
 }
 
-/// Says from which lines of a Swift file the turn's method is that a text explains; nothing of a script. The status to end with: this one,
-/// unless that fails.
-pub fn say_method(rt: &HostRuntime, file: ScriptFile<'_>, said: &[u8], status: u8) -> u8 {
+/// From which lines of a Swift file the turn's method is that a text explains, as it is told behind it; nothing of a script.
+pub fn method_text(
+    alloc: Global,
+    file: ScriptFile<'_>,
+    said: &[u8],
+) -> Result<Vec<u8>, AllocError> {
     let name = method_in(said).as_bytes();
-    match say_under(
-        rt,
-        "file\n",
-        method_line(rt.alloc(), file.name, name, file.places),
-    ) {
-        0 => status,
-        failed => failed,
-    }
+    let line = method_line(alloc, file.name, name, file.places)?;
+    under(alloc, "file\n", &line)
 }

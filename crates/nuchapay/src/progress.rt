@@ -55,12 +55,16 @@ fn say_repeated(rt: &HostRuntime, word: &str, hint: &NoProgress) -> Result<(), A
     Ok(())
 }
 
-/// Says which tasks of a script repeat their turns, where a search gives a hint of it. The answer goes on where there is no memory for
-/// that.
-pub(crate) fn say_no_progress(rt: &HostRuntime, script: &Arc<Script>, found: &FoundOutcomes) {
-    if let Ok(Some(hint)) = no_progress(rt.alloc(), script, found) {
-        let _ = say_repeated(rt, "no progress", &hint);
+/// Says which tasks of a script repeat their turns, where a search gives a hint of it.
+pub(crate) fn say_no_progress(
+    rt: &HostRuntime,
+    script: &Arc<Script>,
+    found: &FoundOutcomes,
+) -> Result<(), AllocError> {
+    if let Some(hint) = no_progress(rt.alloc(), script, found)? {
+        say_repeated(rt, "no progress", &hint)?;
     }
+    Ok(())
 }
 
 // Says from which lines of a Swift file of this name the method of a task is.
@@ -89,11 +93,12 @@ pub(crate) fn say_may_spin(
     places: &[MethodPlace],
     script: &Arc<Script>,
     found: &FoundOutcomes,
-) {
-    if let Ok(Some(hint)) = no_progress(rt.alloc(), script, found) {
-        let _ = say_repeated(rt, "may spin", &hint);
+) -> Result<(), AllocError> {
+    if let Some(hint) = no_progress(rt.alloc(), script, found)? {
+        say_repeated(rt, "may spin", &hint)?;
         for one in &hint.tasks {
-            let _ = say_lines(rt, name, places, script, *one);
+            say_lines(rt, name, places, script, *one)?;
         }
     }
+    Ok(())
 }

@@ -1,7 +1,7 @@
 //! What is said of runs by a schedule.
 
 use crate::output::{tell, write_out};
-use crate::places::{ScriptFile, say_method, say_run_places};
+use crate::places::{ScriptFile, method_text, methods_text};
 use crate::scheduled::{
     BrokenLine, ChosenRun, NoRun, SavedRun, ScheduledRun, chosen_run, saved_run,
 };
@@ -15,7 +15,7 @@ use explorer_files::{SavedChoice, SavedSchedule};
 use nuchapay_runs::Explained;
 use nuchapay_tool::{RunForm, SavedPlace, SavedWord, ScheduleChoice, TurnWord};
 use run_page::Heading;
-use std::alloc::AllocError;
+use std::alloc::{AllocError, Global};
 use std::fs;
 use swift_report::write_all;
 use swift_tool::ToolFault;
@@ -165,10 +165,7 @@ fn say_form(rt: &HostRuntime, file: ScriptFile<'_>, run: &ScheduledRun, form: Ru
     match form {
         RunForm::Report(quiet) => tell(rt, write_run(rt, run, run.text(alloc, quiet))),
         RunForm::Json(quiet) => tell(rt, write_run(rt, run, run.json(alloc, quiet))),
-        RunForm::Values => {
-            let status = tell(rt, write_run(rt, run, run.values(alloc)));
-            say_run_places(rt, file, status)
-        }
+        RunForm::Values => tell(rt, write_run(rt, run, values_text(alloc, file, run))),
         RunForm::Why(word) => say_why(rt, file, run, word),
         RunForm::Line => tell(rt, write_line(rt, run)),
         RunForm::Picture(format) => {
@@ -199,10 +196,7 @@ fn say_why(
 ) -> u8 {
     match run.why(rt.alloc(), word) {
         Ok(AskedTurn::Turn(_name, Explained::Found(said))) => {
-            match tell(rt, write_after(rt, run, &said)) {
-                0 => say_method(rt, file, &said, 0),
-                failed => failed,
-            }
+            tell(rt, write_after(rt, file, run, &said))
         }
         Ok(AskedTurn::Turn(name, found)) => say_explained(rt, file, name, found),
         Ok(AskedTurn::NoTask) => say_no_task(rt, word),
@@ -216,13 +210,34 @@ fn write_line(rt: &HostRuntime, run: &ScheduledRun) -> Result<bool, ToolFault> {
     write_out(rt, &line)
 }
 
-// Writes a text after the line of a run's schedule, and after what its dots mean, where it has some.
-fn write_after(rt: &HostRuntime, run: &ScheduledRun, text: &[u8]) -> Result<bool, ToolFault> {
-    write_line(rt, run)?;
+// Writes what explains a turn after the line of its run's schedule, and after what its dots mean, where it has some; behind it, from which
+// lines of a Swift file the turn's method is. Nothing before there is memory for all.
+fn write_after(
+    rt: &HostRuntime,
+    file: ScriptFile<'_>,
+    run: &ScheduledRun,
+    said: &[u8],
+) -> Result<bool, ToolFault> {
+    let line = run.given_line(rt.alloc())?;
+    let method = method_text(rt.alloc(), file, said)?;
+    write_out(rt, &line)?;
     if has_parted_turn(run.given_steps()) {
         write_out(rt, DOTS.as_bytes())?;
     }
-    write_out(rt, text)
+    write_out(rt, said)?;
+    write_out(rt, &method)
+}
+
+// What is said of the turns of a run, and behind it from which lines of a Swift file each method is.
+fn values_text(
+    alloc: Global,
+    file: ScriptFile<'_>,
+    run: &ScheduledRun,
+) -> Result<Vec<u8>, AllocError> {
+    let mut text = run.values(alloc)?;
+    let methods = methods_text(alloc, file)?;
+    text.extend_from_slice(&methods)?;
+    Ok(text)
 }
 
 // Writes what is said of a run. Whether each task ended with a value.

@@ -1,11 +1,10 @@
 //! What is said of a search.
 
 use crate::explore::{ExploreFault, SearchAnswer};
-use crate::output::tell;
-use crate::places::{ScriptFile, say_places};
+use crate::output::{tell, write_out};
+use crate::places::{ScriptFile, methods_text};
 use expectations::{Answer, Misread};
 use std::fs;
-use swift_report::write_all;
 use swift_tool::ToolFault;
 use swift_workers::RunFault;
 
@@ -13,7 +12,7 @@ use swift_workers::RunFault;
 /// of a comment, and 5 where no memory was left.
 ///
 /// What is to be kept goes into the file first, which is made, or cut to nothing where it is there; 4 where that fails. Where a script is
-/// given, it is told behind all else from which lines of a Swift file its methods are.
+/// given, it is told behind all else from which lines of a Swift file its methods are. Nothing is written before there is memory for all.
 pub fn say_explored(
     rt: &HostRuntime,
     save: Option<&str>,
@@ -21,37 +20,57 @@ pub fn say_explored(
     file: Option<ScriptFile<'_>>,
 ) -> u8 {
     match found {
-        Ok(
-            SearchAnswer {
-                answer,
-                text,
-                saved,
-            },
-        ) => {
-            if let (Some(path), Some(json)) = (save, saved) {
-                if let Err(error) = fs::write(rt, path, &json) {
-                    let _ = eprintln!(rt; "nuchapay: {path}: {error}");
-                    return 4;
-                }
-            }
-            match write_all(&mut rt.stdout(), &text) {
-                Ok(()) => match file {
-                    Some(file) => {
-                        say_limit(rt, file, answer);
-                        say_places(rt, file, answer.status())
-                    }
-                    None => answer.status(),
-                },
-                Err(device) => tell(rt, Err(ToolFault::from(device))),
+        Ok(said) => {
+            let methods = match file {
+                Some(file) => methods_text(rt.alloc(), file),
+                None => Ok(Vec::new(rt.alloc())),
+            };
+            match methods {
+                Ok(methods) => say_answer(rt, save, said, file, &methods),
+                Err(_) => say_no_memory(rt),
             }
         }
         Err(ExploreFault::Run(fault)) => tell(rt, Err(ToolFault::Run(fault))),
         Err(ExploreFault::Script(fault)) => tell(rt, Err(ToolFault::from(fault))),
         Err(ExploreFault::Misread(fault)) => say_misread(rt, fault),
-        Err(ExploreFault::Memory) => {
-            let _ = tell(rt, Err(ToolFault::Run(RunFault::Memory)));
-            Answer::Undecided.status()
+        Err(ExploreFault::Memory) => say_no_memory(rt),
+    }
+}
+
+// Says that a search decides nothing for want of memory. The status to end with.
+fn say_no_memory(rt: &HostRuntime) -> u8 {
+    let _ = tell(rt, Err(ToolFault::Run(RunFault::Memory)));
+    Answer::Undecided.status()
+}
+
+// Writes an answer, the lines of methods behind it. The status to end with.
+fn say_answer(
+    rt: &HostRuntime,
+    save: Option<&str>,
+    said: SearchAnswer,
+    file: Option<ScriptFile<'_>>,
+    methods: &[u8],
+) -> u8 {
+    let SearchAnswer {
+        answer,
+        text,
+        saved,
+    } = said;
+    if let (Some(path), Some(json)) = (save, saved) {
+        if let Err(error) = fs::write(rt, path, &json) {
+            let _ = eprintln!(rt; "nuchapay: {path}: {error}");
+            return 4;
         }
+    }
+    if let Err(fault) = write_out(rt, &text) {
+        return tell(rt, Err(fault));
+    }
+    if let Some(file) = file {
+        say_limit(rt, file, answer);
+    }
+    match write_out(rt, methods) {
+        Ok(_) => answer.status(),
+        Err(fault) => tell(rt, Err(fault)),
     }
 }
 

@@ -1,7 +1,7 @@
 //! What is said of a turn.
 
 use crate::output::{tell, write_out};
-use crate::places::{ScriptFile, say_method};
+use crate::places::{ScriptFile, method_text};
 use crate::values::AskedTurn;
 use nuchapay_runs::Explained;
 use nuchapay_tool::{TurnName, TurnWord};
@@ -38,10 +38,7 @@ pub fn say_explained(
 ) -> u8 {
     let TurnName { task, number } = name;
     match found {
-        Explained::Found(said) => match tell(rt, write_out(rt, &said)) {
-            0 => say_method(rt, file, &said, 0),
-            failed => failed,
-        },
+        Explained::Found(said) => tell(rt, write_turn(rt, file, &said)),
         Explained::Folded => {
             let _ = eprintln!(rt;
                 "nuchapay: t{task}.{number} was folded into a checkpoint, which keeps no fields of it"
@@ -53,4 +50,11 @@ pub fn say_explained(
             2
         }
     }
+}
+
+// Writes what explains a turn, and behind it from which lines of a Swift file its method is: nothing before there is memory for both.
+fn write_turn(rt: &HostRuntime, file: ScriptFile<'_>, said: &[u8]) -> Result<bool, ToolFault> {
+    let method = method_text(rt.alloc(), file, said)?;
+    write_out(rt, said)?;
+    write_out(rt, &method)
 }
