@@ -2,10 +2,11 @@
 use Rattle.std.proofs.Common.{◌≡◌, ℕ, zero, suc, ◌+◌, ◌-◌, ◌<◌, ◌≤◌, List, [], ◌++◌, append_assoc, append-nil, sym, ap, ◌∙◌, arith}
 use Rattle.explorer_differences.specs.Lines.{after_line, after_lines, first_differences, first_line, line_difference}
 
-one_more : (k n : ℕ) → k < n → suc (n - (k + 1)) ≡ n - k
+-- what is left where one is done, and where all are
+pub one_more : (k n : ℕ) → k < n → suc (n - (k + 1)) ≡ n - k
 one_more k n lt = omega (arith, lt)
 
-none_more : (k n : ℕ) → n ≤ k → zero ≡ n - k
+pub none_more : (k n : ℕ) → n ≤ k → zero ≡ n - k
 none_more k n le = omega (arith, le)
 
 -- one line more is passed over

@@ -5,6 +5,7 @@ use Rattle.swift_explorer.specs.declared.outcome.RunOutcome.{RunOutcome}
 use Rattle.swift_explorer.specs.FoundText.{ended_text, many_text, schedule_text}
 use Rattle.explorer_differences.specs.Words.{shared_words}
 use Rattle.explorer_differences.specs.Lines.{after_line, after_lines, lines_difference}
+use Rattle.explorer_differences.specs.Names.{names_difference, names_of}
 
 abbrev pub is_space : ℕ → Bool
 is_space b = b == 32
@@ -48,8 +49,9 @@ abbrev pub ends_difference : ScriptView → ℕ → ℕ → RunOutcome → RunOu
 ends_difference p a b o q = ended_difference a b (ended_text p o) (ended_text p q) (length o.endings.items) (length q.endings.items)
 
 -- In what outcomes a and b differ: where their schedules part, how tasks end, and the values of fields. Steps, tasks and fields are told as in
--- the list of outcomes.
+-- the list of outcomes. Below the steps stands what the tasks are called.
 abbrev pub difference_text : ScriptView → ℕ → ℕ → RunOutcome → RunOutcome → List ℕ
 difference_text p a b o q =
     steps_difference a b (schedule_text o.schedule.items) (schedule_text q.schedule.items)
+    ++ names_difference a b (names_of p o) (names_of p q)
     ++ ends_difference p a b o q

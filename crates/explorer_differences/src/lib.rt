@@ -3,6 +3,8 @@
 
 // Lines of two texts that differ.
 mod lines;
+// What tasks are called.
+mod names;
 // Steps of two schedules, and how tasks have ended.
 mod text;
 // Where two lines of words part.

@@ -5,6 +5,7 @@ ghost use Rattle.swift_explorer.specs.FoundText.{ended_text, schedule_text};
 ghost use Rattle.explorer_differences.specs.Difference.{agreement_text, difference_text, ended_difference, ends_difference, is_space, many_steps_text, shared_text, steps_difference, then_text};
 
 use crate::lines::{after_line, after_lines, back, front, put_lines, put_number};
+use crate::names::put_names;
 use crate::words::shared_words;
 use std::alloc::{AllocError, Global};
 use swift_explorer::{Move, RunOutcome, put_ended, put_many, schedule_text};
@@ -136,9 +137,10 @@ fn put_ends(
 }
 
 /// In what two outcomes of a script differ, which have these numbers in the list of a search (the format is our own): the steps that their
-/// schedules begin with, both of them, and how each goes on from there; then a line of each task that ends otherwise and of each field
-/// that has another value, with what each outcome has there. Steps and lines are as the list of a search has them; what is told alike is left out.
-/// Linear in the tasks and fields, and in the square of the schedules' steps.
+/// schedules begin with, both of them, and how each goes on from there; what the tasks are called; then a line of each task that ends
+/// otherwise and of each field that has another value, with what each outcome has there. Steps and lines are as the list of a search has
+/// them; what is told alike is left out. Linear in the fields, in the square of the schedules' steps, and in the square of the tasks, for
+/// each of their makers.
 ///
 /// # Errors
 ///
@@ -154,6 +156,7 @@ pub fn difference_text(
 {
     let mut out = Vec::new(alloc);
     put_schedules(alloc, &mut out, numbers, &first.schedule, &second.schedule)?;
+    put_names(alloc, &mut out, script, numbers, first, second)?;
     put_ends(alloc, &mut out, script, numbers, first, second)?;
     Ok(out)
 }

@@ -3,19 +3,32 @@ use Rattle.std.proofs.Common.{◌≡◌, ℕ, Option, Some, None, List, ◌++◌
 use Rattle.std.specs.Prelude.{IfSome}
 use Rattle.std.proofs.lemmas.List.{take-append-drop}
 use Rattle.swift_script.specs.Scripts.{ScriptView}
+use Rattle.swift_report.specs.declared.report.Report.{Report}
 use Rattle.swift_explorer.specs.declared.moves.Move.{Move}
 use Rattle.swift_explorer.specs.Completions.{IsWhole}
 use Rattle.explorer_progress.specs.declared.hint.NoProgress.{NoProgress}
-use Rattle.explorer_progress.specs.Hints.{Begins, IsHint}
+use Rattle.explorer_progress.specs.Hints.{IsHint, IsReportOf}
+use Rattle.explorer_progress.specs.HintsInside.{Begins, IsIn, IsOf}
 
 pub begins_take : (many : ℕ) (whole steps : List Move) → steps ≡ take many whole → Begins steps whole
 begins_take many whole steps is = (drop many whole, sym (take-append-drop many whole) ∙ ap (λ (xs : List Move). xs ++ drop many whole) (sym is))
 
-whole_begins : (script : ScriptView) (start whole : List Move) (hint : NoProgress) → IsWhole script start whole → Begins hint.schedule.items whole → IsHint script hint
-whole_begins script start whole hint is begins = (whole, record { rest = begins.0; begins = begins.1; log = is.log; done = is.done })
+-- a hint of a report is of the steps that make it
+pub of_report : (script : ScriptView) (whole : List Move) (report : Report) (found : Option NoProgress)
+    → IsReportOf script whole report → IfSome found (IsOf report whole) → IfSome found (IsIn script whole)
+of_report script whole report None is of = tt
+of_report script whole report (Some hint) is of = record { report = report; is = is; of = of }
+
+whole_begins : (script : ScriptView) (start whole : List Move) (hint : NoProgress) → IsWhole script start whole → IsIn script whole hint → IsHint script hint
+whole_begins script start whole hint done is = record {
+  whole = whole;
+  done = record { rest = is.of.begins.0; begins = is.of.begins.1; log = done.log; done = done.done };
+  report = is.report;
+  is = is.is;
+  endings = is.of.endings;
+}
 
 -- so it is of a hint that was found, if one was
-pub some_hint : (script : ScriptView) (start whole : List Move) (found : Option NoProgress)
-    → IsWhole script start whole → IfSome found (λ hint. Begins hint.schedule.items whole) → IfSome found (IsHint script)
-some_hint script start whole None is begins = tt
-some_hint script start whole (Some hint) is begins = whole_begins script start whole hint is begins
+pub some_hint : (script : ScriptView) (start whole : List Move) (found : Option NoProgress) → IsWhole script start whole → IfSome found (IsIn script whole) → IfSome found (IsHint script)
+some_hint script start whole None done is = tt
+some_hint script start whole (Some hint) done is = whole_begins script start whole hint done is

@@ -1,14 +1,23 @@
 -- What is promised of a hint (our own).
-use Rattle.std.specs.Prelude.{◌≡◌, List, ◌++◌}
+use Rattle.std.specs.Prelude.{◌≡◌, List}
 use Rattle.swift_script.specs.Scripts.{ScriptView}
+use Rattle.swift_history.specs.Histories.{IsLegal}
+use Rattle.swift_certificate.specs.Reports.{report_view}
+use Rattle.swift_report.specs.declared.report.Report.{Report}
 use Rattle.swift_explorer.specs.declared.moves.Move.{Move}
 use Rattle.swift_explorer.specs.Completions.{IsWhole}
+use Rattle.swift_explorer.specs.Outcomes.{IsLogOf}
 use Rattle.explorer_progress.specs.declared.hint.NoProgress.{NoProgress}
 
--- other steps begin with these
-abbrev pub Begins : List Move → List Move → Type 0
-Begins steps whole = (rest : List Move) × (whole ≡ steps ++ rest)
+-- A report is a legal one of a script, and its log is that of these steps.
+pub record IsReportOf (script : ScriptView) (steps : List Move) (report : Report) : Type 0 where
+  pub legal : IsLegal script (report_view report)
+  pub log : IsLogOf script steps report.log.events
 
--- The steps of its schedule can be done, and others after them.
-abbrev pub IsHint : ScriptView → NoProgress → Type 0
-IsHint script hint = (whole : List Move) × IsWhole script hint.schedule.items whole
+-- The steps of its schedule can be done, and others after them. Its endings are those of the run that all of these make.
+pub record IsHint (script : ScriptView) (hint : NoProgress) : Type 0 where
+  pub whole : List Move
+  pub done : IsWhole script hint.schedule.items whole
+  pub report : Report
+  pub is : IsReportOf script whole report
+  pub endings : hint.endings.items ≡ report.endings.items

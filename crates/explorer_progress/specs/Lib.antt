@@ -1,1 +1,3 @@
 pub mod Hints
+pub mod HintsInside
+pub mod HintText

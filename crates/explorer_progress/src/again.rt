@@ -1,5 +1,7 @@
 //! Whether one turn does what another one did.
 
+ghost use Rattle.std.specs.Prelude.{◌≡◌, IfOk};
+
 use crate::turns::TurnAt;
 use run_pictures::{Change, TurnValues, turn_values};
 use std::alloc::{AllocError, Global};
@@ -28,7 +30,9 @@ pub(crate) fn played(
     alloc: Global,
     script: &Script,
     report: Report,
-) -> Result<PlayedReport, AllocError> {
+) -> Result<PlayedReport, AllocError>
+    ensures { IfOk result (λ run. run.report ≡ report) }
+{
     let mut values = Vec::new(alloc);
     for executor in 0..report.journals.len() {
         let start = first_fields(&report.checkpoints, executor);

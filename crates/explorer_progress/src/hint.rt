@@ -2,17 +2,20 @@
 
 ghost use Rattle.std.specs.Prelude.{◌≡◌, IfOk, IfSome, length, min, take};
 ghost use Rattle.std.specs.Arc.{arc_value};
-ghost use Rattle.explorer_progress.specs.Hints.{Begins, IsHint};
+ghost use Rattle.explorer_progress.specs.Hints.{IsHint, IsReportOf};
+ghost use Rattle.explorer_progress.specs.HintsInside.{Begins, IsIn, IsOf};
 
 use crate::again::{PlayedReport, played};
 use crate::repeated::{Repeated, leaves_frames, repeated_before};
 use crate::turns::{TurnAt, turns_of};
 use std::alloc::{AllocError, Global};
 use std::sync::Arc;
+use swift_certificate::legal;
 use swift_events::Origin;
 use swift_explorer::{
     Completion, FoundOutcomes, Move, RunOutcome, complete_schedule, schedule_report,
 };
+use swift_report::Report;
 use swift_script::Script;
 use swift_types::{Ending, Fault, MethodId, TaskId};
 
@@ -36,6 +39,8 @@ pub struct NoProgress {
     pub turns: usize,
     /// The tasks, each one once.
     pub tasks: Vec<RepeatedTask>,
+    /// Where the tasks come from of a run that begins so, and how they end there.
+    pub endings: Vec<(Origin, Ending)>,
 }
 
 // Whether a task was ended since it had had all its turns.
@@ -100,13 +105,32 @@ fn steps_to(alloc: Global, schedule: &[Move], step: usize) -> Result<Vec<Move>, 
     Ok(steps)
 }
 
-// The report of a schedule, played, and its turns in order.
+// The report of a schedule, where it is legal.
+fn legal_report(
+    alloc: Global,
+    script: &Arc<Script>,
+    schedule: &[Move],
+) -> Result<Option<Report>, AllocError>
+    ensures { IfOk result (λ o. IfSome o (IsReportOf (arc_value script.now) schedule.now)) }
+{
+    let Some(report) = schedule_report(alloc, script, schedule)? else {
+        return Ok(None);
+    };
+    if !legal(alloc, script, &report)? {
+        return Ok(None);
+    }
+    Ok(Some(report))
+}
+
+// That, played, and its turns in order.
 fn run_of(
     alloc: Global,
     script: &Arc<Script>,
     schedule: &[Move],
-) -> Result<Option<(PlayedReport, Vec<TurnAt>)>, AllocError> {
-    let Some(report) = schedule_report(alloc, script, schedule)? else {
+) -> Result<Option<(PlayedReport, Vec<TurnAt>)>, AllocError>
+    ensures { IfOk result (λ o. IfSome o (λ run. IsReportOf (arc_value script.now) schedule.now run.0.report)) }
+{
+    let Some(report) = legal_report(alloc, script, schedule)? else {
         return Ok(None);
     };
     let Some(turns) = turns_of(alloc, schedule, &report)? else {
@@ -180,7 +204,7 @@ fn hint_of(
     end: usize,
     repeated: Repeated,
 ) -> Result<Option<NoProgress>, AllocError>
-    ensures { IfOk result (λ o. IfSome o (λ hint. Begins hint.schedule.items schedule.now)) }
+    ensures { IfOk result (λ o. IfSome o (IsOf run.now.report schedule.now)) }
 {
     let Repeated { from, period } = repeated;
     let round = from.saturating_add(period);
@@ -198,6 +222,7 @@ fn hint_of(
             schedule: steps_to(alloc, schedule, last.step)?,
             turns: period,
             tasks,
+            endings: Vec::from_slice(alloc, &run.report.endings)?,
         })),
         None => Ok(None),
     }
@@ -209,7 +234,7 @@ fn hint_in(
     script: &Arc<Script>,
     schedule: &[Move],
 ) -> Result<Option<NoProgress>, AllocError>
-    ensures { IfOk result (λ o. IfSome o (λ hint. Begins hint.schedule.items schedule.now)) }
+    ensures { IfOk result (λ o. IfSome o (IsIn (arc_value script.now) schedule.now)) }
 {
     let Some((run, turns)) = run_of(alloc, script, schedule)? else {
         return Ok(None);
@@ -220,7 +245,8 @@ fn hint_in(
     let Some(repeated) = repeated_before(alloc, &run, &turns, end)? else {
         return Ok(None);
     };
-    hint_of(alloc, &run, &turns, schedule, end, repeated)
+    let found = hint_of(alloc, &run, &turns, schedule, end, repeated)?;
+    Ok(found)
 }
 
 // What is said where a schedule is led to its end, with a turn of each task that is ready in a circle.
@@ -245,8 +271,8 @@ fn hint_after(
 /// schedule is led on, each time with the next task's turn; where that comes to a task that has had all its turns, and the turns before
 /// that repeat and change nothing else, it is said which.
 ///
-/// It is a hint: that the schedule can be done is promised, and that its last turns repeat is tested. It costs a run of up to 1,000 turns
-/// of each task, followed twice.
+/// It is a hint: that the schedule can be done and where its tasks come from is promised, and that its last turns repeat is tested. It
+/// costs a run of up to 1,000 turns of each task, followed thrice.
 ///
 /// # Errors
 ///

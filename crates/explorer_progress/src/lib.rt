@@ -7,7 +7,10 @@ mod again;
 mod hint;
 // Turns that repeat at the end of a run.
 mod repeated;
+// A hint in words.
+mod text;
 // The turns of a run, in the order of its schedule.
 mod turns;
 
 pub use hint::{NoProgress, RepeatedTask, no_progress};
+pub use text::{called_text, hint_text};
