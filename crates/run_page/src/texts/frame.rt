@@ -5,7 +5,7 @@ pub(crate) static HEAD: &str = "<!doctype html>
 <html lang=\"en\">
 <head>
 <meta charset=\"utf-8\">
-<meta http-equiv=\"Content-Security-Policy\" content=\"default-src 'none'; style-src 'sha256-Eo+BhDHXfn3fnJfRVuTcc51zenPgmXL320RfarCkknA='; script-src 'sha256-eN9f6nN5S2opRXv/6i4YZWiMg0q76JwleUQeXWn4moU='\">
+<meta http-equiv=\"Content-Security-Policy\" content=\"default-src 'none'; style-src 'sha256-mX15foqPw8YrC7doUENecf+ph1/yl7Y1DHPWCxh0uIw='; script-src 'sha256-zy8HAMxijh/HhnzCwfjm8aFaO89iMX/MGz+lFUgCtvk='\">
 <meta name=\"viewport\" content=\"width=device-width, initial-scale=1\">
 <title>A run</title>
 <style>";

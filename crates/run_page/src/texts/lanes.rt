@@ -16,7 +16,7 @@ const colour = (number) => `task c${number % 12}`;
 
 // Cells are turns that are shown, and runs of turns that are folded, in order.
 const PITCHES = [1, 2, 3, 5, 8, 12, 18, 28, 44, 72, 116, 150, 180];
-const GUTTER = 132;
+const GUTTER = window.innerWidth > 620 ? 132 : 96;
 const hidden = new Set();
 const opened = new Set();
 let zoom = PITCHES.length - 1;
@@ -159,7 +159,7 @@ function drawGutter(x, scroll) {
     const group = shape(\"g\", {}, shape(\"rect\", { class: \"gutter\", x, y: scroll, width: GUTTER - 8, height: 10000 }));
     report.journals.forEach((journal, executor) => {
         const y = executor * laneTall() + (isFull() ? 44 : 24);
-        group.append(words(fitting(journal.executor, 14), x + 10, y, \"name\"));
+        group.append(words(fitting(journal.executor, Math.floor((GUTTER - 20) / 7.9)), x + 10, y, \"name\"));
         const kind = journal.kind === \"pinned\" ? \"pinned \" + journal.pinned : journal.kind === \"priority\" ? \"by priority\" : journal.kind;
         const lines = isNamed() ? [counted(journal.turns, \"turn\")] : [];
         if (isFull()) lines.unshift(kind);

@@ -65,6 +65,7 @@ svg .name { font-size: 13px; font-weight: bold; }
 .cross { stroke: var(--bad); stroke-opacity: .35; stroke-width: 3; fill: none; }
 .folded rect { stroke: var(--faint); stroke-dasharray: 4 3; fill: var(--panel); }
 .turn.chosen rect { stroke: var(--ink); stroke-width: 3.2; }
+.small.chosen rect { stroke-width: 1; }
 .cursor { fill: var(--accent); opacity: .13; }
 .link-line { fill: none; stroke: var(--line); stroke-width: 1.4; }
 .spawn { stroke-width: 2.8; }
@@ -112,6 +113,7 @@ tr.taken s { color: var(--bad); }
     #folding { order: 5; }
 }
 @media (max-width: 620px) { main { grid-template-columns: minmax(0, 1fr); grid-template-rows: none; } #turn { grid-row: auto; } }
+@media screen and (max-width: 620px) { #legend { max-height: 101px; overflow: auto; } #why { max-height: 220px; } }
 @media print {
     @page { margin: 12mm; }
     body { padding: 0; }
