@@ -5,61 +5,10 @@ ghost use Rattle.nuchapay_tool.specs.Requests.{HasCrew, IsOnCrew};
 
 use crate::requests::{OutcomePair, Question, Request, RunForm, ScheduleChoice, SearchFormat};
 use crate::schedule_words::{saved_by, saved_pair};
-use crate::words::{Refused, file, flag, from, limit, named, number, option, source, with_arg};
+use crate::words::{Refused, conflict, source};
+use clap::ArgMatches;
 use clap::error::ErrorKind;
-use clap::{Arg, ArgAction, ArgMatches, Command, value_parser};
 use std::alloc::{AllocError, Global};
-
-// How what was found is written.
-fn format<'a>(alloc: Global) -> Arg<'a> {
-    let help = "Prints what was found as text, as JSON, or as a page for a browser";
-    option(alloc, "format", "FORMAT", help)
-        .value_parser(["text", "json", "html"].as_slice())
-        .default_value("text")
-}
-
-// Two outcomes.
-fn diff<'a>(alloc: Global) -> Arg<'a> {
-    let help = "Says in what outcomes K and L differ, and from where their schedules do";
-    option(alloc, "diff", "K", help)
-        .value_names(["K", "L"].as_slice())
-        .value_parser(value_parser!(u32).range(1..10_000_001))
-}
-
-/// The words of `explore`.
-pub(crate) fn explore_command<'a>(alloc: Global) -> Result<Command<'a>, AllocError> {
-    let words = named(
-        alloc,
-        "explore",
-        "Lists outcomes that some order of turns leads to, each with its schedule, and says whether each is as expected",
-        "Example: nuchapay explore --expect 'Account.balance == 0' examples/account.actors",
-    );
-    let words = with_arg(Ok(words), file(alloc));
-    let words = with_arg(words, limit(alloc));
-    let broken = "Prints the schedule to a turn that an invariant undoes, and nothing else";
-    let words = with_arg(words, flag(alloc, "broken", broken));
-    let schedule = "Runs the schedule of outcome K again, and prints the whole report";
-    let words = with_arg(words, number(alloc, "schedule", "K", schedule));
-    let words = with_arg(words, diff(alloc));
-    let expect = "Fails where EXPR, over Actor.field and the values of roots, is 0 in an outcome";
-    let words = with_arg(
-        words,
-        option(alloc, "expect", "EXPR", expect).action(ArgAction::Append),
-    );
-    let no_fault = "Fails where a root ends with a fault in an outcome";
-    let words = with_arg(words, flag(alloc, "no-fault", no_fault));
-    let words = with_arg(words, format(alloc));
-    let save = "Keeps what was found in FILE as JSON too, for --from";
-    let words = with_arg(words, option(alloc, "save", "FILE", save));
-    with_arg(words, from(alloc))
-}
-
-fn conflict(said: &'static str) -> Refused {
-    Refused {
-        kind: ErrorKind::ArgumentConflict,
-        said,
-    }
-}
 
 // What is expected of outcomes.
 fn expected<'a>(alloc: Global, found: &ArgMatches<'a>) -> Result<Vec<&'a str>, AllocError> {

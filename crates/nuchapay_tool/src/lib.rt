@@ -11,6 +11,8 @@ mod checks_json;
 mod colours;
 // What to write, where that helps.
 mod fixes;
+// The commands, and the words that each takes.
+mod commands;
 // A script from a device.
 mod input;
 // JSON that is being written.

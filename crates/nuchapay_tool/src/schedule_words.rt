@@ -4,7 +4,7 @@ ghost use Rattle.std.specs.Prelude.{IfOk};
 ghost use Rattle.nuchapay_tool.specs.Requests.{IsOnCrew};
 
 use crate::requests::{OutcomePair, Question, RunForm, SavedPlace, SavedWord, ScheduleChoice};
-use crate::words::Refused;
+use crate::words::{Refused, conflict};
 use clap::ArgMatches;
 use clap::error::ErrorKind;
 use clap::parser::ValueSource;
@@ -50,13 +50,6 @@ fn is_given(matches: &ArgMatches<'_>, argument: &str) -> bool {
         matches.value_source(argument),
         Some(ValueSource::CommandLine)
     )
-}
-
-fn conflict(said: &'static str) -> Refused {
-    Refused {
-        kind: ErrorKind::ArgumentConflict,
-        said,
-    }
 }
 
 /// By which schedule a run is to be made, if by one: as `--outcome`, `--schedule` or `--broken` says, of which there may be one, and beside

@@ -32,19 +32,24 @@ pub struct Fix {
 }
 
 impl Fix {
+    /// This text at a place, if there was memory for it.
+    pub(crate) fn at(
+        place: FixPlace,
+        text: Result<Vec<u8>, AllocError>,
+    ) -> Result<Option<Fix>, AllocError> {
+        match text {
+            Ok(text) => Ok(Some(Fix { place, text })),
+            Err(error) => Err(error),
+        }
+    }
+
     /// These bytes in the place of a token.
     pub(crate) fn over(
         alloc: Global,
         place: usize,
         bytes: &[u8],
     ) -> Result<Option<Fix>, AllocError> {
-        match Vec::from_slice(alloc, bytes) {
-            Ok(text) => Ok(Some(Fix {
-                place: FixPlace::Over(place, place),
-                text,
-            })),
-            Err(error) => Err(error),
-        }
+        Fix::at(FixPlace::Over(place, place), Vec::from_slice(alloc, bytes))
     }
 }
 

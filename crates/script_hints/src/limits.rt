@@ -143,7 +143,7 @@ pub fn false_invariant_hint(alloc: Global, blamed: Blamed<'_>) -> Result<Hint, A
     ensures { IfOk result (λ hint. HelpsInvariant hint.help.items) }
 {
     let from = actor_of(blamed.tokens, blamed.place).unwrap_or(0);
-    let Some(first) = (from..blamed.place).find(|at| is_used(blamed, *at)) else {
+    let Some(first) = first_used(blamed, from) else {
         let help = bytes(alloc, b"it names no field, and is never true");
         return Hint::of(alloc, help, None, Ok(None));
     };
@@ -178,6 +178,16 @@ fn said_starts(alloc: Global, blamed: Blamed<'_>, first: usize) -> Result<Vec<u8
         }
     }
     text.finish()
+}
+
+// The first field that the invariant names, from a place on.
+fn first_used(blamed: Blamed<'_>, from: usize) -> Option<usize> {
+    for at in from..blamed.place {
+        if is_used(blamed, at) {
+            return Some(at);
+        }
+    }
+    None
 }
 
 // Whether a field is declared at a place that the invariant names.

@@ -15,12 +15,12 @@ struct Kinds {
 }
 
 fn kinds_of(expected: &Expected) -> Kinds {
-    let is_expression = expected.has("(") && expected.has("1") && expected.has("x");
+    let is_number = expected.has("1");
     Kinds {
         is_statement: expected.has("let"),
-        is_expression,
+        is_expression: is_number && expected.has("(") && expected.has("x"),
         is_operator: expected.has("+"),
-        is_number: expected.has("1"),
+        is_number,
     }
 }
 
@@ -29,14 +29,20 @@ fn is_covered(kinds: Kinds, candidate: Candidate) -> bool {
     match candidate {
         Candidate::Name => kinds.is_statement || kinds.is_expression,
         Candidate::Number => true,
-        Candidate::Key(keyword) => {
-            (kinds.is_statement && begins_statement(keyword))
-                || (kinds.is_expression && is_atom(keyword))
-        }
-        Candidate::Sign(mark) => {
-            (kinds.is_operator && is_operator(mark))
-                || (kinds.is_number && (is_prefix(mark) || kinds.is_expression && is_open(mark)))
-        }
+        Candidate::Key(keyword) => is_key_covered(kinds, keyword),
+        Candidate::Sign(mark) => is_sign_covered(kinds, mark),
+    }
+}
+
+fn is_key_covered(kinds: Kinds, keyword: Keyword) -> bool {
+    (kinds.is_statement && begins_statement(keyword)) || (kinds.is_expression && is_atom(keyword))
+}
+
+fn is_sign_covered(kinds: Kinds, mark: Mark) -> bool {
+    match mark {
+        Mark::Minus => kinds.is_operator || kinds.is_number,
+        Mark::Open | Mark::Bang | Mark::At => kinds.is_expression,
+        _ => kinds.is_operator && is_operator(mark),
     }
 }
 
@@ -58,14 +64,6 @@ fn is_operator(mark: Mark) -> bool {
         Mark::Less | Mark::AtMost | Mark::Greater | Mark::AtLeast => true,
         _ => false,
     }
-}
-
-fn is_prefix(mark: Mark) -> bool {
-    matches!(mark, Mark::Minus)
-}
-
-fn is_open(mark: Mark) -> bool {
-    matches!(mark, Mark::Open | Mark::Bang | Mark::At)
 }
 
 // Words in a list, with commas between them, and `or` before the last one.
@@ -116,27 +114,35 @@ pub(crate) fn list_expected(
     expected: &Expected,
 ) -> Result<Vec<u8>, AllocError> {
     let kinds = kinds_of(expected);
-    let left = length_of(kinds, expected);
     let mut list = Listing {
         text: HintText::new(alloc),
-        left,
+        left: length_of(kinds, expected),
         is_begun: false,
     };
-    if left > 0 {
+    if list.left > 0 {
         list.text.say("expected ");
-        list.say(kinds.is_statement, statement_called(expected));
-        list.say(kinds.is_expression, "an expression");
-        list.say(kinds.is_number && !kinds.is_expression, "a number");
-        list.say(kinds.is_operator, operator_called(expected));
-        for candidate in &expected.candidates {
-            if !is_covered(kinds, *candidate) {
-                say_candidate(&mut list, *candidate, blamed);
-            }
-        }
+        say_kinds(&mut list, kinds, expected);
+        say_others(&mut list, kinds, expected, blamed);
         say_found(&mut list.text, blamed);
     }
-    let Listing { text, .. } = list;
-    text.finish()
+    list.text.finish()
+}
+
+// What many candidates at once are called.
+fn say_kinds(list: &mut Listing, kinds: Kinds, expected: &Expected) {
+    list.say(kinds.is_statement, statement_called(expected));
+    list.say(kinds.is_expression, "an expression");
+    list.say(kinds.is_number && !kinds.is_expression, "a number");
+    list.say(kinds.is_operator, operator_called(expected));
+}
+
+// All other candidates.
+fn say_others(list: &mut Listing, kinds: Kinds, expected: &Expected, blamed: Blamed<'_>) {
+    for candidate in &expected.candidates {
+        if !is_covered(kinds, *candidate) {
+            say_candidate(list, *candidate, blamed);
+        }
+    }
 }
 
 // What a statement is called: not all of them stand in a group or an `assume`.
@@ -172,10 +178,17 @@ fn name_called(blamed: Blamed<'_>) -> &'static str {
     };
     match blamed.tokens.get(before) {
         Some(Token::Key(keyword)) => name_after(*keyword),
-        Some(Token::Sign(Mark::Dot)) => "a method's name",
-        Some(Token::Sign(Mark::At)) => "a task local's name",
-        Some(Token::Sign(Mark::Open | Mark::Comma)) => "a parameter's name",
-        Some(Token::Sign(Mark::Assign)) => "an actor's name",
+        Some(Token::Sign(mark)) => name_behind(*mark),
+        _ => "a name",
+    }
+}
+
+fn name_behind(mark: Mark) -> &'static str {
+    match mark {
+        Mark::Dot => "a method's name",
+        Mark::At => "a task local's name",
+        Mark::Open | Mark::Comma => "a parameter's name",
+        Mark::Assign => "an actor's name",
         _ => "a name",
     }
 }
@@ -199,12 +212,20 @@ fn name_after(keyword: Keyword) -> &'static str {
 
 fn say_found(text: &mut HintText, blamed: Blamed<'_>) {
     match blamed.tokens.get(blamed.place) {
-        Some(Token::Key(_)) => text.say(", found the keyword "),
-        Some(Token::Name(_)) => text.say(", found the name "),
-        Some(Token::Num(_)) => text.say(", found the number "),
-        Some(Token::Huge) => text.say(", found a number that is too large, "),
-        Some(_) => text.say(", found "),
-        None => return text.say(", found the end of the text"),
+        Some(token) => {
+            text.say(found_called(token));
+            text.quote(blamed.found);
+        }
+        None => text.say(", found the end of the text"),
     }
-    text.quote(blamed.found);
+}
+
+fn found_called(token: &Token) -> &'static str {
+    match token {
+        Token::Key(_) => ", found the keyword ",
+        Token::Name(_) => ", found the name ",
+        Token::Num(_) => ", found the number ",
+        Token::Huge => ", found a number that is too large, ",
+        _ => ", found ",
+    }
 }

@@ -1,12 +1,12 @@
 //! Which mistake was made at a token.
 
-ghost use Rattle.std.specs.Prelude.{◌≡◌, ◌++◌, [], IfOk, IfSome, IsTrue, OnOk, Contains, false, map, slice_index_or};
+ghost use Rattle.std.specs.Prelude.{◌≡◌, ◌⊎◌, ◌++◌, [], IfOk, IfSome, IsTrue, OnOk, Contains, false, map, slice_index_or};
 ghost use Rattle.script_hints.specs.Helps.{IsFilled};
 ghost use Rattle.script_hints.specs.Mistakes.{Fits, FitsName, FitsToken, IsAround, IsOfClass, IsSomewhere, Meets, StandsAround, class_of};
 ghost use Rattle.script_hints.specs.Spelled.{filled, is_dollar, named, place_in, said};
 
 use crate::hint::{Fix, FixPlace, Note};
-use crate::text::{HintText, push_token};
+use crate::text::{HintText, bytes, push_token};
 use script_context::{
     Blamed, Declared, Expected, actor_end, actor_named, actor_of, braces_at, is_sign, last_key,
     name_at, named_as, next_sign, open_block, open_brace, open_parenthesis, word, word_at,
@@ -178,12 +178,18 @@ fn is_of_class(pattern: &str, token: &Token) -> bool
     ensures { IsTrue result → IsOfClass pattern.now token.now }
 {
     match token {
-        Token::Name(_) => pattern == "NAME" || pattern == "WORD",
-        Token::Key(_) => pattern == "KEYWORD" || pattern == "WORD",
+        Token::Name(_) => is_either(pattern, "NAME", "WORD"),
+        Token::Key(_) => is_either(pattern, "KEYWORD", "WORD"),
         Token::Num(_) | Token::Huge => pattern == "NUMBER",
         Token::Sign(mark) => pattern == class_of(*mark),
         Token::Stray => false,
     }
+}
+
+fn is_either(pattern: &str, one: &str, other: &str) -> bool
+    ensures { IsTrue result → (pattern.now ≡ one.now) ⊎ (pattern.now ≡ other.now) }
+{
+    pattern == one || pattern == other
 }
 
 fn class_of(mark: Mark) -> &'static str
@@ -240,32 +246,40 @@ fn is_this(blamed: Blamed<'_>, name: &[u8]) -> bool
 fn is_shown(shown: Shown, blamed: Blamed<'_>) -> bool {
     match shown {
         Shown::Nothing => true,
-        _ => note_of(shown, blamed).is_some(),
+        _ => place_of(shown, blamed).is_some(),
     }
 }
 
 /// The other token that is shown, with what is said of it.
 pub(crate) fn note_of(shown: Shown, blamed: Blamed<'_>) -> Option<Note> {
-    let (place, label) = match shown {
-        Shown::Nothing => (None, ""),
-        Shown::Before => (blamed.place.checked_sub(1), "add `;` after this"),
-        Shown::OpenBrace => (
-            open_brace(blamed.tokens, blamed.place),
-            "this brace is still open",
-        ),
-        Shown::OpenParenthesis => (
-            open_parenthesis(blamed.tokens, blamed.place),
-            "this parenthesis is still open",
-        ),
-        Shown::Invariant => (invariant_of(blamed), "the first invariant"),
-        Shown::Group => (
-            open_block(blamed.tokens, blamed.place, Keyword::Group),
-            "this group is still open",
-        ),
-    };
-    match place {
-        Some(place) => Some(Note { place, label }),
+    match place_of(shown, blamed) {
+        Some(place) => Some(Note {
+            place,
+            label: label_of(shown),
+        }),
         None => None,
+    }
+}
+
+fn place_of(shown: Shown, blamed: Blamed<'_>) -> Option<usize> {
+    match shown {
+        Shown::Nothing => None,
+        Shown::Before => blamed.place.checked_sub(1),
+        Shown::OpenBrace => open_brace(blamed.tokens, blamed.place),
+        Shown::OpenParenthesis => open_parenthesis(blamed.tokens, blamed.place),
+        Shown::Invariant => invariant_of(blamed),
+        Shown::Group => open_block(blamed.tokens, blamed.place, Keyword::Group),
+    }
+}
+
+fn label_of(shown: Shown) -> &'static str {
+    match shown {
+        Shown::Nothing => "",
+        Shown::Before => "add `;` after this",
+        Shown::OpenBrace => "this brace is still open",
+        Shown::OpenParenthesis => "this parenthesis is still open",
+        Shown::Invariant => "the first invariant",
+        Shown::Group => "this group is still open",
     }
 }
 
@@ -390,8 +404,7 @@ fn filled(
     words: &str,
     blamed: Blamed<'_>,
 ) -> Result<Option<Fix>, AllocError> {
-    let text = filled_text(alloc, words.as_bytes(), blamed)?;
-    Ok(Some(Fix { place, text }))
+    Fix::at(place, filled_text(alloc, words.as_bytes(), blamed))
 }
 
 // So many braces that `open` are open.
@@ -404,10 +417,7 @@ fn closing(alloc: Global, open: usize, blamed: Blamed<'_>) -> Result<Option<Fix>
     for _ in 0..many {
         text.say(" }");
     }
-    Ok(Some(Fix {
-        place: FixPlace::After(before),
-        text: text.finish()?,
-    }))
+    Fix::at(FixPlace::After(before), text.finish())
 }
 
 // The second of two invariants behind the first one. Where either has an `||`, the two mean something else without parentheses.
@@ -421,12 +431,7 @@ fn joined(alloc: Global, blamed: Blamed<'_>) -> Result<Option<Fix>, AllocError> 
     if has_or || next_sign(tokens, first, Mark::Semicolon) != before {
         return Ok(None);
     }
-    let mut text = HintText::new(alloc);
-    text.say(" &&");
-    Ok(Some(Fix {
-        place: FixPlace::Over(before, blamed.place),
-        text: text.finish()?,
-    }))
+    Fix::at(FixPlace::Over(before, blamed.place), bytes(alloc, b" &&"))
 }
 
 static NAMES: [&str; 4] = ["v", "value", "kept", "found"];
@@ -443,22 +448,34 @@ fn kept(alloc: Global, blamed: Blamed<'_>) -> Result<Option<Fix>, AllocError> {
     let (Some(name), Some(first)) = (new_name(tokens), blamed.place.checked_sub(1)) else {
         return Ok(None);
     };
+    let place = FixPlace::Over(first, end.saturating_sub(1));
+    Fix::at(place, kept_text(alloc, blamed, name, end))
+}
+
+// What is waited for, from the place to an end, kept under a name that is returned.
+fn kept_text(
+    alloc: Global,
+    blamed: Blamed<'_>,
+    name: &str,
+    end: usize,
+) -> Result<Vec<u8>, AllocError> {
     let mut text = HintText::new(alloc);
     text.say("let ");
     text.say(name);
     text.say(" = ");
+    say_tokens(&mut text, blamed, end);
+    text.say("; return ");
+    text.say(name);
+    text.finish()
+}
+
+fn say_tokens(text: &mut HintText, blamed: Blamed<'_>, end: usize) {
     for at in blamed.place..end {
-        if is_apart(tokens, at) && at != blamed.place {
+        if at != blamed.place && is_apart(blamed.tokens, at) {
             text.say(" ");
         }
         text.say_token(blamed, at);
     }
-    text.say("; return ");
-    text.say(name);
-    Ok(Some(Fix {
-        place: FixPlace::Over(first, end.saturating_sub(1)),
-        text: text.finish()?,
-    }))
 }
 
 // Whether a space is laid before a token.

@@ -7,15 +7,27 @@ mod twice;
 // Names that stand for nothing.
 mod unknown;
 
-ghost use Rattle.std.specs.Prelude.{◌≡◌, IfOk};
+ghost use Rattle.std.specs.Prelude.{◌≡◌, IfOk, IfSome};
+ghost use Rattle.script_context.specs.Declarations.{IsNamedAs};
 ghost use Rattle.script_hints.specs.Helps.{other_text};
 
 use crate::text::{joined, quoted};
 pub use confused::confused_hint;
-use script_context::{Declared, Wanted};
+use script_context::{Blamed, Declared, Wanted, declared_at, is_named};
 use std::alloc::{AllocError, Global};
 pub use twice::twice_hint;
 pub use unknown::unknown_hint;
+
+// What the name that is blamed is declared as at a place, if it is.
+fn declared_as(blamed: Blamed<'_>, place: usize) -> Option<Declared>
+    ensures { IfSome result (IsNamedAs blamed.entry.tokens.now place blamed.entry.found.now) }
+{
+    if is_named(blamed.tokens, place, blamed.found) {
+        declared_at(blamed.tokens, place)
+    } else {
+        None
+    }
+}
 
 // That a name is that of something else than is wanted.
 fn other_text(

@@ -68,19 +68,39 @@ fn waited_for(alloc: Global, blamed: Blamed<'_>) -> Result<Option<usize>, AllocE
         let Some(method) = reached.get(next) else {
             return Ok(None);
         };
-        let method = *method;
-        for at in method..method_end(tokens, method) {
-            if let Some(root) = later_root(blamed, at) {
-                return Ok(Some(root));
-            }
-            if let Some(other) = method_at(tokens, at)
-                && !reached.iter().any(|known| *known == other)
-            {
-                reached.push(other)?;
-            }
+        let found = waited_in(blamed, *method, &mut reached)?;
+        if found.is_some() {
+            return Ok(found);
         }
     }
     Ok(None)
+}
+
+// The same of a method's own statements. The methods that it calls are reached by then.
+fn waited_in(
+    blamed: Blamed<'_>,
+    method: usize,
+    reached: &mut Vec<usize>,
+) -> Result<Option<usize>, AllocError>
+    ensures { IfOk result (λ found. IfSome found (IsRoot blamed.entry)) }
+{
+    for at in method..method_end(blamed.tokens, method) {
+        if let Some(root) = later_root(blamed, at) {
+            return Ok(Some(root));
+        }
+        if let Some(other) = method_at(blamed.tokens, at) {
+            reach(reached, other)?;
+        }
+    }
+    Ok(None)
+}
+
+fn reach(reached: &mut Vec<usize>, method: usize) -> Result<(), AllocError> {
+    if reached.iter().any(|known| *known == method) {
+        return Ok(());
+    }
+    reached.push(method)?;
+    Ok(())
 }
 
 // Where a method is declared whose call stands at a place: `A.f(`.

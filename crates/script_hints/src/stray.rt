@@ -100,36 +100,41 @@ fn digits_of(code: u32, width: usize) -> u32 {
 
 // The character at the front, and how many bytes it has; a byte that begins none by itself.
 fn character(bytes: &[u8]) -> (u32, usize) {
-    match bytes {
-        [first @ 0xC2..=0xDF, second @ 0x80..=0xBF, ..] => {
-            (u32::from(*first & 0x1F) << 6 | six(*second), 2)
-        }
-        [
-            first @ 0xE0..=0xEF,
-            second @ 0x80..=0xBF,
-            third @ 0x80..=0xBF,
-            ..
-        ] => (
-            u32::from(*first & 0x0F) << 12 | six(*second) << 6 | six(*third),
-            3,
-        ),
-        [
-            first @ 0xF0..=0xF4,
-            second @ 0x80..=0xBF,
-            third @ 0x80..=0xBF,
-            fourth @ 0x80..=0xBF,
-            ..
-        ] => (
-            u32::from(*first & 0x07) << 18 | six(*second) << 12 | six(*third) << 6 | six(*fourth),
-            4,
-        ),
-        [first, ..] => (u32::from(*first), 1),
-        [] => (0, 1),
+    let Some(first) = bytes.first() else {
+        return (0, 1);
+    };
+    let (bits, more) = bits_of(*first);
+    match followed(bytes, bits, more) {
+        Some(code) => (code, more.saturating_add(1)),
+        None => (u32::from(*first), 1),
     }
 }
 
-fn six(byte: u8) -> u32 {
-    u32::from(byte & 0x3F)
+// What the first byte of a character has of its number, and how many bytes follow; none follow one that begins no character.
+fn bits_of(first: u8) -> (u32, usize) {
+    match first {
+        0xC2..=0xDF => (u32::from(first & 0x1F), 1),
+        0xE0..=0xEF => (u32::from(first & 0x0F), 2),
+        0xF0..=0xF4 => (u32::from(first & 0x07), 3),
+        _ => (u32::from(first), 0),
+    }
+}
+
+// The number of a character, by what its first byte has of it; nothing where too few bytes follow that go on with one.
+fn followed(bytes: &[u8], bits: u32, more: usize) -> Option<u32> {
+    let mut code = bits;
+    for place in 0..more {
+        code = code << 6 | six(bytes, place + 1)?;
+    }
+    Some(code)
+}
+
+// What a byte has of the number of a character that it goes on with.
+fn six(bytes: &[u8], place: usize) -> Option<u32> {
+    match bytes.get(place) {
+        Some(byte @ 0x80..=0xBF) => Some(u32::from(*byte & 0x3F)),
+        _ => None,
+    }
 }
 
 static DIGITS: [u8; 16] = *b"0123456789ABCDEF";

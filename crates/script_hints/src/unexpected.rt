@@ -46,19 +46,8 @@ fn with_expected(
 ) -> Result<Hint, AllocError>
     ensures { IfOk result (λ told. told.help.items ≡ hint.help.items) }
 {
-    let said = list_expected(alloc, blamed, expected)?;
-    let Hint {
-        help,
-        note,
-        fix,
-        ..
-    } = hint;
-    Ok(Hint {
-        expected: said,
-        help,
-        note,
-        fix,
-    })
+    let expected = list_expected(alloc, blamed, expected)?;
+    Ok(Hint { expected, ..hint })
 }
 
 fn of_mistake(alloc: Global, blamed: Blamed<'_>, made: Made) -> Result<Hint, AllocError>

@@ -6,9 +6,9 @@ ghost use Rattle.script_context.specs.Declarations.{IsNamedAs, called};
 ghost use Rattle.script_hints.specs.Helps.{HelpsConfused, quoted, value_text};
 
 use crate::hint::{Fix, Hint, Note};
-use crate::names::other_text;
+use crate::names::{declared_as, other_text};
 use crate::text::{joined, quoted};
-use script_context::{Blamed, Declared, Wanted, could_stand, declared_at, is_named, wanted_at};
+use script_context::{Blamed, Declared, Wanted, could_stand, wanted_at};
 use std::alloc::{AllocError, Global};
 
 /// What helps where a name stands for something else than is wanted: what it is, and what it takes.
@@ -104,15 +104,18 @@ fn other_wait(
 fn meaning_of(blamed: Blamed<'_>) -> Option<(usize, Declared)>
     ensures { IfSome result (λ found. IsNamedAs blamed.entry.tokens.now found.0 blamed.entry.found.now found.1) }
 {
-    let tokens = blamed.tokens;
     for at in (0..blamed.place).rev() {
-        if is_named(tokens, at, blamed.found)
-            && let Some(kind) = declared_at(tokens, at)
-            && (kind == Declared::Field || kind.is_inner())
-            && could_stand(tokens, at, kind, blamed.place)
+        if let Some(kind) = declared_as(blamed, at)
+            && could_mean(blamed, at, kind)
         {
             return Some((at, kind));
         }
     }
     None
+}
+
+// Whether a field or a name of a method that is declared at a place could stand at the one that is blamed.
+fn could_mean(blamed: Blamed<'_>, place: usize, kind: Declared) -> bool {
+    (kind == Declared::Field || kind.is_inner())
+        && could_stand(blamed.tokens, place, kind, blamed.place)
 }

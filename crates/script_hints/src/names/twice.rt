@@ -1,15 +1,16 @@
 //! Names that are taken.
 
-ghost use Rattle.std.specs.Prelude.{◌≡◌, ◌∷◌, [], IfOk, IfSome, codes};
+ghost use Rattle.std.specs.Prelude.{◌≡◌, ◌∷◌, [], IfOk, IfSome, IsTrue, codes};
 ghost use Rattle.script_context.specs.Declarations.{IsNamedAs, called};
 ghost use Rattle.std.specs.List.{concat};
 ghost use Rattle.script_hints.specs.Helps.{HelpsTwice, IsShared, quoted, taken_text};
 
 use crate::hint::{Hint, Note};
+use crate::names::declared_as;
 use crate::text::{joined, quoted};
 use script_context::{
-    Blamed, Declared, actor_end, actor_named, actor_of, declared_at, is_key, is_named, is_seen,
-    last_key, name_at, named_as, still_stands,
+    Blamed, Declared, actor_end, actor_named, actor_of, declared_at, is_key, is_seen, last_key,
+    name_at, named_as, still_stands,
 };
 use script_tokens::{Keyword, Token};
 use std::alloc::{AllocError, Global};
@@ -114,8 +115,7 @@ fn first_of(blamed: Blamed<'_>) -> Option<(usize, Declared)>
     let tokens = blamed.tokens;
     let kind = declared_at(tokens, blamed.place)?;
     for at in 0..blamed.place {
-        if is_named(tokens, at, blamed.found)
-            && let Some(other) = declared_at(tokens, at)
+        if let Some(other) = declared_as(blamed, at)
             && is_one_space(tokens, at, other, blamed.place, kind)
         {
             return Some((at, other));
@@ -148,18 +148,34 @@ fn is_one_space(
 fn field_taken(blamed: Blamed<'_>) -> Option<usize>
     ensures { IfSome result (IsShared blamed.entry) }
 {
-    let tokens = blamed.tokens;
-    let actor = actor_named(tokens, blamed.found)?;
-    let end = actor_end(tokens, actor);
-    let from = last_key(tokens, blamed.place, Keyword::Func)?.saturating_add(1);
+    let actor = actor_named(blamed.tokens, blamed.found)?;
+    let from = last_key(blamed.tokens, blamed.place, Keyword::Func)?.saturating_add(1);
     for at in from..blamed.place {
-        if let Some(kind) = declared_at(tokens, at)
-            && still_stands(tokens, at, kind, blamed.place)
-            && let Some(name) = name_at(tokens, at)
-            && named_as(tokens, actor, end, name, Declared::Field).is_some()
-        {
+        if still_declared(blamed, at) && is_shared(blamed, actor, at) {
             return Some(at);
         }
     }
     None
+}
+
+// Whether what is declared at a place still stands at the one that is blamed.
+fn still_declared(blamed: Blamed<'_>, place: usize) -> bool {
+    match declared_at(blamed.tokens, place) {
+        Some(kind) => still_stands(blamed.tokens, place, kind, blamed.place),
+        None => false,
+    }
+}
+
+// Whether the name at a place is that of a field of an actor.
+fn is_shared(blamed: Blamed<'_>, actor: usize, place: usize) -> bool
+    ensures { IsTrue result → IsShared blamed.entry place }
+{
+    let tokens = blamed.tokens;
+    match name_at(tokens, place) {
+        Some(name) => {
+            let end = actor_end(tokens, actor);
+            named_as(tokens, actor, end, name, Declared::Field).is_some()
+        }
+        None => false,
+    }
 }

@@ -6,11 +6,10 @@ ghost use Rattle.script_context.specs.Declarations.{IsDeclared, IsNamedAs};
 ghost use Rattle.script_hints.specs.Helps.{HelpsUnknown, apart_words, late_text, local_text, near_text, quoted, root_text, undeclared_text};
 
 use crate::hint::{Fix, FixPlace, Hint, Note};
-use crate::names::other_text;
+use crate::names::{declared_as, other_text};
 use crate::text::{bytes, joined, quoted};
 use script_context::{
-    Blamed, Declared, Wanted, actor_of, declared_at, is_in_its_let, is_named, name_at, nearest,
-    wanted_at,
+    Blamed, Declared, Wanted, actor_of, is_in_its_let, name_at, nearest, wanted_at,
 };
 use std::alloc::{AllocError, Global};
 
@@ -89,9 +88,7 @@ fn elsewhere(blamed: Blamed<'_>, wanted: Wanted) -> Option<(usize, Declared)>
 {
     let mut other = None;
     for at in 0..blamed.tokens.len() {
-        if is_named(blamed.tokens, at, blamed.found)
-            && let Some(kind) = declared_at(blamed.tokens, at)
-        {
+        if let Some(kind) = declared_as(blamed, at) {
             if wanted.takes(kind) {
                 return Some((at, kind));
             }
@@ -136,13 +133,8 @@ fn read_local(alloc: Global, blamed: Blamed<'_>, note: Option<Note>) -> Result<H
     ensures { IfOk result (λ hint. hint.help.items ≡ local_text blamed.entry.found.now) }
 {
     let parts: [&[u8]; 2] = [b"@", blamed.found];
-    let fix = match joined(alloc, &parts) {
-        Ok(text) => Ok(Some(Fix {
-            place: FixPlace::Over(blamed.place, blamed.place),
-            text,
-        })),
-        Err(error) => Err(error),
-    };
+    let place = FixPlace::Over(blamed.place, blamed.place);
+    let fix = Fix::at(place, joined(alloc, &parts));
     Hint::of(alloc, local_text(alloc, blamed.found), note, fix)
 }
 
