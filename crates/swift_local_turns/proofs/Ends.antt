@@ -1,31 +1,8 @@
 -- The end of a turn on two such logs.
-use Rattle.std.proofs.Common.{◌≡◌, ℕ, ◌+◌, List, [], ◌∷◌, ◌++◌, length, replicate, refl, sym, ◌∙◌, ap, ap₂, subst₂, Bool, true, false, append_assoc, append-nil}
-use Rattle.std.specs.Prelude.{Option, Some, None, ◌&&◌, ◌==◌, not, nat_lt, is_some, if◌then◌else◌, unwrap_or, slice_get}
-use Rattle.swift_types.specs.declared.id.TaskId.{TaskId}
-use Rattle.swift_types.specs.declared.outcome.Ending.{Ending}
-use Rattle.swift_types.specs.declared.outcome.Resume.{Resume}
-use Rattle.swift_types.specs.declared.priority.Priority.{Priority}
-use Rattle.swift_types.specs.declared.priority.Priority.TheVariants.{Background}
+use Rattle.swift_local_turns.proofs.Prelude.{◌≡◌, ℕ, ◌+◌, List, [], ◌∷◌, ◌++◌, length, replicate, refl, sym, ◌∙◌, ap, ap₂, subst₂, Bool, true, false, append_assoc, append-nil, Option, Some, None, ◌&&◌, ◌==◌, not, nat_lt, is_some, if◌then◌else◌, unwrap_or, slice_get, TaskId, Ending, Resume, Priority, Background, next_of, close_of, ScriptView, root_count, EffectView, spawning, detaching, opening, adding, cancelling_task, cancelling_group, ExitView, calling, waiting, asking_next, closing, yielding, returning, failing, Step, Run, Ended, Await, TaskView, Advanced, Event, Apply, Free, Open, Child, Skip, CancelTask, Origin, JobStage, Given, Begun, Applied, Waits, Asks, Closes, life_of, waiters_of, parent_of, Counters, counters, can_name, can_use, can_run, fits_effect, counted, fits_exit, fits_turn, JobFacts, WaitingTaskView, AfterTurn, task, first_job, named_task, is_left_out, cancel_events, effect_events, effect_jobs, log_after, jobs_made, next_events, wait_events, exit_events, wait_resume, next_resume, close_resume, exit_resume, gives, wake_each, wake_closing, wake_owner, wake_parent, wake_all, followed, resume_of, stage_of, waits_at, AnswerAlike, EndsAlike}
 use Rattle.swift_groups.specs.Groups.{GroupView}
-use Rattle.swift_groups.specs.Next.{next_of}
-use Rattle.swift_groups.specs.Close.{close_of}
-use Rattle.swift_script.specs.Scripts.{ScriptView, root_count}
 use Rattle.swift_interpreter.specs.declared.effect.TaskName.{TaskName}
 use Rattle.swift_interpreter.specs.declared.effect.TaskName.TheVariants.{Root as RootName, Own}
-use Rattle.swift_interpreter.specs.Turn.{EffectView, spawning, detaching, opening, adding, cancelling_task, cancelling_group, ExitView, calling, waiting, asking_next, closing, yielding, returning, failing}
-use Rattle.swift_turn.specs.declared.step.Step.{Step}
-use Rattle.swift_turn.specs.declared.step.Step.TheVariants.{Run, Ended, Await}
-use Rattle.swift_turn.specs.Body.{TaskView, Advanced}
-use Rattle.swift_events.specs.declared.event.Event.{Event}
-use Rattle.swift_events.specs.declared.event.Event.TheVariants.{Apply, Free, Open, Child, Skip, CancelTask}
-use Rattle.swift_events.specs.declared.life.Origin.{Origin}
-use Rattle.swift_events.specs.declared.life.JobStage.{JobStage}
-use Rattle.swift_events.specs.declared.life.JobStage.TheVariants.{Given, Begun, Applied, Waits, Asks, Closes}
-use Rattle.swift_events.specs.Lives.{life_of}
-use Rattle.swift_events.specs.Relations.{waiters_of, parent_of}
-use Rattle.swift_history.specs.Checks.{Counters, counters, can_name, can_use, can_run, fits_effect, counted, fits_exit, fits_turn}
-use Rattle.swift_history.specs.TurnEnds.{JobFacts, WaitingTaskView, AfterTurn, task, first_job, named_task, is_left_out, cancel_events, effect_events, effect_jobs, log_after, jobs_made, next_events, wait_events, exit_events, wait_resume, next_resume, close_resume, exit_resume, gives, wake_each, wake_closing, wake_owner, wake_parent, wake_all, followed, resume_of}
-use Rattle.swift_local_turns.specs.Answers.{stage_of, waits_at, AnswerAlike, EndsAlike}
 use Rattle.swift_local_turns.proofs.Alike.{Alike, alike_more, answers}
 
 -- two logs that go on by the same events

@@ -1,16 +1,5 @@
 -- A task that has a job or waits was made and has not ended: what one more event leaves of that.
-use Rattle.std.proofs.Common.{◌≡◌, ◌≢◌, ◌⊎◌, ℕ, zero, suc, ◌<◌, ◌≤◌, List, [], ◌∷◌, ◌++◌, length, replicate, refl, sym, ◌∙◌, ap, subst, inl, inr, append_assoc, append-nil, arith, get_or-set_other}
-use Rattle.std.specs.Prelude.{Option, Some, None, slice_index_or, slice_set}
-use Rattle.std.specs.List.{AllByRecursion}
-use Rattle.std.proofs.lemmas.Bool.{cases_Bool, cases_eq, cases_lt}
-use Rattle.swift_types.specs.declared.outcome.Ending.{Ending}
-use Rattle.swift_events.specs.declared.event.Event.{Event}
-use Rattle.swift_events.specs.declared.life.Life.{Life}
-use Rattle.swift_events.specs.declared.life.Origin.{Origin}
-use Rattle.swift_events.specs.Events.{task_of, is_made, tasks_of, later}
-use Rattle.swift_events.specs.Lives.{life_of, origin_in, ending_in}
-use Rattle.swift_events.proofs.LogLemmas.{life_of-push_same, life_of-push_other, tasks_of-push_made, tasks_of-push_other}
-use Rattle.swift_history.specs.TurnEnds.{WaitingTaskView}
+use Rattle.swift_local_turns.proofs.Prelude.{◌≡◌, ◌≢◌, ◌⊎◌, ℕ, zero, suc, ◌<◌, ◌≤◌, List, [], ◌∷◌, ◌++◌, length, replicate, refl, sym, ◌∙◌, ap, subst, inl, inr, append_assoc, append-nil, arith, get_or-set_other, Option, Some, None, slice_index_or, slice_set, AllByRecursion, cases_Bool, cases_eq, cases_lt, Ending, Event, Life, Origin, task_of, is_made, tasks_of, later, life_of, origin_in, ending_in, life_of-push_same, life_of-push_other, tasks_of-push_made, tasks_of-push_other, WaitingTaskView}
 
 -- options and lists
 

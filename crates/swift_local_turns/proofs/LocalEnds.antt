@@ -1,22 +1,9 @@
 -- The end of a local turn.
-use Rattle.std.proofs.Common.{◌≡◌, ℕ, ℤ, ◌+◌, List, [], ◌∷◌, ◌++◌, length, refl, ◌∙◌, ap, Bool, true, false, append_assoc, append-nil}
-use Rattle.std.specs.Prelude.{Option, nat_lt, if◌then◌else◌}
-use Rattle.std.proofs.lemmas.Bool.{false≢true}
+use Rattle.swift_local_turns.proofs.Prelude.{◌≡◌, ℕ, ℤ, ◌+◌, List, [], ◌∷◌, ◌++◌, length, refl, ◌∙◌, ap, Bool, true, false, append_assoc, append-nil, Option, nat_lt, if◌then◌else◌, false≢true, FRAMES, Resume, Priority, ScriptView, FrameView, InvocationView, EffectView, ExitView, calling, waiting, asking_next, closing, yielding, returning, failing, Run, TaskView, Advanced, runs, advanced, Event, Apply, Give, WaitingTaskView, task, resume_at, turn_end, is_local, IsLocalEnd, LocalTurnsEnd}
 use Rattle.swift_types.specs.declared.id.ActorId.{ActorId}
-use Rattle.swift_types.specs.declared.limits.TheConstants.{FRAMES}
-use Rattle.swift_types.specs.declared.outcome.Resume.{Resume}
 use Rattle.swift_types.specs.declared.outcome.Resume.TheVariants.{Start, Fault as Raise}
 use Rattle.swift_types.specs.declared.outcome.Fault.TheVariants.{Depth}
-use Rattle.swift_types.specs.declared.priority.Priority.{Priority}
-use Rattle.swift_script.specs.Scripts.{ScriptView}
-use Rattle.swift_interpreter.specs.Frames.{FrameView}
-use Rattle.swift_interpreter.specs.Turn.{InvocationView, EffectView, ExitView, calling, waiting, asking_next, closing, yielding, returning, failing}
-use Rattle.swift_turn.specs.declared.step.Step.TheVariants.{Run}
-use Rattle.swift_turn.specs.Body.{TaskView, Advanced, opening, runs, advanced}
-use Rattle.swift_events.specs.declared.event.Event.{Event}
-use Rattle.swift_events.specs.declared.event.Event.TheVariants.{Apply, Give}
-use Rattle.swift_history.specs.TurnEnds.{WaitingTaskView, task, resume_at, turn_end}
-use Rattle.swift_local_turns.specs.LocalTurns.{is_local, IsLocalEnd, LocalTurnsEnd}
+use Rattle.swift_turn.specs.Body.{opening}
 
 module _ (script : ScriptView) (log : List Event) (held : List (Option WaitingTaskView)) (t n : ℕ) (own : Priority) where
   abbrev Ends : ExitView → Advanced → Type 0

@@ -1,46 +1,32 @@
 -- Logs that are put together of pieces.
-use Rattle.std.proofs.Common.{◌≡◌, ℕ, suc, List, [], ◌∷◌, ◌++◌, length, refl, sym, ◌∙◌, ap, ap₂, subst, arith, append_assoc, append-nil}
-use Rattle.std.specs.Prelude.{Option, Some, min, ◌-◌, slice_get, sum_by, map}
-use Rattle.std.specs.List.{range_with_len}
+use Rattle.swift_local_turns.proofs.Prelude.{◌≡◌, ℕ, suc, List, [], ◌∷◌, ◌++◌, length, refl, sym, ◌∙◌, ap, ap₂, subst, arith, append_assoc, append-nil, Option, Some, min, ◌-◌, slice_get, sum_by, range_with_len, TaskId, Env, TASKS, MADE, IsPriority, ScriptView, root_count, Event, Life, events_of, tasks_of, life, life_of, room_held, reserved_of, room_of, IsEnv, Block, Standing, at_first, after_block, after_blocks, without_jobs, written, shared_log, waits_at, AnswerAlike, EnvsByShared, all_written, Piece, IsPieceOf, joined, MergesAreTheLog, JobEventsMayLieAnywhere}
+use Rattle.std.specs.Prelude.{map}
 use Rattle.std.proofs.Math.Path.{fun_ext}
-use Rattle.swift_types.specs.declared.id.TaskId.{TaskId}
-use Rattle.swift_types.specs.declared.env.Env.{Env}
-use Rattle.swift_types.specs.declared.limits.TheConstants.{TASKS, MADE}
 use Rattle.swift_escalation.specs.declared.waits.PriorityEvent.{PriorityEvent as Link}
-use Rattle.swift_escalation.specs.Waits.{IsPriority}
-use Rattle.swift_script.specs.Scripts.{ScriptView, root_count}
-use Rattle.swift_events.specs.declared.event.Event.{Event}
-use Rattle.swift_events.specs.declared.life.Life.{Life}
-use Rattle.swift_events.specs.Events.{events_of, tasks_of}
-use Rattle.swift_events.specs.Lives.{life, life_of, room_held}
-use Rattle.swift_events.specs.Room.{lives_of, reserved_of, room_of, IsEnv}
-use Rattle.swift_history.specs.Histories.{Block, Standing, at_first, after_block, after_blocks}
-use Rattle.swift_local_turns.specs.LocalTurns.{without_jobs, written, shared_log}
-use Rattle.swift_local_turns.specs.Answers.{waits_at, AnswerAlike, EnvsByShared}
-use Rattle.swift_local_turns.specs.Merges.{all_written, Piece, IsPieceOf, joined, MergesAreTheLog, JobEventsMayLieAnywhere}
+use Rattle.swift_events.specs.Room.{lives_of}
 use Rattle.swift_local_turns.proofs.Alike.{answers}
 use Rattle.swift_local_turns.proofs.Shared.{written_is, shared_alike}
 
 -- by stamps
 
-same_list : {A : Type 0} (xs ys : List A) → length xs ≡ length ys → ((k : ℕ) (x y : A) → slice_get xs k ≡ Some x → slice_get ys k ≡ Some y → x ≡ y) → xs ≡ ys
+pub same_list : {A : Type 0} (xs ys : List A) → length xs ≡ length ys → ((k : ℕ) (x y : A) → slice_get xs k ≡ Some x → slice_get ys k ≡ Some y → x ≡ y) → xs ≡ ys
 same_list [] [] long each = refl
 same_list [] (y ∷ ys) long each = absurd (omega (arith, long))
 same_list (x ∷ xs) [] long each = absurd (omega (arith, long))
 same_list (x ∷ xs) (y ∷ ys) long each = ap₂ (λ a rest. a ∷ rest) (each 0 x y refl refl) (same_list xs ys (omega (arith, long)) (λ k. each (suc k)))
 
-long_written : (script : ScriptView) (s : Standing) (bs : List Block) → length (all_written script s bs) ≡ length bs
+pub long_written : (script : ScriptView) (s : Standing) (bs : List Block) → length (all_written script s bs) ≡ length bs
 long_written script s [] = refl
 long_written script s (b ∷ bs) = ap suc (long_written script (after_block script s b) bs)
 
-joined_is : (script : ScriptView) (bs : List Block) (s : Standing) → s.log ++ joined (all_written script s bs) ≡ (after_blocks script s bs).log
+pub joined_is : (script : ScriptView) (bs : List Block) (s : Standing) → s.log ++ joined (all_written script s bs) ≡ (after_blocks script s bs).log
 joined_is script [] s = append-nil s.log
 joined_is script (b ∷ bs) s =
     sym (append_assoc s.log (written script s b) (joined (all_written script (after_block script s b) bs)))
     ∙ ap (λ (l : List Event). l ++ joined (all_written script (after_block script s b) bs)) (sym (written_is script s b))
     ∙ joined_is script bs (after_block script s b)
 
-same_some : {A : Type 0} (x y : A) (o : Option A) → o ≡ Some x → o ≡ Some y → x ≡ y
+pub same_some : {A : Type 0} (x y : A) (o : Option A) → o ≡ Some x → o ≡ Some y → x ≡ y
 same_some x y o p q = let is : Some x ≡ Some y = sym p ∙ q in cc is
 
 pub merged_is : MergesAreTheLog

@@ -1,44 +1,13 @@
 -- In each history a task that has a job, or waits, was made and has not ended.
-use Rattle.std.proofs.Common.{◌≡◌, ◌≢◌, ◌⊎◌, ℕ, ℤ, ◌+◌, ◌<◌, ◌≤◌, List, [], ◌∷◌, ◌++◌, length, replicate, length-append, refl, sym, ◌∙◌, ap, subst, subst₂, Bool, true, false, inl, inr, append_assoc, append-nil, arith, length-set}
-use Rattle.std.specs.Prelude.{Option, Some, None, ◌==◌, ◌&&◌, is_some, is_none, if◌then◌else◌, unwrap_or, slice_set}
-use Rattle.std.specs.List.{AllByRecursion}
-use Rattle.std.proofs.lemmas.Bool.{cases_Bool, cases_eq, cond-true, cond-false, eq-eqb, ne_eqb, ltb-true}
-use Rattle.std.proofs.lemmas.List.{length-replicate}
-use Rattle.swift_types.specs.declared.id.TaskId.{TaskId}
-use Rattle.swift_types.specs.declared.env.Env.{Env}
-use Rattle.swift_types.specs.declared.outcome.Ending.{Ending}
-use Rattle.swift_types.specs.declared.outcome.Fault.{Fault}
-use Rattle.swift_types.specs.declared.outcome.Resume.{Resume}
-use Rattle.swift_types.specs.declared.priority.Priority.{Priority}
-use Rattle.swift_types.specs.declared.priority.Priority.TheVariants.{Background}
+use Rattle.swift_local_turns.proofs.Prelude.{◌≡◌, ◌≢◌, ◌⊎◌, ℕ, ℤ, ◌+◌, ◌<◌, ◌≤◌, List, [], ◌∷◌, ◌++◌, length, replicate, length-append, refl, sym, ◌∙◌, ap, subst, subst₂, Bool, true, false, inl, inr, append_assoc, append-nil, arith, length-set, Option, Some, None, ◌==◌, ◌&&◌, is_some, is_none, if◌then◌else◌, unwrap_or, slice_set, AllByRecursion, cases_Bool, cases_eq, cond-true, cond-false, eq-eqb, ne_eqb, ltb-true, length-replicate, TaskId, Env, Ending, Fault, Resume, Priority, Background, next_of, close_of, ScriptView, root_count, root_priority, FrameView, EffectView, spawning, detaching, opening, adding, cancelling_task, cancelling_group, ExitView, calling, waiting, asking_next, yielding, returning, failing, Step, Run, Ended, Await, TaskView, Advanced, advanced, CheckpointView, Event, Root, Begin, Apply, Free, Open, Child, Skip, CancelTask, CancelGroup, Wait, Next, Close, End, Give, Life, JobStage, Origin, task_of, is_made, tasks_of, life_of, origin_in, ending_in, is_open, opened_by, group_of, waiters_of, parent_of, tasks_of-push_made, tasks_of-push_other, unborn_without, JobFacts, WaitingTaskView, AfterTurn, task, first_job, gives, root_job, named_task, is_left_out, effect_events, effect_jobs, log_after, jobs_made, next_events, wait_events, close_events, end_events, exit_events, step_resume, exit_resume, resume_of, woken, wake, wake_each, wake_closing, wake_owner, wake_parent, wake_all, followed, Block, added, begun, ran, folded, Standing, at_first, with_jobs, taken, begun_priority, left_as, frames_applied, job_applied, turn_applied, after_block, after_blocks, TurnStands, Stands, AllStand, GivenIsOpen}
 use Rattle.swift_groups.specs.declared.answer.NextResult.{NextResult as Answer}
 use Rattle.swift_groups.specs.declared.answer.NextResult.TheVariants as answer
 use Rattle.swift_groups.specs.declared.answer.Close.{Close as Closing}
 use Rattle.swift_groups.specs.declared.answer.Close.TheVariants as closing
-use Rattle.swift_groups.specs.Next.{next_of}
-use Rattle.swift_groups.specs.Close.{close_of}
-use Rattle.swift_script.specs.Scripts.{ScriptView, root_count, root_priority}
-use Rattle.swift_interpreter.specs.Frames.{FrameView}
-use Rattle.swift_interpreter.specs.Turn.{EffectView, spawning, detaching, opening, adding, cancelling_task, cancelling_group, ExitView, calling, waiting, asking_next, closing as closing_group, yielding, returning, failing}
-use Rattle.swift_turn.specs.declared.step.Step.{Step}
-use Rattle.swift_turn.specs.declared.step.Step.TheVariants.{Run, Ended, Await}
-use Rattle.swift_turn.specs.Body.{TaskView, Advanced, advanced}
-use Rattle.swift_journal.specs.Checkpoints.{CheckpointView}
-use Rattle.swift_events.specs.declared.event.Event.{Event}
-use Rattle.swift_events.specs.declared.event.Event.TheVariants.{Root, Begin, Apply, Free, Open, Child, Skip, CancelTask, CancelGroup, Wait, Next, Close, End, Give}
-use Rattle.swift_events.specs.declared.life.Life.{Life}
-use Rattle.swift_events.specs.declared.life.JobStage.{JobStage}
+use Rattle.swift_interpreter.specs.Turn.{closing as closing_group}
 use Rattle.swift_events.specs.declared.life.JobStage.TheVariants as stage
-use Rattle.swift_events.specs.declared.life.Origin.{Origin}
 use Rattle.swift_events.specs.declared.life.Origin.TheVariants as origin
-use Rattle.swift_events.specs.Events.{task_of, is_made, tasks_of}
-use Rattle.swift_events.specs.Lives.{life_of, origin_in, ending_in, is_open}
-use Rattle.swift_events.specs.Relations.{opened_by, group_of, waiters_of, parent_of}
-use Rattle.swift_events.proofs.LogLemmas.{tasks_of-push_made, tasks_of-push_other, unborn_without}
-use Rattle.swift_history.specs.TurnEnds.{JobFacts, WaitingTaskView, AfterTurn, task, first_job, gives, root_job, named_task, is_left_out, effect_events, effect_jobs, log_after, jobs_made, next_events, wait_events, close_events, end_events, exit_events, step_resume, exit_resume, resume_of, woken, wake, wake_each, wake_closing, wake_owner, wake_parent, wake_all, followed}
-use Rattle.swift_history.specs.Histories.{Block, added, begun, ran, folded, Standing, at_first, with_jobs, taken, begun_priority, left_as, frames_applied, job_applied, turn_applied, after_block, after_blocks, TurnStands, Stands, AllStand}
 use Rattle.swift_local_turns.proofs.Goers.{none_or, not_both, all_both, all_map, held_at, held_more, held_past, none_set, other_set, CanGo, LogGoes, low_is, SparesTask, can_push, can_more, log_plain, log_makes}
-use Rattle.swift_local_turns.specs.Tickets.{GivenIsOpen}
 use Rattle.swift_local_turns.proofs.Shared.{after_push}
 
 abbrev no_one : Option WaitingTaskView

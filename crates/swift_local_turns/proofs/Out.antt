@@ -1,39 +1,11 @@
 -- The job of a task is what the log says of the task.
-use Rattle.std.proofs.Common.{◌≡◌, ◌≢◌, ◌⊎◌, ℕ, ℤ, List, [], ◌∷◌, ◌++◌, refl, sym, ◌∙◌, ap, ap₂, subst, Bool, true, false, inl, inr, append_assoc, append-nil}
-use Rattle.std.specs.Prelude.{Option, Some, None, ◌&&◌, ◌==◌, ◌-◌, ◌^◌, nat_lt, is_some, if◌then◌else◌, unwrap_or}
-use Rattle.std.specs.List.{AllByRecursion}
-use Rattle.std.proofs.lemmas.Bool.{cases_eq, cond-true, cond-false, eq-eqb, ne_eqb}
+use Rattle.swift_local_turns.proofs.Prelude.{◌≡◌, ◌≢◌, ◌⊎◌, ℕ, ℤ, List, [], ◌∷◌, ◌++◌, refl, sym, ◌∙◌, ap, ap₂, subst, Bool, true, false, inl, inr, append_assoc, append-nil, Option, Some, None, ◌&&◌, ◌==◌, ◌-◌, ◌^◌, nat_lt, is_some, if◌then◌else◌, unwrap_or, AllByRecursion, cases_eq, cond-true, cond-false, eq-eqb, ne_eqb, TaskId, Ending, Fault, Resume, Priority, Background, next_of, ScriptView, root_count, root_priority, FrameView, EffectView, spawning, detaching, opening, adding, cancelling_task, cancelling_group, ExitView, calling, waiting, asking_next, closing, yielding, returning, failing, Step, Run, Ended, Await, Advanced, advanced, Event, Root, Begin, Apply, Child, Skip, CancelTask, Give, Life, JobStage, task_of, tasks_of, later, life_of, given_in, stage_in, group_of, life_of-push_same, life_of-push_other, same_fault, same_resume, was_given, is_under_way, JobFacts, TurnEnd, task, gives, root_job, named_task, is_left_out, effect_events, log_after, next_events, wait_events, close_events, end_events, exit_events, turn_end, Block, added, begun, ran, folded, Standing, at_first, with_jobs, taken, begun_priority, left_as, frames_applied, job_applied, after_block, after_blocks, IsOut, GivenIsCurrent}
 use Rattle.std.proofs.lemmas.Cmp.{int_eq_equiv}
-use Rattle.swift_types.specs.declared.id.TaskId.{TaskId}
-use Rattle.swift_types.specs.declared.outcome.Ending.{Ending}
-use Rattle.swift_types.specs.declared.outcome.Fault.{Fault}
 use Rattle.swift_types.specs.declared.outcome.Fault.TheVariants as fault
-use Rattle.swift_types.specs.declared.outcome.Resume.{Resume}
 use Rattle.swift_types.specs.declared.outcome.Resume.TheVariants as resume
-use Rattle.swift_types.specs.declared.priority.Priority.{Priority}
-use Rattle.swift_types.specs.declared.priority.Priority.TheVariants.{Background}
 use Rattle.swift_groups.specs.declared.answer.NextResult.{NextResult as Answer}
 use Rattle.swift_groups.specs.declared.answer.NextResult.TheVariants as answer
-use Rattle.swift_groups.specs.Next.{next_of}
-use Rattle.swift_script.specs.Scripts.{ScriptView, root_count, root_priority}
-use Rattle.swift_interpreter.specs.Frames.{FrameView}
-use Rattle.swift_interpreter.specs.Turn.{EffectView, spawning, detaching, opening, adding, cancelling_task, cancelling_group, ExitView, calling, waiting, asking_next, closing, yielding, returning, failing}
-use Rattle.swift_turn.specs.declared.step.Step.{Step}
-use Rattle.swift_turn.specs.declared.step.Step.TheVariants.{Run, Ended, Await}
-use Rattle.swift_turn.specs.Body.{Advanced, advanced}
-use Rattle.swift_events.specs.declared.event.Event.{Event}
-use Rattle.swift_events.specs.declared.event.Event.TheVariants.{Root, Begin, Apply, Child, Skip, CancelTask, Give}
 use Rattle.swift_events.specs.declared.life.LastJob.{LastJob}
-use Rattle.swift_events.specs.declared.life.Life.{Life}
-use Rattle.swift_events.specs.declared.life.JobStage.{JobStage}
-use Rattle.swift_events.specs.Events.{task_of, tasks_of, later}
-use Rattle.swift_events.specs.Lives.{life_of, given_in, stage_in}
-use Rattle.swift_events.specs.Relations.{group_of}
-use Rattle.swift_events.proofs.LogLemmas.{life_of-push_same, life_of-push_other}
-use Rattle.swift_history.specs.Checks.{same_fault, same_resume, was_given, is_under_way}
-use Rattle.swift_history.specs.TurnEnds.{JobFacts, TurnEnd, task, gives, root_job, named_task, is_left_out, effect_events, log_after, next_events, wait_events, close_events, end_events, exit_events, turn_end}
-use Rattle.swift_history.specs.Histories.{Block, added, begun, ran, folded, Standing, at_first, with_jobs, taken, begun_priority, left_as, frames_applied, job_applied, after_block, after_blocks}
-use Rattle.swift_local_turns.specs.Tickets.{IsOut, GivenIsCurrent}
 
 abbrev AllOut : List Event → (ℕ → Option JobFacts) → Type 0
 AllOut log jobs = (t : ℕ) (j : JobFacts) → jobs t ≡ Some j → IsOut t j (life_of t log)

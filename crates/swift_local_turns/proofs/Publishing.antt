@@ -1,19 +1,7 @@
 -- A turn that is computed, and published after local steps of others.
-use Rattle.std.proofs.Common.{◌≡◌, ◌≢◌, ℕ, ℤ, ◌+◌, List, [], ◌∷◌, ◌++◌, refl, sym, ◌∙◌, ap, subst, append_assoc, append-nil}
-use Rattle.std.specs.Prelude.{Option, Some, None, ◌==◌}
-use Rattle.std.proofs.lemmas.Bool.{cond-false, ne_eqb}
-use Rattle.swift_script.specs.Scripts.{ScriptView}
+use Rattle.swift_local_turns.proofs.Prelude.{◌≡◌, ◌≢◌, ℕ, ℤ, ◌+◌, List, [], ◌∷◌, ◌++◌, refl, sym, ◌∙◌, ap, subst, append_assoc, append-nil, Option, Some, None, ◌==◌, cond-false, ne_eqb, ScriptView, CheckpointView, Event, Begin, Apply, Give, Life, life_of, life_of-push_other, filter_map-push_none, is_current, JobFacts, task, Block, added, begun, ran, folded, Standing, at_first, with_jobs, taken, after_block, after_blocks, record_in, checkpoint_at, fields_of, Stands, AllStand}
 use Rattle.swift_journal.specs.Records.{RecordView}
-use Rattle.swift_journal.specs.Checkpoints.{CheckpointView}
 use Rattle.swift_journal.specs.Replay.{replay, IsLawfulRecord}
-use Rattle.swift_events.specs.declared.event.Event.{Event}
-use Rattle.swift_events.specs.declared.event.Event.TheVariants.{Begin, Apply, Give}
-use Rattle.swift_events.specs.declared.life.Life.{Life}
-use Rattle.swift_events.specs.Lives.{life_of}
-use Rattle.swift_events.proofs.LogLemmas.{life_of-push_other, filter_map-push_none}
-use Rattle.swift_history.specs.Checks.{is_current}
-use Rattle.swift_history.specs.TurnEnds.{JobFacts, task}
-use Rattle.swift_history.specs.Histories.{Block, added, begun, ran, folded, Standing, at_first, with_jobs, taken, after_block, after_blocks, record_in, checkpoint_at, fields_of, Stands, AllStand}
 use Rattle.swift_local_turns.specs.Publishing.{IsBeside, AllBeside, StillCounts, HoldersMayPublish}
 use Rattle.swift_local_turns.proofs.Alike.{Alike, alike_same}
 use Rattle.swift_local_turns.proofs.Ends.{ends_alike, fit_alike}

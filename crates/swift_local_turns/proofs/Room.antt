@@ -1,15 +1,5 @@
 -- The room that is reserved is a count.
-use Rattle.std.proofs.Common.{◌≡◌, ℕ, ◌+◌, ◌<◌, List, [], ◌∷◌, ◌++◌, refl, ◌∙◌, ap, ap₂, arith, append_assoc}
-use Rattle.std.specs.Prelude.{◌-◌, min}
-use Rattle.swift_types.specs.declared.limits.TheConstants.{TASKS, MADE}
-use Rattle.swift_events.specs.declared.event.Event.{Event}
-use Rattle.swift_events.specs.declared.event.Event.TheVariants.{Begin, Apply, Give}
-use Rattle.swift_events.specs.declared.life.Life.{Life}
-use Rattle.swift_events.specs.Events.{tasks_of}
-use Rattle.swift_events.specs.Lives.{life_of, room_held}
-use Rattle.swift_events.specs.Room.{reserved_of}
-use Rattle.swift_events.proofs.LogLemmas.{life_of-push_same, life_of-push_other, unborn_without, tasks_of-push_other, reserved_of-push, sum_of_none}
-use Rattle.swift_history.specs.TurnEnds.{task}
+use Rattle.swift_local_turns.proofs.Prelude.{◌≡◌, ℕ, ◌+◌, ◌<◌, List, [], ◌∷◌, ◌++◌, refl, ◌∙◌, ap, ap₂, arith, append_assoc, ◌-◌, min, TASKS, MADE, Event, Begin, Apply, Give, Life, tasks_of, life_of, room_held, reserved_of, life_of-push_same, life_of-push_other, unborn_without, tasks_of-push_other, reserved_of-push, sum_of_none, task}
 use Rattle.swift_local_turns.specs.Room.{RoomIsCounted, RoomHasToBeCounted}
 
 pub room_is_counted : RoomIsCounted

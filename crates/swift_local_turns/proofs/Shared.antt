@@ -1,27 +1,6 @@
 -- The log of a history and its shared log.
-use Rattle.std.proofs.Common.{◌≡◌, ℕ, ℤ, ◌+◌, List, [], ◌∷◌, ◌++◌, length, drop, refl, sym, ◌∙◌, ap, subst, subst₂, Bool, true, false, inl, inr, append_assoc, append-nil}
-use Rattle.std.specs.Prelude.{Option, Some, None, ◌&&◌, nat_lt}
-use Rattle.std.proofs.lemmas.Bool.{cases_Bool, cond-true, cond-false, false≢true}
+use Rattle.swift_local_turns.proofs.Prelude.{◌≡◌, ℕ, ℤ, ◌+◌, List, [], ◌∷◌, ◌++◌, length, drop, refl, sym, ◌∙◌, ap, subst, subst₂, Bool, true, false, inl, inr, append_assoc, append-nil, Option, Some, None, ◌&&◌, nat_lt, cases_Bool, cond-true, cond-false, false≢true, Env, Resume, ScriptView, FrameView, EffectView, ExitView, Advanced, advanced, callers_of, CheckpointView, Event, Begin, Apply, Give, Life, JobStage, Given, Begun, Applied, Waits, Asks, Closes, life_of, life_of-push_same, is_current, is_under_way, was_given, JobFacts, task, root_events, Block, added, begun, ran, folded, Standing, at_first, with_jobs, taken, begun_priority, left_as, frames_applied, job_applied, turn_applied, after_block, after_blocks, TurnStands, Stands, AllStand, is_local, local_job, job_callers, is_local_block, written, shared_by, shared_from, shared_log, stage_of, waits_at, SharedLogsAnswer, TurnsEndAlike, TurnsFitAlike}
 use Rattle.std.proofs.Math.Seq.{drop-append_seam}
-use Rattle.swift_types.specs.declared.env.Env.{Env}
-use Rattle.swift_types.specs.declared.outcome.Resume.{Resume}
-use Rattle.swift_script.specs.Scripts.{ScriptView}
-use Rattle.swift_interpreter.specs.Frames.{FrameView}
-use Rattle.swift_interpreter.specs.Turn.{EffectView, ExitView}
-use Rattle.swift_turn.specs.Body.{Advanced, advanced, callers_of}
-use Rattle.swift_journal.specs.Checkpoints.{CheckpointView}
-use Rattle.swift_events.specs.declared.event.Event.{Event}
-use Rattle.swift_events.specs.declared.event.Event.TheVariants.{Begin, Apply, Give}
-use Rattle.swift_events.specs.declared.life.Life.{Life}
-use Rattle.swift_events.specs.declared.life.JobStage.{JobStage}
-use Rattle.swift_events.specs.declared.life.JobStage.TheVariants.{Given, Begun, Applied, Waits, Asks, Closes}
-use Rattle.swift_events.specs.Lives.{life_of}
-use Rattle.swift_events.proofs.LogLemmas.{life_of-push_same}
-use Rattle.swift_history.specs.Checks.{is_current, is_under_way, was_given}
-use Rattle.swift_history.specs.TurnEnds.{JobFacts, task, root_events}
-use Rattle.swift_history.specs.Histories.{Block, added, begun, ran, folded, Standing, at_first, with_jobs, taken, begun_priority, left_as, frames_applied, job_applied, turn_applied, after_block, after_blocks, TurnStands, Stands, AllStand}
-use Rattle.swift_local_turns.specs.LocalTurns.{is_local, local_job, job_callers, is_local_block, written, shared_by, shared_from, shared_log}
-use Rattle.swift_local_turns.specs.Answers.{stage_of, waits_at, SharedLogsAnswer, TurnsEndAlike, TurnsFitAlike}
 use Rattle.swift_local_turns.proofs.Alike.{Alike, alike_same, alike_more, alike_job, answers}
 use Rattle.swift_local_turns.proofs.Ends.{ends_alike, fit_alike}
 use Rattle.swift_local_turns.proofs.LocalEnds.{by_exit}

@@ -1,17 +1,5 @@
 -- What a log says beside how far jobs are, it says without the events of jobs.
-use Rattle.std.proofs.Common.{◌≡◌, ℕ, ◌+◌, List, [], ◌∷◌, ◌++◌, refl, sym, ◌∙◌, ap, subst, cond, Bool, true, false, inl, inr, append_assoc, append-nil, arith}
-use Rattle.std.specs.Prelude.{Option, None, not, count_by, ◌||◌}
-use Rattle.std.specs.List.{filter_map, list_any}
-use Rattle.std.proofs.lemmas.Bool.{cases_Bool, false≢true}
-use Rattle.std.proofs.lemmas.List.Elements.{filter-append, filter_map-append}
-use Rattle.std.proofs.lemmas.List.Sums.{sum_by_push}
-use Rattle.swift_types.specs.declared.id.TaskId.{TaskId}
-use Rattle.swift_types.specs.declared.env.Env.{Env}
-use Rattle.swift_types.specs.declared.outcome.Resume.{Resume}
-use Rattle.swift_events.specs.declared.event.Event.{Event}
-use Rattle.swift_events.specs.declared.event.Event.TheVariants.{Begin, Apply, Give}
-use Rattle.swift_events.proofs.LogLemmas.{filter_map-push_none, list_any-push, list_any-push_no}
-use Rattle.swift_local_turns.specs.LocalTurns.{is_job_event, without_jobs}
+use Rattle.swift_local_turns.proofs.Prelude.{◌≡◌, ℕ, ◌+◌, List, [], ◌∷◌, ◌++◌, refl, sym, ◌∙◌, ap, subst, cond, Bool, true, false, inl, inr, append_assoc, append-nil, arith, Option, None, not, count_by, ◌||◌, filter_map, list_any, cases_Bool, false≢true, filter-append, filter_map-append, sum_by_push, TaskId, Env, Resume, Event, Begin, Apply, Give, filter_map-push_none, list_any-push, list_any-push_no, is_job_event, without_jobs}
 
 -- what holds of the empty log, and goes on by one more event, holds of each log
 pub by_push : (P : List Event → Type 0) → P [] → ((log : List Event) (e : Event) → P log → P (log ++ e ∷ [])) → (log : List Event) → P log
