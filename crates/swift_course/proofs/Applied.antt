@@ -1,29 +1,5 @@
 -- A turn that is applied keeps the rule.
-use Rattle.std.proofs.Common.{◌≡◌, ◌≢◌, ◌⊎◌, ℕ, ℤ, ◌+◌, ◌≤◌, ◌<◌, ◌==◌, true, List, [], ◌∷◌, ◌++◌, map, set, count_by, if◌then◌else◌, refl, sym, ap, ◌∙◌, subst, arith, inl, inr}
-use Rattle.std.specs.Prelude.{All, Option, Some, None, IfSome, is_some, sum_by}
-use Rattle.std.proofs.lemmas.List.{append-nil}
-use Rattle.std.proofs.lemmas.List.Elements.{All-append, All-cons, All-head, All-nil, All-tail}
-use Rattle.swift_types.specs.declared.env.Env.{Env}
-use Rattle.swift_types.specs.declared.priority.Priority.{Priority}
-use Rattle.swift_script.specs.Scripts.{ScriptView, executor_count, executor_start, root_count}
-use Rattle.swift_interpreter.specs.Frames.{FrameView}
-use Rattle.swift_interpreter.specs.Turn.{EffectView, ExitView}
-use Rattle.swift_turn.specs.Body.{Advanced, HasFirst, advanced, callers_of}
-use Rattle.swift_events.specs.declared.event.Event.{Event}
-use Rattle.swift_events.specs.declared.event.Event.TheVariants.{Apply}
-use Rattle.swift_events.specs.declared.life.JobStage.TheVariants.{Begun}
-use Rattle.swift_events.specs.declared.life.Origin.{Origin}
-use Rattle.swift_events.specs.Events.{tasks_of}
-use Rattle.swift_events.specs.Lives.{life_of}
-use Rattle.swift_journal.specs.Records.{RecordView}
-use Rattle.swift_journal.specs.Replay.{IsLawfulRecord, replay}
-use Rattle.swift_history.specs.Checks.{counters, fits_turn, is_begun, is_current}
-use Rattle.swift_history.specs.Histories.{ran, RecordStands, Standing, after_block, at_first, begun_priority, fields_of, folded_in, frames_applied, job_applied, left_as, record_in, records_of, root_in, taken, with_jobs}
-use Rattle.swift_history.specs.TurnEnds.{WaitingTaskView, JobFacts, TurnEnd, effect_events, exit_events, gives, log_after, task, turn_end}
-use Rattle.swift_history.specs.Orderly.{IsOrderly, frames_executor, job_executor}
-use Rattle.swift_course.specs.Course.{HasUnderWay, IsFront, IsGiven, IsIn, IsOwned, IsUnderWay, SaysOrder, is_for, one_if, ways, standing, starts, tickets_in, waits}
-use Rattle.swift_course.specs.Steps.{IsTurn, TurnsMayBeApplied, end_of, knowing_turn, order_applied, with_record}
-use Rattle.swift_course.specs.Views.{Account, BookFacts, BookKnown, Ticket, TurnOrder, fresh}
+use Rattle.swift_course.proofs.Prelude.{◌≡◌, ◌≢◌, ◌⊎◌, ℕ, ℤ, ◌+◌, ◌≤◌, ◌<◌, ◌==◌, true, List, [], ◌∷◌, ◌++◌, map, set, count_by, if◌then◌else◌, refl, sym, ap, ◌∙◌, subst, arith, inl, inr, All, Option, Some, None, IfSome, is_some, sum_by, append-nil, All-append, All-cons, All-head, All-nil, All-tail, Env, Priority, ScriptView, executor_count, executor_start, root_count, FrameView, EffectView, ExitView, Advanced, HasFirst, advanced, callers_of, Event, Apply, Begun, Origin, tasks_of, life_of, RecordView, IsLawfulRecord, replay, counters, fits_turn, is_begun, is_current, ran, RecordStands, Standing, after_block, at_first, begun_priority, fields_of, folded_in, frames_applied, job_applied, left_as, record_in, records_of, root_in, taken, with_jobs, WaitingTaskView, JobFacts, TurnEnd, effect_events, exit_events, gives, log_after, task, turn_end, IsOrderly, frames_executor, job_executor, HasUnderWay, IsFront, IsGiven, IsIn, IsOwned, IsUnderWay, SaysOrder, is_for, one_if, ways, standing, starts, tickets_in, waits, IsTurn, TurnsMayBeApplied, end_of, knowing_turn, order_applied, with_record, Account, BookFacts, BookKnown, Ticket, TurnOrder, fresh}
 use Rattle.swift_course.proofs.Begun.{TurnKeeps, turn_keeps}
 use Rattle.swift_course.proofs.Blocks.{after_push, allowed_push, filter_none, filter_some, stand_push}
 use Rattle.swift_course.proofs.Lists.{count_append, count_cons, equal, if_some, no_one, one, total_set, unequal}

@@ -1,22 +1,5 @@
 -- A turn that begins keeps the rule.
-use Rattle.std.proofs.Common.{◌≡◌, ◌≢◌, ℕ, ◌+◌, ◌≤◌, ◌==◌, true, List, [], ◌∷◌, ◌++◌, map, set, count_by, refl, sym, ap, ◌∙◌, subst, arith, inl}
-use Rattle.std.specs.Prelude.{All, Option, Some, is_some, sum_by}
-use Rattle.std.proofs.lemmas.List.Elements.{All-cons, All-head, All-nil, All-tail}
-use Rattle.swift_types.specs.declared.env.Env.{Env}
-use Rattle.swift_script.specs.Scripts.{ScriptView, root_count}
-use Rattle.swift_events.specs.declared.event.Event.{Event}
-use Rattle.swift_events.specs.declared.event.Event.TheVariants.{Begin}
-use Rattle.swift_events.specs.declared.life.Origin.{Origin}
-use Rattle.swift_events.specs.Events.{tasks_of}
-use Rattle.swift_events.specs.Lives.{life_of}
-use Rattle.swift_events.specs.Room.{IsEnv}
-use Rattle.swift_history.specs.Checks.{is_current}
-use Rattle.swift_history.specs.Histories.{begun, Standing, after_block, at_first, folded_in, record_in, root_in}
-use Rattle.swift_history.specs.Orderly.{IsOrderly, has_last_root, job_executor}
-use Rattle.swift_history.specs.TurnEnds.{JobFacts, task}
-use Rattle.swift_course.specs.Course.{HasUnderWay, IsGiven, IsIn, IsOrdered, IsOwned, SaysOrder, is_for, one_if, standing, starts, tickets_in}
-use Rattle.swift_course.specs.Steps.{TurnsMayBegin, knowing_begin, order_begun, with_turn_begun}
-use Rattle.swift_course.specs.Views.{Account, Ticket, TurnOrder, at_rest}
+use Rattle.swift_course.proofs.Prelude.{◌≡◌, ◌≢◌, ℕ, ◌+◌, ◌≤◌, ◌==◌, true, List, [], ◌∷◌, ◌++◌, map, set, count_by, refl, sym, ap, ◌∙◌, subst, arith, inl, All, Option, Some, is_some, sum_by, All-cons, All-head, All-nil, All-tail, Env, ScriptView, root_count, Event, Begin, Origin, tasks_of, life_of, IsEnv, is_current, begun, Standing, after_block, at_first, folded_in, record_in, root_in, IsOrderly, has_last_root, job_executor, JobFacts, task, HasUnderWay, IsGiven, IsIn, IsOrdered, IsOwned, SaysOrder, is_for, one_if, standing, starts, tickets_in, TurnsMayBegin, knowing_begin, order_begun, with_turn_begun, Account, Ticket, TurnOrder, at_rest}
 use Rattle.swift_course.proofs.Begun.{origin_push}
 use Rattle.swift_course.proofs.Blocks.{after_push, allowed_push, filter_none, stand_push}
 use Rattle.swift_course.proofs.Order.{begin_has, begin_orderly, changed_at, changed_else, changed_there, ordered_before, ordered_begun, orders_changed, own_changed}

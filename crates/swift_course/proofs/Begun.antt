@@ -1,31 +1,7 @@
 -- Which turns are under way after a turn was applied, and which roots are there: none that was not before.
-use Rattle.std.proofs.Common.{◌≡◌, ◌≢◌, ◌⊎◌, ℕ, ◌+◌, ◌≤◌, ◌<◌, Bool, true, false, List, [], ◌∷◌, ◌++◌, if◌then◌else◌, replicate, length, refl, sym, ap, ◌∙◌, subst, append_assoc, arith, inl, inr}
-use Rattle.std.specs.Prelude.{Option, Some, None, is_some}
-use Rattle.std.proofs.lemmas.Bool.{cases_eq, false≢true}
-use Rattle.std.proofs.lemmas.List.{append-nil}
-use Rattle.swift_types.specs.declared.id.TaskId.{TaskId}
-use Rattle.swift_types.specs.declared.outcome.Ending.{Ending}
-use Rattle.swift_types.specs.declared.outcome.Fault.{Fault}
-use Rattle.swift_types.specs.declared.priority.Priority.{Priority}
+use Rattle.swift_course.proofs.Prelude.{◌≡◌, ◌≢◌, ◌⊎◌, ℕ, ◌+◌, ◌≤◌, ◌<◌, Bool, true, false, List, [], ◌∷◌, ◌++◌, if◌then◌else◌, replicate, length, refl, sym, ap, ◌∙◌, subst, append_assoc, arith, inl, inr, Option, Some, None, is_some, cases_eq, false≢true, append-nil, TaskId, Ending, Fault, Priority, next_of, ScriptView, root_count, EffectView, spawning, detaching, opening, adding, cancelling_task, cancelling_group, ExitView, calling, waiting, asking_next, closing, yielding, returning, failing, Advanced, Step, Run, Ended, Await, Event, Apply, CancelTask, Give, Life, Origin, JobStage, later, task_of, life_of, origin_in, stage_in, group_of, life_of-push_other, life_of-push_same, is_begun, AfterTurn, WaitingTaskView, JobFacts, TurnEnd, close_events, effect_events, end_events, exit_events, exit_resume, followed, gives, is_left_out, jobs_made, log_after, named_task, next_events, task, turn_end, wait_events}
 use Rattle.swift_groups.specs.declared.answer.NextResult.{NextResult as Answer}
 use Rattle.swift_groups.specs.declared.answer.NextResult.TheVariants as answer
-use Rattle.swift_groups.specs.Next.{next_of}
-use Rattle.swift_script.specs.Scripts.{ScriptView, root_count}
-use Rattle.swift_interpreter.specs.Turn.{EffectView, spawning, detaching, opening, adding, cancelling_task, cancelling_group, ExitView, calling, waiting, asking_next, closing, yielding, returning, failing}
-use Rattle.swift_turn.specs.Body.{Advanced}
-use Rattle.swift_turn.specs.declared.step.Step.{Step}
-use Rattle.swift_turn.specs.declared.step.Step.TheVariants.{Run, Ended, Await}
-use Rattle.swift_events.specs.declared.event.Event.{Event}
-use Rattle.swift_events.specs.declared.event.Event.TheVariants.{Apply, CancelTask, Give}
-use Rattle.swift_events.specs.declared.life.Life.{Life}
-use Rattle.swift_events.specs.declared.life.Origin.{Origin}
-use Rattle.swift_events.specs.declared.life.JobStage.{JobStage}
-use Rattle.swift_events.specs.Events.{later, task_of}
-use Rattle.swift_events.specs.Lives.{life_of, origin_in, stage_in}
-use Rattle.swift_events.specs.Relations.{group_of}
-use Rattle.swift_events.proofs.LogLemmas.{life_of-push_other, life_of-push_same}
-use Rattle.swift_history.specs.Checks.{is_begun}
-use Rattle.swift_history.specs.TurnEnds.{AfterTurn, WaitingTaskView, JobFacts, TurnEnd, close_events, effect_events, end_events, exit_events, exit_resume, followed, gives, is_left_out, jobs_made, log_after, named_task, next_events, task, turn_end, wait_events}
 use Rattle.swift_course.proofs.Lists.{no_one}
 use Rattle.swift_course.proofs.Stages.{stage_of}
 use Rattle.swift_course.proofs.Waking.{times}

@@ -1,15 +1,5 @@
 -- One block more.
-use Rattle.std.proofs.Common.{◌≡◌, ℕ, ℤ, ◌+◌, List, [], ◌∷◌, ◌++◌, refl, sym, subst, ap, ◌∙◌, append_assoc, add-zero, arith, zero, suc}
-use Rattle.std.specs.Prelude.{Option, Some, None}
-use Rattle.std.specs.List.{filter_map, cons_option, range_with_len}
-use Rattle.std.proofs.lemmas.List.{append-nil}
-use Rattle.std.proofs.lemmas.List.Elements.{filter_map-append}
-use Rattle.swift_script.specs.Scripts.{ScriptView}
-use Rattle.swift_journal.specs.Checkpoints.{CheckpointView}
-use Rattle.swift_journal.specs.Records.{RecordView}
-use Rattle.swift_journal.specs.Replay.{fields_after, replay}
-use Rattle.swift_history.specs.Histories.{AllStand, Block, Standing, Stands, after_block, after_blocks}
-use Rattle.swift_history.specs.Orderly.{AllAllowed}
+use Rattle.swift_course.proofs.Prelude.{◌≡◌, ℕ, ℤ, ◌+◌, List, [], ◌∷◌, ◌++◌, refl, sym, subst, ap, ◌∙◌, append_assoc, add-zero, arith, zero, suc, Option, Some, None, filter_map, cons_option, range_with_len, append-nil, filter_map-append, ScriptView, CheckpointView, RecordView, fields_after, replay, AllStand, Block, Standing, Stands, after_block, after_blocks, AllAllowed}
 
 pub after_push : (script : ScriptView) (s : Standing) (bs : List Block) (b : Block) → after_blocks script s (bs ++ b ∷ []) ≡ after_block script (after_blocks script s bs) b
 after_push script s [] b = refl

@@ -1,24 +1,7 @@
 -- A history whose first turns of each executor are folded stands, and leads to the same.
-use Rattle.std.proofs.Common.{◌≡◌, ◌≢◌, ℕ, ℤ, zero, suc, ◌+◌, ◌≤◌, ◌<◌, Bool, true, false, List, [], ◌∷◌, ◌++◌, length, map, take, drop, if◌then◌else◌, refl, sym, ap, ◌∙◌, subst, append_assoc, length-append, take-append-drop, arith, inl, inr}
-use Rattle.std.specs.Prelude.{Some, None, is_some, nat_lt}
-use Rattle.std.specs.List.{filter_map, cons_option}
-use Rattle.std.proofs.lemmas.Bool.{cases_eq}
-use Rattle.std.proofs.lemmas.Bool.Decides.{nat_tests}
-use Rattle.std.proofs.lemmas.List.{append-nil}
-use Rattle.std.proofs.lemmas.List.Elements.{filter_map-append}
-use Rattle.swift_script.specs.Scripts.{ScriptView, root_count}
-use Rattle.swift_events.specs.Lives.{life_of}
-use Rattle.swift_events.specs.Room.{IsEnv}
-use Rattle.swift_journal.specs.Checkpoints.{CheckpointView, FoldedView, folded_of}
-use Rattle.swift_journal.specs.Records.{RecordView}
-use Rattle.swift_journal.specs.Replay.{replay}
-use Rattle.swift_history.specs.Checks.{is_begun, is_current}
-use Rattle.swift_history.specs.Histories.{AllStand, Block, added, begun, ran, folded, FoldedStands, RecordStands, Standing, Stands, after_block, at_first, checkpoint_at, fields_of, folded_in, record_in, records_of, root_in, roots_of}
+use Rattle.swift_course.proofs.Prelude.{◌≡◌, ◌≢◌, ℕ, ℤ, zero, suc, ◌+◌, ◌≤◌, ◌<◌, Bool, true, false, List, [], ◌∷◌, ◌++◌, length, map, take, drop, if◌then◌else◌, refl, sym, ap, ◌∙◌, subst, append_assoc, length-append, take-append-drop, arith, inl, inr, Some, None, is_some, nat_lt, filter_map, cons_option, cases_eq, nat_tests, append-nil, filter_map-append, ScriptView, root_count, life_of, IsEnv, CheckpointView, FoldedView, folded_of, RecordView, replay, is_begun, is_current, AllStand, Block, added, begun, ran, folded, FoldedStands, RecordStands, Standing, Stands, after_block, at_first, checkpoint_at, fields_of, folded_in, record_in, records_of, root_in, roots_of, AllAllowed, IsOrderly, job_executor, JobFacts, task, standing}
 use Rattle.swift_history.specs.Histories as history
-use Rattle.swift_history.specs.Orderly.{AllAllowed, IsOrderly, job_executor}
-use Rattle.swift_history.specs.TurnEnds.{JobFacts, task}
 use Rattle.swift_course.proofs.Left.{may_be_folded}
-use Rattle.swift_course.specs.Course.{standing}
 use Rattle.swift_course.proofs.Applied.{other_record}
 use Rattle.swift_course.proofs.Blocks.{after_push, filter_none, filter_some, replay_append}
 use Rattle.swift_course.proofs.Lists.{equal, unequal}

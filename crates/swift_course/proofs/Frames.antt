@@ -1,15 +1,7 @@
 -- What follows from a turn, by its frame and by its record.
-use Rattle.std.proofs.Common.{◌≡◌, ℕ, ℤ, ◌+◌, List, [], ◌∷◌, refl, sym, ap, ◌∙◌, count_by}
-use Rattle.std.specs.Prelude.{None}
-use Rattle.swift_types.specs.declared.outcome.Ending.{Ending}
+use Rattle.swift_course.proofs.Prelude.{◌≡◌, ℕ, ℤ, ◌+◌, List, [], ◌∷◌, refl, sym, ap, ◌∙◌, count_by, None, Ending, Resume, ScriptView, FrameView, EffectView, ExitView, Played, calling, waiting, asking_next, closing, yielding, returning, failing, advanced, kept_turn, resumed, left_as, makes_own, opens_group}
 use Rattle.swift_types.specs.declared.outcome.Ending.TheVariants.{Value, Fault}
-use Rattle.swift_types.specs.declared.outcome.Resume.{Resume}
 use Rattle.swift_types.specs.declared.outcome.Resume.TheVariants.{Value as GivenValue, Fault as Raise}
-use Rattle.swift_script.specs.Scripts.{ScriptView}
-use Rattle.swift_interpreter.specs.Frames.{FrameView}
-use Rattle.swift_interpreter.specs.Turn.{EffectView, ExitView, Played, calling, waiting, asking_next, closing, yielding, returning, failing}
-use Rattle.swift_turn.specs.Body.{advanced, kept_turn, resumed}
-use Rattle.swift_history.specs.Histories.{left_as, makes_own, opens_group}
 use Rattle.swift_course.proofs.CountedTurns.{kept_turn_counts}
 use Rattle.swift_course.specs.Frames.{FramesGoOn, kept_frame}
 

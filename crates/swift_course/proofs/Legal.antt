@@ -1,18 +1,5 @@
 -- The report of a run is legal.
-use Rattle.std.proofs.Common.{◌≡◌, ◌⊎◌, ℕ, ℤ, zero, suc, ◌≤◌, ◌<◌, List, [], ◌∷◌, ◌++◌, length, map, take, drop, refl, sym, ap, ◌∙◌, subst, arith, inl, inr}
-use Rattle.std.specs.Prelude.{Option, Some, IfSome, slice_get, unwrap_or}
-use Rattle.std.specs.List.{range_with_len}
-use Rattle.std.proofs.lemmas.Option.{slice_get_within}
-use Rattle.std.proofs.lemmas.List.Elements.{All-contains}
-use Rattle.swift_script.specs.Scripts.{executor_count, executor_start, root_count}
-use Rattle.swift_journal.specs.Checkpoints.{CheckpointView, folded_of}
-use Rattle.swift_journal.specs.Records.{RecordView}
-use Rattle.swift_journal.specs.Replay.{replay}
-use Rattle.swift_history.specs.Histories.{Block, ReportView, Standing, checkpoint_at, no_checkpoint, records_of, roots_of}
-use Rattle.swift_history.specs.Orderly.{AllAllowed, IsOrderly}
-use Rattle.swift_course.specs.Course.{IsIn, IsOrdered, SaysOrder, starts}
-use Rattle.swift_course.specs.Reports.{HasHistory, IsAccountedFor, IsReportOf, RunsAreLegal, RunsAreOrderly}
-use Rattle.swift_course.specs.Views.{Account, BookFacts, Maker, BookKnown}
+use Rattle.swift_course.proofs.Prelude.{◌≡◌, ◌⊎◌, ℕ, ℤ, zero, suc, ◌≤◌, ◌<◌, List, [], ◌∷◌, ◌++◌, length, map, take, drop, refl, sym, ap, ◌∙◌, subst, arith, inl, inr, Option, Some, IfSome, slice_get, unwrap_or, range_with_len, slice_get_within, All-contains, executor_count, executor_start, root_count, CheckpointView, folded_of, RecordView, replay, Block, ReportView, Standing, checkpoint_at, no_checkpoint, records_of, roots_of, AllAllowed, IsOrderly, IsIn, IsOrdered, SaysOrder, starts, HasHistory, IsAccountedFor, IsReportOf, RunsAreLegal, RunsAreOrderly, Account, BookFacts, Maker, BookKnown}
 use Rattle.swift_course.proofs.Folding.{GiveFields, Matches, all_match, all_orderly, all_plain, all_stand, nothing_matches, with_folds}
 use Rattle.swift_course.proofs.Lists.{same_one}
 use Rattle.swift_course.proofs.Starts.{many_starts, none_at, start_fields}

@@ -1,4 +1,5 @@
 mod Rows
+pub mod Prelude
 pub mod Lists
 pub mod Blocks
 pub mod Waking

@@ -1,12 +1,5 @@
 -- Lists by number, and sums over them.
-use Rattle.std.proofs.Common.{◌≡◌, ◌≢◌, ◌⊎◌, ℕ, zero, suc, ◌+◌, ◌≤◌, ◌<◌, ◌==◌, Bool, true, false, List, [], ◌∷◌, ◌++◌, length, get_or, set, count_by, refl, sym, ap, inl, inr, arith}
-use Rattle.std.specs.Prelude.{sum_by, All, Option, Some, None, IfSome, unwrap_or}
-use Rattle.std.proofs.lemmas.Bool.Decides.{nat_tests}
-use Rattle.std.proofs.lemmas.List.Sums.{sum_by-cons, sum_by-append, get_or-le-sum_by}
-use mathlib.Core.Option.{some, some-injective, some-ne-none}
-use lib.ListN.{get_elem?}
-use Rattle.swift_course.specs.Course.{is_for, one_if}
-use Rattle.swift_course.specs.Views.{Ticket}
+use Rattle.swift_course.proofs.Prelude.{◌≡◌, ◌≢◌, ◌⊎◌, ℕ, zero, suc, ◌+◌, ◌≤◌, ◌<◌, ◌==◌, Bool, true, false, List, [], ◌∷◌, ◌++◌, length, get_or, set, count_by, refl, sym, ap, inl, inr, arith, sum_by, All, Option, Some, None, IfSome, unwrap_or, nat_tests, sum_by-cons, sum_by-append, get_or-le-sum_by, some, some-injective, some-ne-none, get_elem?, is_for, one_if, Ticket}
 
 module _ {X : Type 0} where
   pub at_set : (l : List X) (i j : ℕ) (a b : X) → get_elem? (set l i a) j ≡ some b → ((j ≡ i) × (a ≡ b)) ⊎ ((j ≢ i) × (get_elem? l j ≡ some b))

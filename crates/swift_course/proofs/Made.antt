@@ -1,18 +1,5 @@
 -- The tasks that the effects of a turn make have the next numbers.
-use Rattle.std.proofs.Common.{◌≡◌, ◌⊎◌, ℕ, ◌+◌, ◌≤◌, ◌<◌, ◌==◌, Bool, true, false, List, [], ◌∷◌, ◌++◌, if◌then◌else◌, refl, sym, ap, subst, arith, inl, inr}
-use Rattle.std.specs.Prelude.{is_some, unwrap_or}
-use Rattle.std.proofs.lemmas.List.{append-nil}
-use Rattle.swift_types.specs.declared.priority.Priority.{Priority}
-use Rattle.swift_types.specs.declared.priority.Priority.TheVariants.{Background}
-use Rattle.swift_script.specs.Scripts.{ScriptView, root_count}
-use Rattle.swift_interpreter.specs.Turn.{EffectView, spawning, detaching, opening, adding, cancelling_task, cancelling_group}
-use Rattle.swift_events.specs.declared.event.Event.{Event}
-use Rattle.swift_events.specs.declared.event.Event.TheVariants.{Free, Open, Child, Skip, CancelTask, CancelGroup}
-use Rattle.swift_events.specs.Events.{is_made, tasks_of}
-use Rattle.swift_events.specs.Lives.{life_of}
-use Rattle.swift_events.specs.Relations.{opened_by}
-use Rattle.swift_events.proofs.LogLemmas.{tasks_of-push_made, tasks_of-push_other}
-use Rattle.swift_history.specs.TurnEnds.{JobFacts, effect_events, effect_jobs, first_job, is_left_out, jobs_made, log_after, named_task, task}
+use Rattle.swift_course.proofs.Prelude.{◌≡◌, ◌⊎◌, ℕ, ◌+◌, ◌≤◌, ◌<◌, ◌==◌, Bool, true, false, List, [], ◌∷◌, ◌++◌, if◌then◌else◌, refl, sym, ap, subst, arith, inl, inr, is_some, unwrap_or, append-nil, Priority, Background, ScriptView, root_count, EffectView, spawning, detaching, opening, adding, cancelling_task, cancelling_group, Event, Free, Open, Child, Skip, CancelTask, CancelGroup, is_made, tasks_of, life_of, opened_by, tasks_of-push_made, tasks_of-push_other, JobFacts, effect_events, effect_jobs, first_job, is_left_out, jobs_made, log_after, named_task, task}
 use Rattle.swift_course.proofs.Lists.{at_most_one, no_one}
 use Rattle.swift_course.proofs.Waking.{times, times_append}
 

@@ -1,26 +1,5 @@
 -- How the turns of executors have begun, after each step.
-use Rattle.std.proofs.Common.{◌≡◌, ◌≢◌, ◌⊎◌, ℕ, zero, suc, ◌+◌, ◌<◌, ◌==◌, Bool, true, false, List, [], ◌∷◌, ◌++◌, set, if◌then◌else◌, refl, sym, ap, ◌∙◌, subst, append_assoc, arith, inl, inr}
-use Rattle.std.specs.Prelude.{All, Some, None, is_some, nat_lt}
-use Rattle.std.proofs.lemmas.Bool.{cases_eq, false≢true}
-use Rattle.std.proofs.lemmas.Bool.Decides.{nat_tests}
-use Rattle.std.proofs.lemmas.List.Elements.{All-cons, All-nil}
-use mathlib.Core.Option.{some}
-use lib.ListN.{get_elem?}
-use Rattle.swift_types.specs.declared.env.Env.{Env}
-use Rattle.swift_types.specs.declared.outcome.Resume.TheVariants.{Start}
-use Rattle.swift_script.specs.Scripts.{ScriptView, root_count, root_priority}
-use Rattle.swift_events.specs.declared.event.Event.{Event}
-use Rattle.swift_events.specs.declared.event.Event.TheVariants.{Begin, Give, Root}
-use Rattle.swift_events.specs.declared.life.Life.{Life}
-use Rattle.swift_events.specs.Lives.{life_of, lived}
-use Rattle.swift_events.proofs.LogLemmas.{life_of-push_other, life_of-push_same, unborn_without}
-use Rattle.swift_history.specs.Checks.{is_begun}
-use Rattle.swift_history.specs.Histories.{Block, added, begun, Standing, after_block, taken, with_jobs}
-use Rattle.swift_history.specs.Orderly.{IsOrderly, has_last_of, job_executor}
-use Rattle.swift_history.specs.TurnEnds.{TurnEnd, gives, root_events, root_job, task}
-use Rattle.swift_course.specs.Course.{HasUnderWay, IsFront, IsOrdered, IsOwned, IsUnderWay, SaysOrder, standing}
-use Rattle.swift_course.specs.Steps.{order_applied, order_begun}
-use Rattle.swift_course.specs.Views.{Account, BookKnown, TurnOrder, at_rest, under_way, unordered}
+use Rattle.swift_course.proofs.Prelude.{◌≡◌, ◌≢◌, ◌⊎◌, ℕ, zero, suc, ◌+◌, ◌<◌, ◌==◌, Bool, true, false, List, [], ◌∷◌, ◌++◌, set, if◌then◌else◌, refl, sym, ap, ◌∙◌, subst, append_assoc, arith, inl, inr, All, Some, None, is_some, nat_lt, cases_eq, false≢true, nat_tests, All-cons, All-nil, some, get_elem?, Env, Start, ScriptView, root_count, root_priority, Event, Begin, Give, Root, Life, life_of, lived, life_of-push_other, life_of-push_same, unborn_without, is_begun, Block, added, begun, Standing, after_block, taken, with_jobs, IsOrderly, has_last_of, job_executor, TurnEnd, gives, root_events, root_job, task, HasUnderWay, IsFront, IsOrdered, IsOwned, IsUnderWay, SaysOrder, standing, order_applied, order_begun, Account, BookKnown, TurnOrder, at_rest, under_way, unordered}
 use Rattle.swift_course.proofs.Begun.{TurnKeeps}
 use Rattle.swift_course.proofs.Lists.{all_both, all_each, at_set, equal, same_one, unequal}
 use Rattle.swift_course.proofs.Waking.{jobs_stay}

@@ -1,20 +1,6 @@
 -- Seats that are parted, put together, or give back what they took keep the rule.
-use Rattle.std.proofs.Common.{◌≡◌, ◌≢◌, ◌⊎◌, ℕ, zero, suc, ◌+◌, ◌≤◌, ◌<◌, ◌==◌, List, [], ◌∷◌, ◌++◌, length, take, drop, set, count_by, replicate, if◌then◌else◌, refl, sym, ap, ◌∙◌, subst, arith, inl, inr}
-use Rattle.std.specs.Prelude.{All, Option, Some, None, IfSome, nat_lt, sum_by}
-use Rattle.std.specs.List.{range_with_len}
-use Rattle.std.proofs.lemmas.List.Elements.{All-append, All-cons, All-drop, All-nil, All-take}
-use Rattle.std.proofs.lemmas.List.Sums.{sum_by-take-drop, sum_by_push}
-use mathlib.Core.Option.{some, some-injective, some-ne-none}
-use lib.ListN.{get_elem?}
-use Rattle.swift_script.specs.Scripts.{ScriptView, executor_count, root_count}
-use Rattle.swift_events.specs.declared.event.Event.{Event}
-use Rattle.swift_history.specs.Histories.{Block, records_of, roots_of}
-use Rattle.swift_history.specs.Orderly.{AllAllowed, IsOrderly}
-use Rattle.swift_course.specs.Course.{IsCourse, IsGiven, IsIn, IsOrdered, IsOwned, SaysOrder, SeatIsRight, is_for, one_if, standing, tickets_in, waits}
-use Rattle.swift_course.specs.Reports.{SeatsLearn}
+use Rattle.swift_course.proofs.Prelude.{◌≡◌, ◌≢◌, ◌⊎◌, ℕ, zero, suc, ◌+◌, ◌≤◌, ◌<◌, ◌==◌, List, [], ◌∷◌, ◌++◌, length, take, drop, set, count_by, replicate, if◌then◌else◌, refl, sym, ap, ◌∙◌, subst, arith, inl, inr, All, Option, Some, None, IfSome, nat_lt, sum_by, range_with_len, All-append, All-cons, All-drop, All-nil, All-take, sum_by-take-drop, sum_by_push, some, some-injective, some-ne-none, get_elem?, ScriptView, executor_count, root_count, Event, Block, records_of, roots_of, AllAllowed, IsOrderly, IsCourse, IsGiven, IsIn, IsOrdered, IsOwned, SaysOrder, SeatIsRight, is_for, one_if, standing, tickets_in, waits, SeatsLearn, BooksMayStay, Account, BookFacts, Maker, BookKnown, Ticket, TurnOrder, at_rest, no_view}
 use Rattle.swift_course.specs.Seats.{AccountsMayBeOpened, RunsBegin, SeatsMayBeGathered, SomeTicketsMayBeParted, TicketsMayBeParted, account_parted, first_view, gathered, maker_left, number_of, one_more, some_left, some_parted}
-use Rattle.swift_course.specs.Steps.{BooksMayStay}
-use Rattle.swift_course.specs.Views.{Account, BookFacts, Maker, BookKnown, Ticket, TurnOrder, at_rest, no_view}
 use Rattle.swift_course.proofs.Lists.{all_each, at_push, at_set, count_append, equal, if_some, set_again, set_else, total_set, unequal}
 use Rattle.swift_course.proofs.Order.{first_has, first_there, orders_kept}
 

@@ -1,21 +1,5 @@
 -- A root that is added keeps the rule.
-use Rattle.std.proofs.Common.{◌≡◌, ◌≢◌, ℕ, ◌+◌, ◌≤◌, ◌<◌, ◌==◌, true, List, [], ◌∷◌, ◌++◌, set, count_by, if◌then◌else◌, refl, sym, ap, ◌∙◌, subst, arith, inl, inr}
-use Rattle.std.specs.Prelude.{All, Option, Some, None, IfSome, nat_lt, sum_by}
-use Rattle.std.proofs.lemmas.Bool.{cases_eq}
-use Rattle.std.proofs.lemmas.Bool.Decides.{nat_tests}
-use Rattle.std.proofs.lemmas.List.Elements.{All-append}
-use mathlib.Core.Option.{some}
-use lib.ListN.{get_elem?}
-use Rattle.swift_script.specs.Scripts.{ScriptView, root_count}
-use Rattle.swift_events.specs.declared.event.Event.{Event}
-use Rattle.swift_events.specs.Events.{tasks_of}
-use Rattle.swift_events.specs.Lives.{life_of}
-use Rattle.swift_history.specs.Histories.{added, Standing, after_block, at_first, folded_in, record_in, root_in}
-use Rattle.swift_history.specs.TurnEnds.{root_events, root_job}
-use Rattle.swift_history.specs.Orderly.{IsOrderly}
-use Rattle.swift_course.specs.Course.{HasUnderWay, IsCourse, IsGiven, IsIn, SaysOrder, is_for, one_if, ways, standing, starts, tickets_in}
-use Rattle.swift_course.specs.Steps.{RootsMayBeAdded, knowing_root, with_root}
-use Rattle.swift_course.specs.Views.{Account, BookFacts, Maker, BookKnown, Ticket, fresh}
+use Rattle.swift_course.proofs.Prelude.{◌≡◌, ◌≢◌, ℕ, ◌+◌, ◌≤◌, ◌<◌, ◌==◌, true, List, [], ◌∷◌, ◌++◌, set, count_by, if◌then◌else◌, refl, sym, ap, ◌∙◌, subst, arith, inl, inr, All, Option, Some, None, IfSome, nat_lt, sum_by, cases_eq, nat_tests, All-append, some, get_elem?, ScriptView, root_count, Event, tasks_of, life_of, added, Standing, after_block, at_first, folded_in, record_in, root_in, root_events, root_job, IsOrderly, HasUnderWay, IsCourse, IsGiven, IsIn, SaysOrder, is_for, one_if, ways, standing, starts, tickets_in, RootsMayBeAdded, knowing_root, with_root, Account, BookFacts, Maker, BookKnown, Ticket, fresh}
 use Rattle.swift_course.proofs.Blocks.{after_push, allowed_push, filter_none, filter_some, range_next, stand_push}
 use Rattle.swift_course.proofs.Lists.{all_each, count_append, count_cons, equal, if_some, no_one, one, total_most, total_set, unequal}
 use Rattle.swift_course.proofs.Order.{orders_go_on, orders_kept, root_has, root_orderly, root_there}

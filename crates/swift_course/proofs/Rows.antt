@@ -1,21 +1,9 @@
 -- Some steps, worked out by hand and computed. The script doesn't matter: no task is made.
-use Rattle.std.proofs.Common.{◌≡◌, ℤ, true, false, Option, Some, None, List, [], ◌∷◌, ◌++◌, refl}
-use Rattle.swift_types.specs.declared.env.Env.{Env}
+use Rattle.swift_course.proofs.Prelude.{◌≡◌, ℤ, true, false, List, [], ◌∷◌, ◌++◌, refl, Env, Medium, ScriptView, FrameView, ExitView, returning, yielding, Event, Root, Begin, Apply, Wait, End, Give, RecordView, has_last_of, WaitingTaskView, JobFacts, task, ways, knowing_begin, knowing_turn, with_begin, with_turn, Account, BookFacts, BookKnown, Ticket, at_rest, under_way, unordered, no_view, fresh}
+use Rattle.std.proofs.Common.{Option, Some, None}
 use Rattle.swift_types.specs.declared.outcome.Ending.TheVariants as ending
 use Rattle.swift_types.specs.declared.outcome.Resume.TheVariants as resume
-use Rattle.swift_types.specs.declared.priority.Priority.TheVariants.{Medium}
-use Rattle.swift_script.specs.Scripts.{ScriptView}
-use Rattle.swift_interpreter.specs.Frames.{FrameView}
-use Rattle.swift_interpreter.specs.Turn.{ExitView, returning, yielding}
-use Rattle.swift_events.specs.declared.event.Event.{Event}
-use Rattle.swift_events.specs.declared.event.Event.TheVariants.{Root, Begin, Apply, Wait, End, Give}
 use Rattle.swift_events.specs.Lives.{life}
-use Rattle.swift_journal.specs.Records.{RecordView}
-use Rattle.swift_history.specs.Orderly.{has_last_of}
-use Rattle.swift_history.specs.TurnEnds.{WaitingTaskView, JobFacts, task}
-use Rattle.swift_course.specs.Course.{ways}
-use Rattle.swift_course.specs.Steps.{knowing_begin, knowing_turn, with_begin, with_turn}
-use Rattle.swift_course.specs.Views.{Account, BookFacts, BookKnown, Ticket, at_rest, under_way, unordered, no_view, fresh}
 
 abbrev job : FrameView → JobFacts
 job p = record { task = 0; number = 0; resume = resume.Start; frames = record { frames = p ∷ []; outer = [] } }

@@ -1,9 +1,5 @@
 -- The rule over lists of what seats know is that over lists of their views.
-use Rattle.std.proofs.Common.{◌≡◌, ℕ, zero, suc, List, [], ◌∷◌, ◌++◌, set, refl, sym, ap, ◌∙◌, subst}
-use mathlib.Core.Option.{some, some-injective, some-ne-none}
-use lib.ListN.{get_elem?}
-use Rattle.swift_course.specs.Course.{IsCourse}
-use Rattle.swift_course.specs.Views.{BookKnown}
+use Rattle.swift_course.proofs.Prelude.{◌≡◌, ℕ, zero, suc, List, [], ◌∷◌, ◌++◌, set, refl, sym, ap, ◌∙◌, subst, some, some-injective, some-ne-none, get_elem?, IsCourse, BookKnown}
 use Rattle.swift_course.proofs.Parts.{seat_learns}
 use Rattle.swift_course.specs.declared.known.Known.{Known}
 use Rattle.swift_course.specs.Rule.{GivesAreKept, JoinsAreKept, PartsAreKept, SeatsLearnOf, views_of}

@@ -1,15 +1,6 @@
 -- A step of one seat leaves what the others know true.
-use Rattle.std.proofs.Common.{◌≡◌, ◌≢◌, ℕ, ◌+◌, ◌≤◌, ◌==◌, List, [], ◌∷◌, get_or, set, count_by, sym, ap, ◌∙◌, subst, arith, inl, inr}
-use Rattle.std.specs.Prelude.{All, Some, map, sum_by}
-use Rattle.std.specs.List.{AllByRecursion}
-use Rattle.std.proofs.lemmas.List.Elements.{All-from_recursion}
-use mathlib.Core.Option.{some}
-use lib.ListN.{get_elem?}
-use Rattle.swift_script.specs.Scripts.{ScriptView}
-use Rattle.swift_history.specs.Histories.{Block, Standing}
-use Rattle.swift_history.specs.TurnEnds.{JobFacts}
-use Rattle.swift_course.specs.Course.{IsGiven, IsIn, IsOwned, SeatIsRight, is_for, one_if, standing, tickets_in}
-use Rattle.swift_course.specs.Views.{Account, Maker, BookKnown, Ticket, fresh}
+use Rattle.swift_course.proofs.Prelude.{◌≡◌, ◌≢◌, ℕ, ◌+◌, ◌≤◌, ◌==◌, List, [], ◌∷◌, get_or, set, count_by, sym, ap, ◌∙◌, subst, arith, inl, inr, All, Some, sum_by, AllByRecursion, All-from_recursion, some, get_elem?, ScriptView, Block, Standing, JobFacts, IsGiven, IsIn, IsOwned, SeatIsRight, is_for, one_if, standing, tickets_in, Account, Maker, BookKnown, Ticket, fresh}
+use Rattle.std.specs.Prelude.{map}
 use Rattle.swift_course.proofs.Lists.{all_both, at_set, count_cons, count_own, if_some, set_else, set_there, total_most, total_set}
 
 -- tickets stay what they are, where each one does that counts for its task

@@ -1,30 +1,7 @@
 -- What the events of one task say of the stages of others: nothing.
-use Rattle.std.proofs.Common.{◌≡◌, ◌≢◌, ◌⊎◌, ℕ, ◌+◌, ◌<◌, Bool, true, false, List, [], ◌∷◌, ◌++◌, if◌then◌else◌, refl, sym, ap, ◌∙◌, append_assoc, arith, inl, inr}
-use Rattle.std.specs.Prelude.{Option, Some, None, is_some}
-use Rattle.std.proofs.lemmas.Bool.{cases_eq}
-use Rattle.std.proofs.lemmas.List.{append-nil}
-use Rattle.swift_types.specs.declared.id.TaskId.{TaskId}
-use Rattle.swift_types.specs.declared.outcome.Ending.{Ending}
-use Rattle.swift_types.specs.declared.outcome.Fault.{Fault}
-use Rattle.swift_types.specs.declared.priority.Priority.{Priority}
-use Rattle.swift_types.specs.declared.env.Env.{Env}
+use Rattle.swift_course.proofs.Prelude.{◌≡◌, ◌≢◌, ◌⊎◌, ℕ, ◌+◌, ◌<◌, Bool, true, false, List, [], ◌∷◌, ◌++◌, if◌then◌else◌, refl, sym, ap, ◌∙◌, append_assoc, arith, inl, inr, Option, Some, None, is_some, cases_eq, append-nil, TaskId, Ending, Fault, Priority, Env, next_of, ScriptView, root_count, EffectView, spawning, detaching, opening, adding, cancelling_task, cancelling_group, ExitView, calling, waiting, asking_next, closing, yielding, returning, failing, Step, Run, Ended, Await, Event, Begin, CancelTask, Life, JobStage, Begun, is_made, later, task_of, tasks_of, life_of, stage_in, group_of, life_of-push_other, life_of-push_same, tasks_of-push_other, JobFacts, close_events, effect_events, end_events, exit_events, gives, is_left_out, log_after, named_task, next_events, wait_events}
 use Rattle.swift_groups.specs.declared.answer.NextResult.{NextResult as Answer}
 use Rattle.swift_groups.specs.declared.answer.NextResult.TheVariants as answer
-use Rattle.swift_groups.specs.Next.{next_of}
-use Rattle.swift_script.specs.Scripts.{ScriptView, root_count}
-use Rattle.swift_interpreter.specs.Turn.{EffectView, spawning, detaching, opening, adding, cancelling_task, cancelling_group, ExitView, calling, waiting, asking_next, closing, yielding, returning, failing}
-use Rattle.swift_turn.specs.declared.step.Step.{Step}
-use Rattle.swift_turn.specs.declared.step.Step.TheVariants.{Run, Ended, Await}
-use Rattle.swift_events.specs.declared.event.Event.{Event}
-use Rattle.swift_events.specs.declared.event.Event.TheVariants.{Begin, CancelTask}
-use Rattle.swift_events.specs.declared.life.Life.{Life}
-use Rattle.swift_events.specs.declared.life.JobStage.{JobStage}
-use Rattle.swift_events.specs.declared.life.JobStage.TheVariants.{Begun}
-use Rattle.swift_events.specs.Events.{is_made, later, task_of, tasks_of}
-use Rattle.swift_events.specs.Lives.{life_of, stage_in}
-use Rattle.swift_events.specs.Relations.{group_of}
-use Rattle.swift_events.proofs.LogLemmas.{life_of-push_other, life_of-push_same, tasks_of-push_other}
-use Rattle.swift_history.specs.TurnEnds.{JobFacts, close_events, effect_events, end_events, exit_events, gives, is_left_out, log_after, named_task, next_events, wait_events}
 use Rattle.swift_course.proofs.Lists.{one}
 use Rattle.swift_course.proofs.Made.{effect_grows}
 use Rattle.swift_course.proofs.Waking.{times}

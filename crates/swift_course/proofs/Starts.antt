@@ -1,12 +1,5 @@
 -- The checkpoints of a run that has not begun.
-use Rattle.std.proofs.Common.{◌≡◌, ℕ, ◌+◌, ◌<◌, ◌≤◌, zero, suc, List, [], ◌∷◌, map, length, refl, sym, ap, ◌∙◌, arith}
-use Rattle.std.specs.Prelude.{Option, Some, None, slice_get, unwrap_or}
-use Rattle.std.specs.List.{range_with_len}
-use Rattle.std.proofs.lemmas.Option.{slice_get_within}
-use Rattle.swift_script.specs.Scripts.{ScriptView, executor_count, executor_start}
-use Rattle.swift_journal.specs.Checkpoints.{CheckpointView}
-use Rattle.swift_history.specs.Histories.{checkpoint_at, no_checkpoint}
-use Rattle.swift_course.specs.Course.{start_of, starts}
+use Rattle.swift_course.proofs.Prelude.{◌≡◌, ℕ, ◌+◌, ◌<◌, ◌≤◌, zero, suc, List, [], ◌∷◌, map, length, refl, sym, ap, ◌∙◌, arith, Option, Some, None, slice_get, unwrap_or, range_with_len, slice_get_within, ScriptView, executor_count, executor_start, CheckpointView, checkpoint_at, no_checkpoint, start_of, starts}
 use Rattle.swift_course.proofs.Lists.{same_one}
 
 from : {X : Type 0} (f : ℕ → X) (n a e : ℕ) → e < n → slice_get (map f (range_with_len a n)) e ≡ Some (f (a + e))

@@ -1,15 +1,5 @@
 -- What the end of a turn leaves of tasks: in how many ways they can go on, and how far they are.
-use Rattle.std.proofs.Common.{◌≡◌, ◌≢◌, ℕ, ◌+◌, ◌≤◌, ◌<◌, ◌==◌, List, [], ◌∷◌, ◌++◌, length, replicate, refl, ap, ◌∙◌, arith, inl}
-use Rattle.std.specs.Prelude.{Option, None, is_some}
-use Rattle.swift_types.specs.declared.priority.Priority.{Priority}
-use Rattle.swift_script.specs.Scripts.{ScriptView, root_count}
-use Rattle.swift_interpreter.specs.Turn.{EffectView, ExitView}
-use Rattle.swift_turn.specs.Body.{Advanced}
-use Rattle.swift_events.specs.declared.event.Event.{Event}
-use Rattle.swift_events.specs.declared.event.Event.TheVariants.{Apply}
-use Rattle.swift_events.specs.Events.{tasks_of}
-use Rattle.swift_history.specs.TurnEnds.{AfterTurn, WaitingTaskView, TurnEnd, exit_events, exit_resume, followed, gives, jobs_made, log_after, task, turn_end}
-use Rattle.swift_course.specs.Course.{one_if, waits}
+use Rattle.swift_course.proofs.Prelude.{◌≡◌, ◌≢◌, ℕ, ◌+◌, ◌≤◌, ◌<◌, ◌==◌, List, [], ◌∷◌, ◌++◌, length, replicate, refl, ap, ◌∙◌, arith, inl, Option, None, is_some, Priority, ScriptView, root_count, EffectView, ExitView, Advanced, Event, Apply, tasks_of, AfterTurn, WaitingTaskView, TurnEnd, exit_events, exit_resume, followed, gives, jobs_made, log_after, task, turn_end, one_if, waits}
 use Rattle.swift_course.proofs.Made.{AreNext, made_next}
 use Rattle.swift_course.proofs.Stages.{effects_stay, exit_idle, exit_stays, gives_idle, gives_silent, stage_of, stage_stays, tasks_stay}
 use Rattle.swift_course.proofs.Waking.{followed_ways, room_waits, times}

@@ -1,27 +1,8 @@
 -- A task that goes on has one job, or waits.
-use Rattle.swift_course.specs.Views.{fresh}
-use Rattle.std.proofs.Common.{◌≡◌, ◌≢◌, ℕ, zero, suc, ◌+◌, ◌≤◌, ◌==◌, Bool, true, false, List, [], ◌∷◌, ◌++◌, get_or, set, replicate, map, count_by, if◌then◌else◌, refl, ap, ◌∙◌, arith, inl, inr}
-use Rattle.std.specs.Prelude.{Option, Some, None, is_some}
-use Rattle.std.specs.List.{AllByRecursion}
-use Rattle.std.proofs.lemmas.Bool.{cases_eq}
-use Rattle.swift_types.specs.declared.id.TaskId.{TaskId}
-use Rattle.swift_types.specs.declared.outcome.Ending.{Ending}
-use Rattle.swift_types.specs.declared.outcome.Resume.{Resume}
-use Rattle.swift_types.specs.declared.outcome.Resume.TheVariants.{Go}
+use Rattle.swift_course.proofs.Prelude.{fresh, ◌≡◌, ◌≢◌, ℕ, zero, suc, ◌+◌, ◌≤◌, ◌==◌, Bool, true, false, List, [], ◌∷◌, ◌++◌, get_or, set, replicate, map, count_by, if◌then◌else◌, refl, ap, ◌∙◌, arith, inl, inr, Option, Some, None, is_some, AllByRecursion, cases_eq, TaskId, Ending, Resume, Go, Step, Run, Ended, Await, TaskView, Event, JobStage, Asks, Closes, life_of, group_of, parent_of, waiters_of, with_jobs, AfterTurn, WaitingTaskView, JobFacts, followed, resume_at, resume_of, wake, wake_all, wake_closing, wake_each, wake_owner, wake_parent, woken, is_for, one_if, waits}
 use Rattle.swift_groups.specs.declared.answer.Close.{Close as Closing}
 use Rattle.swift_groups.specs.declared.answer.Close.TheVariants as closing
 use Rattle.swift_groups.specs.Close.{close_of}
-use Rattle.swift_turn.specs.declared.step.Step.{Step}
-use Rattle.swift_turn.specs.declared.step.Step.TheVariants.{Run, Ended, Await}
-use Rattle.swift_turn.specs.Body.{TaskView}
-use Rattle.swift_events.specs.declared.event.Event.{Event}
-use Rattle.swift_events.specs.declared.life.JobStage.{JobStage}
-use Rattle.swift_events.specs.declared.life.JobStage.TheVariants.{Asks, Closes}
-use Rattle.swift_events.specs.Lives.{life_of}
-use Rattle.swift_events.specs.Relations.{group_of, parent_of, waiters_of}
-use Rattle.swift_history.specs.Histories.{with_jobs}
-use Rattle.swift_history.specs.TurnEnds.{AfterTurn, WaitingTaskView, JobFacts, followed, resume_at, resume_of, wake, wake_all, wake_closing, wake_each, wake_owner, wake_parent, woken}
-use Rattle.swift_course.specs.Course.{is_for, one_if, waits}
 use Rattle.swift_course.proofs.Lists.{count_cons, equal, no_one, one}
 
 -- how many jobs are of this task

@@ -1,17 +1,5 @@
 -- The report of a run is the fold of a whole one.
-use Rattle.std.proofs.Common.{◌≡◌, ℕ, ℤ, ◌<◌, List, [], ◌++◌, map, refl, sym, ap, ◌∙◌, subst, arith}
-use Rattle.std.specs.Prelude.{Some, Contains, slice_get}
-use Rattle.std.specs.List.{range_with_len}
-use Rattle.std.proofs.lemmas.Option.{slice_get_within}
-use Rattle.std.proofs.lemmas.List.Elements.{All-contains}
-use Rattle.swift_script.specs.Scripts.{executor_count, executor_start}
-use Rattle.swift_journal.specs.Checkpoints.{CheckpointView}
-use Rattle.swift_journal.specs.Records.{RecordView}
-use Rattle.swift_journal.specs.Replay.{replay}
-use Rattle.swift_history.specs.Histories.{ReportView, records_of}
-use Rattle.swift_course.specs.Course.{IsIn, start_of, starts}
-use Rattle.swift_course.specs.Reports.{HasHistory, IsAccountedFor, IsReportOf}
-use Rattle.swift_course.specs.Views.{Account, BookFacts, BookKnown}
+use Rattle.swift_course.proofs.Prelude.{◌≡◌, ℕ, ℤ, ◌<◌, List, [], ◌++◌, map, refl, sym, ap, ◌∙◌, subst, arith, Some, Contains, slice_get, range_with_len, slice_get_within, All-contains, executor_count, executor_start, CheckpointView, RecordView, replay, ReportView, records_of, IsIn, start_of, starts, HasHistory, IsAccountedFor, IsReportOf, Account, BookFacts, BookKnown}
 use Rattle.swift_course.specs.Whole.{AreFoldedInto, RunsAreWhole}
 use Rattle.swift_course.proofs.Blocks.{replay_append}
 use Rattle.swift_course.proofs.Legal.{report_is_orderly, there}

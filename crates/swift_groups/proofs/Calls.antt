@@ -1,22 +1,9 @@
 -- What a call finds under a number, and what contracts see after it changed that group.
-use Rattle.std.proofs.Common.{◌≡◌, ℕ, ◌<◌, List, Some, Result, Ok, Err, true, false, [], ◌∷◌, ◌++◌, length, set, refl, ap, sym, ◌∙◌, inl, inr}
-use Rattle.std.proofs.lemmas.Option.{slice_get_within}
-use Rattle.std.proofs.lemmas.Bool.{cond-true, cond-false, cases_Bool, true≢false}
-use Rattle.std.specs.List.{slice_get}
+use Rattle.swift_groups.proofs.Prelude.{◌≡◌, ℕ, ◌<◌, List, Some, Result, Ok, Err, true, false, [], ◌∷◌, ◌++◌, length, set, refl, ap, sym, ◌∙◌, inl, inr, slice_get_within, cond-true, cond-false, cases_Bool, true≢false, slice_get, TaskId, Ending, GroupId, GroupFault, Group, ChildEnding, GroupView, GroupsView, is_among, unfinished, if_new, if_unfinished, any_group, open_group, live_group, groups_after, known_in, open_in, live_in, added_of, ended_of, group_is, groups_from, groups_view}
 use Rattle.std.specs.Result.{IsErrAnd, IsOk, is_ok}
-use Rattle.swift_types.specs.declared.id.TaskId.{TaskId}
-use Rattle.swift_types.specs.declared.outcome.Ending.{Ending}
-use Rattle.swift_groups.specs.declared.answer.GroupId.{GroupId}
-use Rattle.swift_groups.specs.declared.fault.GroupFault.{GroupFault}
 use Rattle.swift_groups.specs.declared.fault.GroupFault.TheVariants.{Child}
-use Rattle.swift_groups.specs.declared.group.Group.{Group}
 use Rattle.swift_groups.specs.declared.group.Child.{Child as Added}
-use Rattle.swift_groups.specs.declared.group.ChildEnding.{ChildEnding}
 use Rattle.swift_groups.specs.declared.groups.Groups.TheInside.{Inside}
-use Rattle.swift_groups.specs.Groups.{GroupView, GroupsView, is_among, unfinished}
-use Rattle.swift_groups.specs.Answers.{if_new, if_unfinished, any_group, open_group, live_group, groups_after}
-use Rattle.swift_groups.specs.Inside.{known_in, open_in, live_in, added_of, ended_of}
-use Rattle.swift_groups.specs.GroupsInside.{group_is, groups_from, groups_view}
 use Rattle.swift_groups.proofs.Lists.{set_same}
 use Rattle.swift_groups.proofs.Views.{view_set, view_push, known_ok, known_err, known_at, open_ok, open_err, open_at, live_ok, live_err, live_at}
 

@@ -1,18 +1,8 @@
 -- Children of a group after one more, and after one more ended.
-use Rattle.std.proofs.Common.{◌≡◌, ℕ, suc, ◌+◌, ◌≤◌, List, Option, None, Some, [], ◌∷◌, ◌++◌, length, Bool, true, false, not, ◌||◌, ◌&&◌, cond, eqb, refl, ap, sym, ◌∙◌, inl, inr, arith}
-use Rattle.std.proofs.lemmas.Bool.{cases_eq, cases_Bool, cond-true, cond-false, eq-eqb, ne_eqb, or_parts, or_left, true≢false}
+use Rattle.swift_groups.proofs.Prelude.{◌≡◌, ℕ, suc, ◌+◌, ◌≤◌, List, Option, None, Some, [], ◌∷◌, ◌++◌, length, Bool, true, false, not, ◌||◌, ◌&&◌, cond, eqb, refl, ap, sym, ◌∙◌, inl, inr, arith, cases_eq, cases_Bool, cond-true, cond-false, eq-eqb, ne_eqb, or_parts, or_left, true≢false, length_push, list_any, count_by, TaskId, Ending, Child, is_among, has_ended, unfinished_of, added_of, mark_of, unended}
 use Rattle.std.proofs.lemmas.List.Folds.{list_any-append}
 use Rattle.std.proofs.lemmas.List.Elements.{filter-append}
-use Rattle.std.proofs.lemmas.List.{length_push}
 use Rattle.std.proofs.lemmas.Grind.{common_steps}
-use Rattle.std.specs.List.{list_any, count_by}
-use Rattle.swift_types.specs.declared.id.TaskId.{TaskId}
-use Rattle.swift_types.specs.declared.outcome.Ending.{Ending}
-use Rattle.swift_groups.specs.declared.group.Child.{Child}
-use Rattle.swift_groups.specs.Groups.{is_among, has_ended, unfinished_of}
-use Rattle.swift_groups.specs.Inside.{added_of}
-use Rattle.swift_groups.specs.GroupsInside.{mark_of}
-use Rattle.swift_groups.specs.KeysInside.{unended}
 
 added_same : (c : Child) (cs : List Child) (i : ℕ) → c.group ≡ i → added_of (c ∷ cs) i ≡ c.task ∷ added_of cs i
 added_same c cs i h = cond-true (eqb c.group i) (c.task ∷ added_of cs i) (added_of cs i) (eq-eqb c.group i h)

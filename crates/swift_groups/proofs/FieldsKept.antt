@@ -1,18 +1,6 @@
 -- What the fields keep, after each kind of change.
-use Rattle.std.proofs.Common.{◌≡◌, ℕ, ◌+◌, ◌-◌, ◌≤◌, ◌<◌, List, Option, None, Some, [], ◌∷◌, ◌++◌, length, set, Bool, true, false, cond, eqb, refl, ap, sym, subst, ◌∙◌, inl, inr, arith}
-use Rattle.std.proofs.lemmas.Bool.{cases_eq, eq-eqb, ne_eqb, true≢false}
-use Rattle.std.proofs.lemmas.List.{length-set, length_push, nil_from_length}
+use Rattle.swift_groups.proofs.Prelude.{◌≡◌, ℕ, ◌+◌, ◌-◌, ◌≤◌, ◌<◌, List, Option, None, Some, [], ◌∷◌, ◌++◌, length, set, Bool, true, false, cond, eqb, refl, ap, sym, subst, ◌∙◌, inl, inr, arith, cases_eq, eq-eqb, ne_eqb, true≢false, length-set, length_push, nil_from_length, same_Some, slice_get_within, get_or_from_slice_get, slice_get, sum_by, option_or, TaskId, Ending, Group, Child, ChildEnding, added_of, ended_of, places_of, mark_of, IsGroup, AreGroups}
 use Rattle.std.proofs.lemmas.List.Sums.{sum_by-set, sum_by_push, get_or-le-sum_by}
-use Rattle.std.proofs.lemmas.Option.{same_Some, slice_get_within, get_or_from_slice_get}
-use Rattle.std.specs.List.{slice_get, sum_by}
-use Rattle.std.specs.Option.{option_or}
-use Rattle.swift_types.specs.declared.id.TaskId.{TaskId}
-use Rattle.swift_types.specs.declared.outcome.Ending.{Ending}
-use Rattle.swift_groups.specs.declared.group.Group.{Group}
-use Rattle.swift_groups.specs.declared.group.Child.{Child}
-use Rattle.swift_groups.specs.declared.group.ChildEnding.{ChildEnding}
-use Rattle.swift_groups.specs.Inside.{added_of, ended_of, places_of}
-use Rattle.swift_groups.specs.GroupsInside.{mark_of, IsGroup, AreGroups}
 use Rattle.swift_groups.proofs.Lists.{slice_get_old, slice_get_new, slice_get_push, slice_get_set, slice_get_set_other}
 use Rattle.swift_groups.proofs.Lists as lists
 use Rattle.swift_groups.proofs.Links.{ended_push_same, ended_push_other, places_push_same, places_push_other, length_places}

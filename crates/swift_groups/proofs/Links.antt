@@ -1,13 +1,5 @@
 -- Endings in order, linked by group, after one more.
-use Rattle.std.proofs.Common.{◌≡◌, ℕ, zero, suc, ◌+◌, ◌-◌, ◌<◌, List, Option, None, Some, [], ◌∷◌, ◌++◌, length, set, get_or, eqb, refl, ap, sym, subst, ◌∙◌, inl, inr, arith}
-use Rattle.std.proofs.lemmas.Option.{same_Some, none-some, slice_get_within, slice_get_past, slice_get-get_or}
-use Rattle.std.proofs.lemmas.List.{length_push, get_or-set_same, get_or-set_other, get_or_push, get_or_append_left, length-set}
-use Rattle.std.proofs.lemmas.Bool.{cases_eq, cond-true, cond-false, eq-eqb, ne_eqb}
-use Rattle.std.specs.List.{slice_get}
-use Rattle.swift_types.specs.declared.id.TaskId.{TaskId}
-use Rattle.swift_types.specs.declared.outcome.Ending.{Ending}
-use Rattle.swift_groups.specs.Inside.{ended_of, places_from, places_of, last_of, AreLinked}
-use Rattle.swift_groups.specs.declared.group.ChildEnding.{ChildEnding}
+use Rattle.swift_groups.proofs.Prelude.{◌≡◌, ℕ, zero, suc, ◌+◌, ◌-◌, ◌<◌, List, Option, None, Some, [], ◌∷◌, ◌++◌, length, set, get_or, eqb, refl, ap, sym, subst, ◌∙◌, inl, inr, arith, same_Some, none-some, slice_get_within, slice_get_past, slice_get-get_or, length_push, get_or-set_same, get_or-set_other, get_or_push, get_or_append_left, length-set, cases_eq, cond-true, cond-false, eq-eqb, ne_eqb, slice_get, TaskId, Ending, ended_of, places_from, places_of, last_of, AreLinked, ChildEnding}
 use Rattle.swift_groups.proofs.Lists.{slice_get_old, slice_get_new, slice_get_push}
 
 -- an ending of the group, and one of another

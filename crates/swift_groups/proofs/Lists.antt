@@ -1,7 +1,5 @@
 -- Reads of a list by place, after a push and after a write.
-use Rattle.std.proofs.Common.{◌≡◌, ℕ, zero, suc, ◌≤◌, ◌<◌, ◌⊎◌, List, None, Some, [], ◌∷◌, ◌++◌, length, set, drop, refl, ap, sym, inl, inr, arith}
-use Rattle.std.proofs.lemmas.Option.{same_Some}
-use Rattle.std.specs.List.{slice_get}
+use Rattle.swift_groups.proofs.Prelude.{◌≡◌, ℕ, zero, suc, ◌≤◌, ◌<◌, ◌⊎◌, List, None, Some, [], ◌∷◌, ◌++◌, length, set, drop, refl, ap, sym, inl, inr, arith, same_Some, slice_get}
 
 pub slice_get_old : {X : Type 0} (xs ys : List X) (i : ℕ) (x : X) → slice_get xs i ≡ Some x → slice_get (xs ++ ys) i ≡ Some x
 slice_get_old [] ys i x h = absurd (cc h)

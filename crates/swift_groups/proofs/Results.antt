@@ -1,21 +1,9 @@
 -- What a group answers to `next` and `close`, by its numbers and places.
-use Rattle.std.proofs.Common.{◌≡◌, ℕ, suc, ◌+◌, ◌≤◌, ◌<◌, List, Option, None, Some, [], ◌∷◌, length, drop, get_or, refl, ap, sym, ◌∙◌, inl, inr, arith, add-one}
-use Rattle.std.proofs.lemmas.Bool.{cases_eq}
-use Rattle.std.proofs.lemmas.List.{drop_all, nil_from_length, get_or_read}
-use Rattle.std.proofs.lemmas.Option.{slice_get_within, get_or_from_slice_get}
-use Rattle.std.specs.List.{slice_get}
-use Rattle.swift_types.specs.declared.id.TaskId.{TaskId}
-use Rattle.swift_types.specs.declared.outcome.Ending.{Ending}
+use Rattle.swift_groups.proofs.Prelude.{◌≡◌, ℕ, suc, ◌+◌, ◌≤◌, ◌<◌, List, Option, None, Some, [], ◌∷◌, length, drop, get_or, refl, ap, sym, ◌∙◌, inl, inr, arith, add-one, cases_eq, drop_all, nil_from_length, get_or_read, slice_get_within, get_or_from_slice_get, slice_get, TaskId, Ending, Closing, Group, unfinished_of, next_of, next_among, handed_after, handed_on, close_of, close_among, stage_among, closed_on, ended_of, places_of, AreLinked, group_is, IsGroup}
 use Rattle.swift_groups.specs.declared.answer.NextResult.TheVariants.{Result, Wait, Empty}
 use Rattle.swift_groups.specs.declared.answer.Close.TheVariants.{Done, Wait as NotYet}
-use Rattle.swift_groups.specs.declared.group.GroupStage.TheVariants.{Closing, Done as Ended}
-use Rattle.swift_groups.specs.declared.group.Group.{Group}
+use Rattle.swift_groups.specs.declared.group.GroupStage.TheVariants.{Done as Ended}
 use Rattle.swift_groups.specs.declared.group.ChildEnding.{ChildEnding as EndedChild}
-use Rattle.swift_groups.specs.Groups.{unfinished_of}
-use Rattle.swift_groups.specs.Next.{next_of, next_among, handed_after, handed_on}
-use Rattle.swift_groups.specs.Close.{close_of, close_among, stage_among, closed_on}
-use Rattle.swift_groups.specs.Inside.{ended_of, places_of, AreLinked}
-use Rattle.swift_groups.specs.GroupsInside.{group_is, IsGroup}
 use Rattle.swift_groups.proofs.Lists as lists
 use Rattle.swift_groups.proofs.Lists.{drop_get}
 use Rattle.swift_groups.proofs.Links.{length_places, ending_from, place_within, ended_same, ended_other}

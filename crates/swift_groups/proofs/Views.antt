@@ -1,18 +1,6 @@
 -- What contracts see of the groups, read by number and after a change.
-use Rattle.std.proofs.Common.{◌≡◌, ℕ, zero, suc, ◌<◌, List, Option, None, Some, Result, Ok, Err, [], ◌∷◌, ◌++◌, length, set, refl, ap, sym, ◌∙◌, arith}
-use Rattle.std.proofs.lemmas.Option.{same_Some}
-use Rattle.std.specs.List.{slice_get}
-use Rattle.swift_types.specs.declared.id.TaskId.{TaskId}
-use Rattle.swift_types.specs.declared.outcome.Ending.{Ending}
-use Rattle.swift_groups.specs.declared.answer.GroupId.{GroupId}
-use Rattle.swift_groups.specs.declared.fault.GroupFault.{GroupFault}
+use Rattle.swift_groups.proofs.Prelude.{◌≡◌, ℕ, zero, suc, ◌<◌, List, Option, None, Some, Result, Ok, Err, [], ◌∷◌, ◌++◌, length, set, refl, ap, sym, ◌∙◌, arith, same_Some, slice_get, TaskId, Ending, GroupId, GroupFault, Open, Closing, Done, Group, GroupView, if_open, if_live, any_group, open_group, live_group, any_if_opened, open_if_opened, live_if_opened, known_in, open_in, live_in, known_found, open_found, live_found, group_is, groups_from}
 use Rattle.swift_groups.specs.declared.group.GroupStage.{GroupStage}
-use Rattle.swift_groups.specs.declared.group.GroupStage.TheVariants.{Open, Closing, Done}
-use Rattle.swift_groups.specs.declared.group.Group.{Group}
-use Rattle.swift_groups.specs.Groups.{GroupView}
-use Rattle.swift_groups.specs.Answers.{if_open, if_live, any_group, open_group, live_group, any_if_opened, open_if_opened, live_if_opened}
-use Rattle.swift_groups.specs.Inside.{known_in, open_in, live_in, known_found, open_found, live_found}
-use Rattle.swift_groups.specs.GroupsInside.{group_is, groups_from}
 
 abbrev Added : Type 0
 Added = ℕ → List TaskId

@@ -1,24 +1,5 @@
 -- Each turn that the log of a history applies is that of a block, and stands in the report.
-use Rattle.std.proofs.Common.{◌≡◌, ◌≢◌, ℕ, ◌<◌, ◌≤◌, List, [], ◌∷◌, ◌++◌, length, take, zero, suc, refl, sym, ◌∙◌, ap, arith, Bool, inl, inr, subst, append_assoc}
-use Rattle.std.specs.Prelude.{◌⊎◌, Option, Some, None, if◌then◌else◌, slice_get}
-use Rattle.std.specs.List.{filter_map, cons_option}
-use Rattle.std.proofs.lemmas.Bool.{cases_eq, eq-eqb}
-use Rattle.std.proofs.lemmas.Bool.Decides.{nat_tests}
-use Rattle.std.proofs.lemmas.Option.{none-some, same_Some, some_pair_parts}
-use Rattle.std.proofs.lemmas.List.{append-nil}
-use Rattle.swift_types.specs.declared.env.Env.{Env}
-use Rattle.swift_script.specs.Scripts.{ScriptView, root_count, root_priority, executor_count, method_actor}
-use Rattle.swift_interpreter.specs.Frames.{FrameView}
-use Rattle.swift_interpreter.specs.Turn.{EffectView, ExitView}
-use Rattle.swift_turn.specs.Body.{advanced}
-use Rattle.swift_journal.specs.Records.{RecordView}
-use Rattle.swift_journal.specs.Checkpoints.{FoldedView, CheckpointView}
-use Rattle.swift_events.specs.declared.event.Event.{Event}
-use Rattle.swift_events.specs.declared.event.Event.TheVariants.{Root, Begin, Apply, Give}
-use Rattle.swift_events.specs.Lives.{life_of}
-use Rattle.swift_history.specs.TurnEnds.{task, JobFacts, exit_events, log_after, root_job}
-use Rattle.swift_history.specs.Histories.{Block, added, begun, ran, folded, Standing, Stands, AllStand, TurnStands, IsLegal, ReportView, after_block, after_blocks, at_first, left_as, begun_priority, turn_applied, record_in, records_of, folded_in, folded_of}
-use Rattle.swift_laws.specs.Laws.{ActorsHaveExecutors, TurnPlace, in_journal, in_checkpoint, HasTurn}
+use Rattle.swift_laws.proofs.Prelude.{◌≡◌, ◌≢◌, ℕ, ◌<◌, ◌≤◌, List, [], ◌∷◌, ◌++◌, length, take, zero, suc, refl, sym, ◌∙◌, ap, arith, Bool, inl, inr, subst, append_assoc, ◌⊎◌, Option, Some, None, if◌then◌else◌, slice_get, filter_map, cons_option, cases_eq, eq-eqb, nat_tests, none-some, same_Some, some_pair_parts, append-nil, Env, ScriptView, root_count, root_priority, executor_count, method_actor, FrameView, EffectView, ExitView, advanced, RecordView, FoldedView, CheckpointView, Event, Root, Begin, Apply, Give, life_of, task, JobFacts, exit_events, log_after, root_job, Block, added, begun, ran, folded, Standing, Stands, AllStand, TurnStands, IsLegal, ReportView, after_block, after_blocks, at_first, left_as, begun_priority, turn_applied, record_in, records_of, folded_in, folded_of, ActorsHaveExecutors, TurnPlace, in_journal, in_checkpoint, HasTurn}
 use Rattle.swift_laws.proofs.HistoriesWritten.{keeps_effects, keeps_exit}
 use Rattle.swift_laws.proofs.HistoriesCounted.{applied, applied_other, AreCounted, idle_applied, idle_turn, written_idle}
 use Rattle.swift_laws.proofs.HistoriesTurns.{applied_is, block_keeps, first_counted, after_push, gives_applied}

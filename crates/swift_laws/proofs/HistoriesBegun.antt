@@ -1,26 +1,7 @@
 -- In each history, where a task is in a turn that has begun, the log has that begin.
-use Rattle.std.proofs.Common.{◌≡◌, ℕ, List, [], ◌∷◌, ◌++◌, refl, sym, ◌∙◌, ap, false, inl, inr, subst, append_assoc}
-use Rattle.std.specs.Prelude.{Option, Some, None, IfSome}
-use Rattle.std.specs.List.{list_any}
-use Rattle.std.proofs.lemmas.Bool.{cases_eq, ne_eqb, false≢true, true≢false}
-use Rattle.swift_types.specs.declared.env.Env.{Env}
-use Rattle.swift_script.specs.Scripts.{ScriptView, root_count}
-use Rattle.swift_journal.specs.Records.{RecordView}
-use Rattle.swift_journal.specs.Checkpoints.{CheckpointView}
-use Rattle.swift_events.specs.declared.event.Event.{Event}
-use Rattle.swift_events.specs.declared.event.Event.TheVariants.{Root, Begin, Apply, Free, Open, Child, Skip, CancelTask, CancelGroup, Wait, Next, Close, End, Give}
-use Rattle.swift_events.specs.declared.life.Life.{Life}
-use Rattle.swift_events.specs.declared.life.LastJob.{LastJob}
-use Rattle.swift_events.specs.declared.life.JobStage.{JobStage}
+use Rattle.swift_laws.proofs.Prelude.{◌≡◌, ℕ, List, [], ◌∷◌, ◌++◌, refl, sym, ◌∙◌, ap, false, inl, inr, subst, append_assoc, Option, Some, None, IfSome, list_any, cases_eq, ne_eqb, false≢true, true≢false, Env, ScriptView, root_count, RecordView, CheckpointView, Event, Root, Begin, Apply, Free, Open, Child, Skip, CancelTask, CancelGroup, Wait, Next, Close, End, Give, Life, LastJob, JobStage, task_of, later, life_of, given_in, stage_in, list_any-push_no, life_of-push_same, life_of-push_other, unborn_without, is_begun, task, Block, ran, Standing, AllStand, IsLegal, ReportView, after_blocks, at_first, IsRecord, begins_turn, BeginsIn}
 use Rattle.swift_events.specs.declared.life.JobStage.TheVariants as stage
-use Rattle.swift_events.specs.Events.{task_of, later}
-use Rattle.swift_events.specs.Lives.{life_of, given_in, stage_in}
 use Rattle.swift_events.specs.Room.{IsEnv}
-use Rattle.swift_events.proofs.LogLemmas.{list_any-push_no, life_of-push_same, life_of-push_other, unborn_without}
-use Rattle.swift_history.specs.Checks.{is_begun}
-use Rattle.swift_history.specs.TurnEnds.{task}
-use Rattle.swift_history.specs.Histories.{Block, ran, Standing, AllStand, IsLegal, ReportView, after_blocks, at_first}
-use Rattle.swift_laws.specs.Laws.{IsRecord, begins_turn, BeginsIn}
 use Rattle.swift_laws.proofs.HistoriesCounted.{HasNumber}
 use Rattle.swift_laws.proofs.HistoriesTurns.{current_is, after_push}
 use Rattle.swift_laws.proofs.HistoriesGrow.{begins, keeps_blocks, log_grows, turn_extends}

@@ -1,26 +1,7 @@
 -- In each history the turns of a task are counted: its next turn, whether its job was made or it waits, has for its number how
 -- many turns of it were applied.
-use Rattle.std.proofs.Common.{◌≡◌, ◌≢◌, ℕ, ◌+◌, ◌<◌, ◌≤◌, List, [], ◌∷◌, ◌++◌, length, zero, suc, refl, sym, ◌∙◌, ap, arith, Bool, true, false, inl, inr, subst}
-use Rattle.std.specs.Prelude.{◌⊎◌, Option, Some, None, IfSome, if◌then◌else◌, slice_index_or}
-use Rattle.std.specs.List.{cons_option, range_with_len}
-use Rattle.std.proofs.lemmas.Bool.{cases_eq, false≢true, true≢false, eq-eqb, ne_eqb}
-use Rattle.std.proofs.lemmas.Option.{none-some}
-use Rattle.std.proofs.lemmas.List.{length-append}
-use Rattle.std.proofs.lemmas.List.Elements.{filter_map-append}
-use Rattle.swift_types.specs.declared.env.Env.{Env}
-use Rattle.swift_events.specs.declared.event.Event.{Event}
-use Rattle.swift_events.specs.declared.event.Event.TheVariants.{Root, Begin, Apply, Free, Open, Child, Skip, CancelTask, CancelGroup, Wait, Next, Close, End, Give}
-use Rattle.swift_events.specs.declared.life.Life.{Life}
-use Rattle.swift_events.specs.declared.life.Origin.{Origin}
-use Rattle.swift_events.specs.declared.life.LastJob.{LastJob}
-use Rattle.swift_events.specs.declared.life.JobStage.{JobStage}
+use Rattle.swift_laws.proofs.Prelude.{◌≡◌, ◌≢◌, ℕ, ◌+◌, ◌<◌, ◌≤◌, List, [], ◌∷◌, ◌++◌, length, zero, suc, refl, sym, ◌∙◌, ap, arith, Bool, true, false, inl, inr, subst, ◌⊎◌, Option, Some, None, IfSome, if◌then◌else◌, slice_index_or, cons_option, range_with_len, cases_eq, false≢true, true≢false, eq-eqb, ne_eqb, none-some, length-append, filter_map-append, Env, Event, Root, Begin, Apply, Free, Open, Child, Skip, CancelTask, CancelGroup, Wait, Next, Close, End, Give, Life, Origin, LastJob, JobStage, task_of, is_made, tasks_of, later, life_of, lived, origin_in, given_in, stage_in, life_of-push_same, life_of-push_other, origin-push, tasks_of-push_made, tasks_of-push_other, filter_map-push_none, is_under_way, task, JobFacts, WaitingTaskView, turn_in, turns_of}
 use Rattle.swift_events.specs.declared.life.JobStage.TheVariants as stage
-use Rattle.swift_events.specs.Events.{task_of, is_made, tasks_of, later}
-use Rattle.swift_events.specs.Lives.{life_of, lived, origin_in, given_in, stage_in}
-use Rattle.swift_events.proofs.LogLemmas.{life_of-push_same, life_of-push_other, origin-push, tasks_of-push_made, tasks_of-push_other, filter_map-push_none}
-use Rattle.swift_history.specs.Checks.{is_under_way}
-use Rattle.swift_history.specs.TurnEnds.{task, JobFacts, WaitingTaskView}
-use Rattle.swift_laws.specs.Laws.{turn_in, turns_of}
 use Rattle.swift_laws.proofs.HistoriesWritten.{IsWritten}
 use Rattle.swift_laws.proofs.OpenLogs.{cases_of}
 

@@ -1,29 +1,8 @@
 -- Frames of jobs and of tasks that wait: what the end of a turn keeps of them.
-use Rattle.std.proofs.Common.{◌≡◌, ℕ, ◌+◌, List, [], ◌∷◌, ◌++◌, length, refl, sym, ◌∙◌, ap, Bool, true, false, inl, inr, subst, replicate}
-use Rattle.std.specs.Prelude.{◌==◌, Option, Some, None, if◌then◌else◌, slice_set}
-use Rattle.std.specs.List.{AllByRecursion}
-use Rattle.std.proofs.lemmas.Bool.{cases_eq, eqb-true, cases_Bool}
-use Rattle.std.proofs.lemmas.Option.{none-some, same_Some}
-use Rattle.swift_types.specs.declared.id.TaskId.{TaskId}
-use Rattle.swift_types.specs.declared.outcome.Ending.{Ending}
-use Rattle.swift_types.specs.declared.outcome.Resume.{Resume}
-use Rattle.swift_types.specs.declared.priority.Priority.{Priority}
+use Rattle.swift_laws.proofs.Prelude.{◌≡◌, ℕ, ◌+◌, List, [], ◌∷◌, ◌++◌, length, refl, sym, ◌∙◌, ap, Bool, true, false, inl, inr, subst, replicate, ◌==◌, Option, Some, None, if◌then◌else◌, slice_set, AllByRecursion, cases_eq, eqb-true, cases_Bool, none-some, same_Some, TaskId, Ending, Resume, Priority, close_of, ScriptView, root_count, EffectView, ExitView, Step, Run, Ended, Await, TaskView, Advanced, Event, Apply, JobStage, life_of, group_of, parent_of, waiters_of, task, JobFacts, WaitingTaskView, AfterTurn, woken, wake, wake_each, wake_closing, wake_owner, wake_parent, wake_all, followed, resume_of, exit_events, exit_resume, log_after, jobs_made, turn_end, with_jobs, taken}
 use Rattle.swift_groups.specs.declared.answer.Close.{Close as Closing}
 use Rattle.swift_groups.specs.declared.answer.Close.TheVariants as closing
-use Rattle.swift_groups.specs.Close.{close_of}
-use Rattle.swift_script.specs.Scripts.{ScriptView, root_count}
-use Rattle.swift_interpreter.specs.Turn.{EffectView, ExitView}
-use Rattle.swift_turn.specs.declared.step.Step.{Step}
-use Rattle.swift_turn.specs.declared.step.Step.TheVariants.{Run, Ended, Await}
-use Rattle.swift_turn.specs.Body.{TaskView, Advanced}
-use Rattle.swift_events.specs.declared.event.Event.{Event}
-use Rattle.swift_events.specs.declared.event.Event.TheVariants.{Apply}
-use Rattle.swift_events.specs.declared.life.JobStage.{JobStage}
 use Rattle.swift_events.specs.declared.life.JobStage.TheVariants as stage
-use Rattle.swift_events.specs.Lives.{life_of}
-use Rattle.swift_events.specs.Relations.{group_of, parent_of, waiters_of}
-use Rattle.swift_history.specs.TurnEnds.{task, JobFacts, WaitingTaskView, AfterTurn, woken, wake, wake_each, wake_closing, wake_owner, wake_parent, wake_all, followed, resume_of, exit_events, exit_resume, log_after, jobs_made, turn_end}
-use Rattle.swift_history.specs.Histories.{with_jobs, taken}
 use Rattle.swift_laws.proofs.HistoriesCounted.{held_at}
 use Rattle.swift_laws.proofs.HistoriesTurns.{all_append, held_more, none_set, some_set, other_set}
 

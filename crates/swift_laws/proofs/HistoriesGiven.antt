@@ -1,30 +1,6 @@
 -- In each history the jobs that the log gives for a task are those of the turns that it applies, and one more while a turn is
 -- under way.
-use Rattle.std.proofs.Common.{◌≡◌, ◌≢◌, ℕ, ◌+◌, ◌<◌, ◌≤◌, List, [], ◌∷◌, ◌++◌, length, zero, suc, refl, sym, ◌∙◌, ap, arith, Bool, true, false, inl, inr, subst, append_assoc}
-use Rattle.std.specs.Prelude.{nat_lt, Option, Some, None, is_some, if◌then◌else◌}
-use Rattle.std.specs.List.{AllByRecursion, cons_option, range_with_len}
-use Rattle.std.proofs.lemmas.Bool.{cases_eq, true≢false, eq-eqb, ne_eqb, ltb-true, ltb-false}
-use Rattle.std.proofs.lemmas.List.{append-nil}
-use Rattle.std.proofs.lemmas.List.Elements.{filter_map-append}
-use Rattle.swift_types.specs.declared.outcome.Resume.{Resume}
-use Rattle.swift_types.specs.declared.priority.Priority.{Priority}
-use Rattle.swift_types.specs.declared.env.Env.{Env}
-use Rattle.swift_script.specs.Scripts.{ScriptView, root_count, root_priority}
-use Rattle.swift_interpreter.specs.Frames.{FrameView}
-use Rattle.swift_interpreter.specs.Turn.{EffectView, ExitView}
-use Rattle.swift_turn.specs.Body.{Advanced, advanced}
-use Rattle.swift_journal.specs.Checkpoints.{CheckpointView}
-use Rattle.swift_events.specs.declared.event.Event.{Event}
-use Rattle.swift_events.specs.declared.event.Event.TheVariants.{Root, Begin, Apply, Free, Open, Child, Skip, CancelTask, CancelGroup, Wait, Next, Close, End, Give}
-use Rattle.swift_events.specs.declared.life.Life.{Life}
-use Rattle.swift_events.specs.Events.{task_of, tasks_of, later}
-use Rattle.swift_events.specs.Lives.{life_of, stage_in}
-use Rattle.swift_events.proofs.LogLemmas.{life_of-push_same, life_of-push_other, filter_map-push_none, unborn_without}
-use Rattle.swift_history.specs.Checks.{is_under_way}
-use Rattle.swift_history.specs.TurnEnds.{task, JobFacts, WaitingTaskView, exit_events, log_after, gives, turn_end, root_job, root_events}
-use Rattle.swift_history.specs.Histories.{Block, added, begun, ran, folded, Standing, Stands, AllStand, TurnStands, IsLegal, ReportView, after_block, after_blocks, at_first, left_as, begun_priority, turn_applied}
-use Rattle.swift_laws.specs.Laws.{turns_of, turn_in, jobs_given, given_job, TurnsAreNumbered, GivenJobsAreApplied}
-use Rattle.swift_laws.specs.Accepted.{AcceptedTurnsStand, AcceptedJobsStand}
+use Rattle.swift_laws.proofs.Prelude.{◌≡◌, ◌≢◌, ℕ, ◌+◌, ◌<◌, ◌≤◌, List, [], ◌∷◌, ◌++◌, length, zero, suc, refl, sym, ◌∙◌, ap, arith, Bool, true, false, inl, inr, subst, append_assoc, nat_lt, Option, Some, None, is_some, if◌then◌else◌, AllByRecursion, cons_option, range_with_len, cases_eq, true≢false, eq-eqb, ne_eqb, ltb-true, ltb-false, append-nil, filter_map-append, Resume, Priority, Env, ScriptView, root_count, root_priority, FrameView, EffectView, ExitView, Advanced, advanced, CheckpointView, Event, Root, Begin, Apply, Free, Open, Child, Skip, CancelTask, CancelGroup, Wait, Next, Close, End, Give, Life, task_of, tasks_of, later, life_of, stage_in, life_of-push_same, life_of-push_other, filter_map-push_none, unborn_without, is_under_way, task, JobFacts, WaitingTaskView, exit_events, log_after, gives, turn_end, root_job, root_events, Block, added, begun, ran, folded, Standing, Stands, AllStand, TurnStands, IsLegal, ReportView, after_block, after_blocks, at_first, left_as, begun_priority, turn_applied, turns_of, turn_in, jobs_given, given_job, TurnsAreNumbered, GivenJobsAreApplied, AcceptedTurnsStand, AcceptedJobsStand}
 use Rattle.swift_laws.proofs.OpenLogs.{In, in_contains}
 use Rattle.swift_laws.proofs.OpenGroups.{in_filter_map}
 use Rattle.swift_laws.proofs.OpenReports.{any_sound}

@@ -1,28 +1,13 @@
 -- The bindings in the effects of a turn.
-use Rattle.std.proofs.Common.{◌≡◌, ℕ, zero, suc, ℤ, Bool, true, false, if◌then◌else◌, Option, Some, None, List, [], ◌∷◌, ◌++◌, length, inl, inr, refl, sym, subst, ap, arith, ◌∙◌}
-use Rattle.std.specs.Prelude.{◌⊎◌, nat_lt, ◌^◌}
-use Rattle.std.proofs.lemmas.List.{length-append}
-use Rattle.swift_types.specs.declared.limits.TheConstants.{STEPS}
-use Rattle.swift_types.specs.declared.outcome.Fault.{Fault}
-use Rattle.swift_types.specs.declared.outcome.Fault.TheVariants.{Invariant, Turns}
-use Rattle.swift_types.specs.declared.outcome.Resume.{Resume}
-use Rattle.swift_types.specs.declared.outcome.Resume.TheVariants.{Start, Go, Value, Fault as Raise}
-use Rattle.script_code.specs.Tree.{Term, Operation, Wanted, Code}
+use Rattle.swift_laws.proofs.Prelude.{◌≡◌, ℕ, zero, suc, ℤ, Bool, true, false, List, [], ◌∷◌, ◌++◌, length, inl, inr, refl, sym, subst, ap, arith, ◌∙◌, ◌⊎◌, nat_lt, ◌^◌, length-append, STEPS, Fault, Invariant, Turns, Resume, Start, Go, Value, Term, Operation, Wanted, Code, ev, evs, NumberPlace, Variable, Field, ScriptView, executor_invariants, actor_executor, method_actor, TurnStateView, TurnInputView, InvocationView, EffectView, ExitView, failing, AfterStatement, goes, leaves, Played, scene, standing, with_value, with_invocation, given, perform, settled, at_limit, on, end_of, caught, received, raised_by, taken_by, whole_turn, left_by, exits, undoes, all_hold, kept_of, kept, RecordView, state_at, IsLegal, ReportView, fields_of, IsRecord, GoesOn, Passes, HandsOn, IsHandedOn}
+use Rattle.std.proofs.Common.{if◌then◌else◌, Option, Some, None}
+use Rattle.swift_types.specs.declared.outcome.Resume.TheVariants.{Fault as Raise}
 use Rattle.script_code.specs.Tree as code
-use Rattle.script_code.specs.Value.{ev, evs}
 use Rattle.script_code.specs.Instructions.{NextAction, first, ends, does, tests}
-use Rattle.script_code.specs.declared.instruction.NumberPlace.{NumberPlace}
-use Rattle.script_code.specs.declared.instruction.NumberPlace.TheVariants.{Variable, Field}
 use Rattle.script_code.specs.declared.instruction.Cancelled.{Cancelled as Subject}
 use Rattle.script_code.specs.declared.instruction.Cancelled.TheVariants as subject
-use Rattle.swift_script.specs.Scripts.{ScriptView, executor_invariants, actor_executor, method_actor}
 use Rattle.swift_interpreter.specs.Turn
-use Rattle.swift_interpreter.specs.Turn.{TurnStateView, TurnInputView, InvocationView, EffectView, ExitView, failing, AfterStatement, goes, leaves, Played, scene, standing, with_value, with_invocation, given, perform, act, settled, at_limit, on, end_of, turn, caught, received, raised_by, taken_by, taken, whole_turn, left_by, exits, undoes, all_hold, kept_of, kept}
-use Rattle.swift_journal.specs.Records.{RecordView}
-use Rattle.swift_turn.specs.Body.{state_at}
-use Rattle.swift_history.specs.Histories.{IsLegal, ReportView, fields_of}
-use Rattle.swift_laws.specs.Laws.{IsRecord}
-use Rattle.swift_laws.specs.Inherited.{GoesOn, Passes, HandsOn, IsHandedOn}
+use Rattle.swift_interpreter.specs.Turn.{act, turn, taken}
 use Rattle.swift_laws.proofs.HistoriesMade.{in_order}
 use Rattle.swift_laws.proofs.HistoriesSplit.{at_record}
 

@@ -1,31 +1,7 @@
 -- In each history, the bindings that stand below the frame of a task are those of its callers, and then those that the task was
 -- made with.
-use Rattle.std.proofs.Common.{◌≡◌, ℕ, ℤ, List, [], ◌∷◌, ◌++◌, length, drop, refl, sym, ◌∙◌, ap, Bool, true, false, inl, inr, subst, append_assoc}
-use Rattle.std.specs.Prelude.{nat_lt, Option, Some, if◌then◌else◌, unwrap_or}
-use Rattle.std.specs.List.{AllByRecursion}
-use Rattle.std.proofs.lemmas.Option.{none-some}
+use Rattle.swift_laws.proofs.Prelude.{◌≡◌, ℕ, ℤ, List, [], ◌∷◌, ◌++◌, length, drop, refl, sym, ◌∙◌, ap, Bool, true, false, inl, inr, subst, append_assoc, nat_lt, Option, Some, if◌then◌else◌, unwrap_or, AllByRecursion, none-some, append-nil, FRAMES, Ending, Resume, Priority, value_of, Env, ScriptView, root_count, FrameView, InvocationView, EffectView, spawning, detaching, opening, adding, cancelling_task, cancelling_group, ExitView, calling, waiting, asking_next, closing, yielding, returning, failing, TaskView, Advanced, advanced, resumed, callers_of, RecordView, CheckpointView, Event, Apply, tasks_of, life_of, task, JobFacts, first_job, effect_events, effect_jobs, is_left_out, jobs_made, root_job, Block, added, begun, ran, folded, Standing, Stands, AllStand, TurnStands, IsLegal, ReportView, after_block, after_blocks, at_first, taken, left_as, begun_priority, turn_applied, IsRecord, OneMakes, BlockMakes, IsMadeWith, bindings_over, FindsInherited}
 use Rattle.std.proofs.Math.Seq.{drop-append_seam}
-use Rattle.std.proofs.lemmas.List.{append-nil}
-use Rattle.swift_types.specs.declared.limits.TheConstants.{FRAMES}
-use Rattle.swift_types.specs.declared.outcome.Ending.{Ending}
-use Rattle.swift_types.specs.declared.outcome.Resume.{Resume}
-use Rattle.swift_types.specs.declared.priority.Priority.{Priority}
-use Rattle.swift_locals.specs.Bindings.{value_of}
-use Rattle.swift_types.specs.declared.env.Env.{Env}
-use Rattle.swift_script.specs.Scripts.{ScriptView, root_count}
-use Rattle.swift_interpreter.specs.Frames.{FrameView}
-use Rattle.swift_interpreter.specs.Turn.{InvocationView, EffectView, spawning, detaching, opening, adding, cancelling_task, cancelling_group, ExitView, calling, waiting, asking_next, closing, yielding, returning, failing}
-use Rattle.swift_turn.specs.Body.{TaskView, Advanced, advanced, resumed, callers_of}
-use Rattle.swift_journal.specs.Records.{RecordView}
-use Rattle.swift_journal.specs.Checkpoints.{CheckpointView}
-use Rattle.swift_events.specs.declared.event.Event.{Event}
-use Rattle.swift_events.specs.declared.event.Event.TheVariants.{Apply}
-use Rattle.swift_events.specs.Events.{tasks_of}
-use Rattle.swift_events.specs.Lives.{life_of}
-use Rattle.swift_history.specs.TurnEnds.{task, JobFacts, first_job, effect_events, effect_jobs, is_left_out, jobs_made, root_job}
-use Rattle.swift_history.specs.Histories.{Block, added, begun, ran, folded, Standing, Stands, AllStand, TurnStands, IsLegal, ReportView, after_block, after_blocks, at_first, taken, left_as, begun_priority, turn_applied}
-use Rattle.swift_laws.specs.Laws.{IsRecord}
-use Rattle.swift_laws.specs.Inherited.{OneMakes, BlockMakes, IsMadeWith, bindings_over, FindsInherited}
 use Rattle.swift_laws.proofs.HistoriesTurns.{all_map, all_append, none_in, applied_is, after_push}
 use Rattle.swift_laws.proofs.HistoriesFrames.{JobHas, HeldHave, JobsHave, turn_has, taken_jobs_have, with_jobs_have}
 use Rattle.swift_laws.proofs.HistoriesSplit.{at_record}

@@ -1,27 +1,6 @@
 -- In each history a task is made once.
-use Rattle.std.proofs.Common.{◌≡◌, ◌≢◌, ℕ, ℤ, List, [], ◌∷◌, ◌++◌, refl, sym, ◌∙◌, ap, arith, Bool, true, false, inl, inr, subst, append_assoc}
-use Rattle.std.specs.Prelude.{◌⊎◌, Option, Some, None, if◌then◌else◌, slice_get, unwrap_or}
-use Rattle.std.proofs.lemmas.Bool.{false≢true}
-use Rattle.std.proofs.lemmas.List.{append-nil}
-use Rattle.std.proofs.lemmas.Option.{none-some}
-use Rattle.swift_types.specs.declared.priority.Priority.{Priority}
-use Rattle.swift_types.specs.declared.priority.Priority.TheVariants.{Background}
-use Rattle.swift_types.specs.declared.env.Env.{Env}
-use Rattle.swift_script.specs.Scripts.{ScriptView, root_count, root_priority}
-use Rattle.swift_interpreter.specs.Frames.{FrameView}
-use Rattle.swift_interpreter.specs.Turn.{EffectView, spawning, detaching, opening, adding, cancelling_task, cancelling_group, ExitView}
-use Rattle.swift_turn.specs.Body.{advanced}
-use Rattle.swift_journal.specs.Checkpoints.{CheckpointView}
-use Rattle.swift_events.specs.declared.event.Event.{Event}
-use Rattle.swift_events.specs.declared.event.Event.TheVariants.{Root, Apply, Free, Child, Skip, Give}
-use Rattle.swift_events.specs.declared.life.Life.{Life}
-use Rattle.swift_events.specs.declared.life.Origin.{Origin}
-use Rattle.swift_events.specs.Events.{task_of, tasks_of, later}
-use Rattle.swift_events.specs.Lives.{life_of, origin_in}
-use Rattle.swift_events.proofs.LogLemmas.{life_of-push_same}
-use Rattle.swift_history.specs.TurnEnds.{task, JobFacts, effect_events, is_left_out, log_after, root_job}
-use Rattle.swift_history.specs.Histories.{Block, added, begun, ran, folded, Standing, Stands, AllStand, TurnStands, IsLegal, ReportView, after_block, after_blocks, at_first, left_as, begun_priority, turn_applied}
-use Rattle.swift_laws.specs.Inherited.{Makes, OneMakes, BlockMakes, IsMadeWith}
+use Rattle.swift_laws.proofs.Prelude.{◌≡◌, ◌≢◌, ℕ, ℤ, List, [], ◌∷◌, ◌++◌, refl, sym, ◌∙◌, ap, arith, Bool, true, false, inl, inr, subst, append_assoc, ◌⊎◌, Option, Some, None, if◌then◌else◌, slice_get, unwrap_or, false≢true, append-nil, none-some, Priority, Background, Env, ScriptView, root_count, root_priority, FrameView, EffectView, spawning, detaching, opening, adding, cancelling_task, cancelling_group, ExitView, advanced, CheckpointView, Event, Root, Apply, Free, Child, Skip, Give, Life, Origin, task_of, tasks_of, later, life_of, origin_in, life_of-push_same, task, JobFacts, effect_events, is_left_out, log_after, root_job, Block, added, begun, ran, folded, Standing, Stands, AllStand, TurnStands, IsLegal, ReportView, after_block, after_blocks, at_first, left_as, begun_priority, turn_applied, OneMakes, BlockMakes, IsMadeWith}
+use Rattle.swift_laws.specs.Inherited.{Makes}
 use Rattle.swift_laws.proofs.HistoriesWritten.{keeps_effect, keeps_effects}
 use Rattle.swift_laws.proofs.HistoriesCounted.{AreCounted, Beyond, beyond_push, written_within, made_push}
 use Rattle.swift_laws.proofs.HistoriesTurns.{applied_is, all_keep, first_counted, after_push}

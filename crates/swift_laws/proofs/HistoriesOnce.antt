@@ -1,14 +1,5 @@
 -- Turns that blocks run: no turn is run by two blocks of a history, and each turn of a report is that of a block.
-use Rattle.std.proofs.Common.{◌≡◌, ℕ, ◌+◌, ◌≤◌, List, [], ◌∷◌, ◌++◌, length, take, zero, suc, refl, sym, ◌∙◌, ap, arith, Bool, true, false, subst}
-use Rattle.std.specs.Prelude.{◌==◌, Option, Some, None, if◌then◌else◌, slice_get}
-use Rattle.std.specs.List.{filter_map, cons_option}
-use Rattle.std.proofs.lemmas.Bool.{eqb-true}
-use Rattle.std.proofs.lemmas.Option.{none-some, same_Some, some_pair_parts}
-use Rattle.swift_script.specs.Scripts.{ScriptView, root_count}
-use Rattle.swift_journal.specs.Records.{RecordView}
-use Rattle.swift_journal.specs.Checkpoints.{FoldedView, CheckpointView}
-use Rattle.swift_history.specs.Histories.{Block, added, begun, ran, folded, Standing, Stands, AllStand, IsLegal, ReportView, after_block, after_blocks, at_first, record_in, records_of, folded_in, folded_of}
-use Rattle.swift_laws.specs.Laws.{IsRecord, IsFolded, TurnPlace, in_journal, in_checkpoint, HasTurn}
+use Rattle.swift_laws.proofs.Prelude.{◌≡◌, ℕ, ◌+◌, ◌≤◌, List, [], ◌∷◌, ◌++◌, length, take, zero, suc, refl, sym, ◌∙◌, ap, arith, Bool, true, false, subst, ◌==◌, Option, Some, None, if◌then◌else◌, slice_get, filter_map, cons_option, eqb-true, none-some, same_Some, some_pair_parts, ScriptView, root_count, RecordView, FoldedView, CheckpointView, Block, added, begun, ran, folded, Standing, Stands, AllStand, IsLegal, ReportView, after_block, after_blocks, at_first, record_in, records_of, folded_in, folded_of, IsRecord, IsFolded, TurnPlace, in_journal, in_checkpoint, HasTurn}
 use Rattle.swift_laws.proofs.HistoriesCounted.{applied, AreCounted}
 use Rattle.swift_laws.proofs.HistoriesTurns.{turn_keeps, block_keeps, first_counted, after_push}
 use Rattle.swift_laws.proofs.HistoriesGrow.{applied_stays}

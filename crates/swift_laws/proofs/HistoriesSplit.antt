@@ -1,13 +1,5 @@
 -- Where a history is split at one of its blocks.
-use Rattle.std.proofs.Common.{◌≡◌, ℕ, List, [], ◌∷◌, ◌++◌, zero, suc, sym, ap, subst, append_assoc}
-use Rattle.std.specs.Prelude.{Some, slice_get}
-use Rattle.std.proofs.lemmas.List.{append-nil}
-use Rattle.std.proofs.lemmas.Option.{none-some, same_Some}
-use Rattle.swift_script.specs.Scripts.{ScriptView}
-use Rattle.swift_journal.specs.Records.{RecordView}
-use Rattle.swift_journal.specs.Checkpoints.{CheckpointView}
-use Rattle.swift_history.specs.Histories.{Block, ran, Stands, AllStand, IsLegal, ReportView}
-use Rattle.swift_laws.specs.Laws.{IsRecord}
+use Rattle.swift_laws.proofs.Prelude.{◌≡◌, ℕ, List, [], ◌∷◌, ◌++◌, zero, suc, sym, ap, subst, append_assoc, Some, slice_get, append-nil, none-some, same_Some, ScriptView, RecordView, CheckpointView, Block, ran, Stands, AllStand, IsLegal, ReportView, IsRecord}
 use Rattle.swift_laws.proofs.HistoriesOnce.{ran_is, record_picked}
 
 pub record IsSplit (script : ScriptView) (cps : List CheckpointView) (before bs : List Block) (b : Block) : Type 0 where

@@ -1,24 +1,7 @@
 -- Which events the end of a turn writes, and what they keep.
-use Rattle.std.proofs.Common.{◌≡◌, ℕ, List, [], ◌∷◌, ◌++◌, refl, sym, Bool, true, false, subst, append_assoc}
-use Rattle.std.specs.Prelude.{Option, Some, None, is_some, if◌then◌else◌, unwrap_or}
-use Rattle.std.proofs.lemmas.List.{append-nil}
-use Rattle.swift_types.specs.declared.id.TaskId.{TaskId}
-use Rattle.swift_types.specs.declared.outcome.Ending.{Ending}
-use Rattle.swift_types.specs.declared.outcome.Fault.{Fault}
-use Rattle.swift_types.specs.declared.priority.Priority.{Priority}
-use Rattle.swift_types.specs.declared.priority.Priority.TheVariants.{Background}
+use Rattle.swift_laws.proofs.Prelude.{◌≡◌, ℕ, List, [], ◌∷◌, ◌++◌, refl, sym, Bool, true, false, subst, append_assoc, Option, Some, None, is_some, if◌then◌else◌, unwrap_or, append-nil, TaskId, Ending, Fault, Priority, Background, next_of, EffectView, spawning, detaching, opening, adding, cancelling_task, cancelling_group, ExitView, calling, waiting, asking_next, closing, yielding, returning, failing, Step, Run, Ended, Await, Event, Free, Open, Child, Skip, CancelTask, CancelGroup, Wait, Next, Close, End, tasks_of, life_of, opened_by, group_of, task, named_task, effect_events, is_left_out, log_after, next_events, close_events, wait_events, end_events, exit_events}
 use Rattle.swift_groups.specs.declared.answer.NextResult.{NextResult as Answer}
 use Rattle.swift_groups.specs.declared.answer.NextResult.TheVariants as answer
-use Rattle.swift_groups.specs.Next.{next_of}
-use Rattle.swift_interpreter.specs.Turn.{EffectView, spawning, detaching, opening, adding, cancelling_task, cancelling_group, ExitView, calling, waiting, asking_next, closing, yielding, returning, failing}
-use Rattle.swift_turn.specs.declared.step.Step.{Step}
-use Rattle.swift_turn.specs.declared.step.Step.TheVariants.{Run, Ended, Await}
-use Rattle.swift_events.specs.declared.event.Event.{Event}
-use Rattle.swift_events.specs.declared.event.Event.TheVariants.{Free, Open, Child, Skip, CancelTask, CancelGroup, Wait, Next, Close, End}
-use Rattle.swift_events.specs.Events.{tasks_of}
-use Rattle.swift_events.specs.Lives.{life_of}
-use Rattle.swift_events.specs.Relations.{opened_by, group_of}
-use Rattle.swift_history.specs.TurnEnds.{task, named_task, effect_events, is_left_out, log_after, next_events, close_events, wait_events, end_events, exit_events}
 
 -- what the turn of a task writes between its being applied and the jobs that it makes, by the log before the event: a task that
 -- is made has the next number, and each other event but a cancel is of the task itself

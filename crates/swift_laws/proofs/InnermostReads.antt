@@ -1,11 +1,7 @@
 -- Which binding a read of a task local gives.
-use Rattle.std.proofs.Common.{◌≡◌, ℕ, ℤ, Bool, true, false, if◌then◌else◌, Option, Some, List, [], ◌∷◌, ◌++◌, ◌==◌, refl, ap}
-use Rattle.std.specs.Prelude.{unwrap_or}
-use Rattle.swift_locals.specs.Bindings.{value_of}
+use Rattle.swift_laws.proofs.Prelude.{◌≡◌, ℕ, ℤ, Bool, true, false, List, [], ◌∷◌, ◌++◌, refl, ap, unwrap_or, value_of, ev, TurnStateView, TurnInputView, scene, first_of_two}
+use Rattle.std.proofs.Common.{if◌then◌else◌, Option, Some, ◌==◌}
 use Rattle.script_code.specs.Tree as code
-use Rattle.script_code.specs.Value.{ev}
-use Rattle.swift_interpreter.specs.Turn.{TurnStateView, TurnInputView, scene}
-use Rattle.swift_laws.specs.Inherited.{first_of_two}
 
 over_if : (b : Bool) (v : ℤ) (a c outer : Option ℤ) → c ≡ first_of_two a outer → (if b then Some v else c) ≡ first_of_two (if b then Some v else a) outer
 over_if true v a c outer h = refl

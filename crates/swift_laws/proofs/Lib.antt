@@ -1,3 +1,4 @@
+pub mod Prelude
 pub mod HistoriesWritten
 pub mod HistoriesCounted
 pub mod HistoriesTurns

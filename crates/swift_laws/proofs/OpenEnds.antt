@@ -1,38 +1,15 @@
 -- What the end of a turn writes, and which jobs are made then.
-use Rattle.std.proofs.Common.{◌≡◌, inl, inr, ℕ, ℤ, Bool, true, false, if◌then◌else◌, List, [], ◌∷◌, ◌++◌, refl, sym, subst, ap, ◌∙◌, append_assoc, length}
-use Rattle.std.specs.Prelude.{Option, Some, None, is_some, ◌==◌, nat_lt, slice_index_or}
-use Rattle.std.proofs.lemmas.Bool.{false≢true}
-use Rattle.std.proofs.lemmas.List.{append-nil}
-use Rattle.swift_types.specs.declared.id.TaskId.{TaskId}
-use Rattle.swift_types.specs.declared.limits.TheConstants.{FRAMES}
-use Rattle.swift_types.specs.declared.outcome.Ending.{Ending}
+use Rattle.swift_laws.proofs.Prelude.{◌≡◌, inl, inr, ℕ, ℤ, Bool, true, false, List, [], ◌∷◌, ◌++◌, refl, sym, subst, ap, ◌∙◌, append_assoc, length, Option, Some, None, is_some, ◌==◌, nat_lt, slice_index_or, false≢true, append-nil, TaskId, FRAMES, Ending, Depth, Empty, Resume, Start, Go, Priority, next_of, close_of, ScriptView, FrameView, InvocationView, ExitView, calling, waiting, asking_next, yielding, returning, failing, Step, Run, Ended, Await, TaskView, Advanced, advanced, resumed, called, Event, CancelGroup, Child, Wait, Next, Close, End, JobStage, task_of, life_of, origin_in, given_in, stage_in, ending_in, waits_at, group_of, parent_of, waiters_of, JobFacts, WaitingTaskView, AfterTurn, task, named_task, wait_events, wait_resume, next_events, next_resume, close_events, close_resume, end_events, step_resume, exit_events, exit_resume, resume_of, woken, wake, wake_each, wake_closing, wake_owner, wake_parent, wake_all, followed, HasEnded}
+use Rattle.std.proofs.Common.{if◌then◌else◌}
 use Rattle.swift_types.specs.declared.outcome.Ending.TheVariants.{Value, Fault}
 use Rattle.swift_types.specs.declared.outcome.Fault.{Fault as AnyFault}
-use Rattle.swift_types.specs.declared.outcome.Fault.TheVariants.{Depth, Empty}
-use Rattle.swift_types.specs.declared.outcome.Resume.{Resume}
-use Rattle.swift_types.specs.declared.outcome.Resume.TheVariants.{Start, Go, Value as GivenValue, Fault as Raise}
-use Rattle.swift_types.specs.declared.priority.Priority.{Priority}
+use Rattle.swift_types.specs.declared.outcome.Resume.TheVariants.{Value as GivenValue, Fault as Raise}
 use Rattle.swift_groups.specs.declared.answer.NextResult.{NextResult as Answer}
 use Rattle.swift_groups.specs.declared.answer.NextResult.TheVariants as answer
 use Rattle.swift_groups.specs.declared.answer.Close.{Close as Closing}
 use Rattle.swift_groups.specs.declared.answer.Close.TheVariants as closing
-use Rattle.swift_groups.specs.Next.{next_of}
-use Rattle.swift_groups.specs.Close.{close_of}
-use Rattle.swift_script.specs.Scripts.{ScriptView}
-use Rattle.swift_interpreter.specs.Frames.{FrameView}
-use Rattle.swift_interpreter.specs.Turn.{InvocationView, ExitView, calling, waiting, asking_next, closing as closing_group, yielding, returning, failing}
-use Rattle.swift_turn.specs.declared.step.Step.{Step}
-use Rattle.swift_turn.specs.declared.step.Step.TheVariants.{Run, Ended, Await}
-use Rattle.swift_turn.specs.Body.{TaskView, Advanced, advanced, resumed, called}
-use Rattle.swift_events.specs.declared.event.Event.{Event}
-use Rattle.swift_events.specs.declared.event.Event.TheVariants.{CancelGroup, Child, Wait, Next, Close, End}
-use Rattle.swift_events.specs.declared.life.JobStage.{JobStage}
+use Rattle.swift_interpreter.specs.Turn.{closing as closing_group}
 use Rattle.swift_events.specs.declared.life.JobStage.TheVariants as stage
-use Rattle.swift_events.specs.Events.{task_of}
-use Rattle.swift_events.specs.Lives.{life_of, origin_in, given_in, stage_in, ending_in, waits_at}
-use Rattle.swift_events.specs.Relations.{group_of, parent_of, waiters_of}
-use Rattle.swift_history.specs.TurnEnds.{JobFacts, WaitingTaskView, AfterTurn, task, named_task, wait_events, wait_resume, next_events, next_resume, close_events, close_resume, end_events, step_resume, exit_events, exit_resume, resume_of, woken, wake, wake_each, wake_closing, wake_owner, wake_parent, wake_all, followed}
-use Rattle.swift_laws.specs.Ended.{HasEnded}
 use Rattle.swift_laws.proofs.OpenLogs.{In, in_push, not_both, was_given, stage_at, given_stays, stage_same, stage_now, ended_stays, ended_came, ended_now, equal_of, IsFree, Sound, May, Leads, stays, leads_by, leads_on, sound_push, holds_at}
 use Rattle.swift_laws.proofs.OpenSteps.{each_append, is_child, no_child, no_wait, Calm, may_calm, may_move, Active, active_push, Fresh, fresh_push, Goes, goes_free, AllGo}
 use Rattle.swift_laws.proofs.OpenGroups.{closed_done, EachTask, each_waiter}

@@ -1,20 +1,15 @@
 -- The actors of accepted scripts run on executors of the script.
-use Rattle.std.proofs.Common.{◌≡◌, ℕ, zero, suc, ◌+◌, ◌<◌, ◌≤◌, Bool, true, false, if◌then◌else◌, cond, List, [], ◌∷◌, ◌++◌, length, refl, sym, subst, ap, ◌∙◌, arith, length-append}
-use Rattle.std.specs.Prelude.{Option, Some, None, ◌||◌, not, unwrap_or, slice_get}
-use Rattle.std.proofs.lemmas.Bool.{false≢true}
+use Rattle.swift_laws.proofs.Prelude.{◌≡◌, ℕ, zero, suc, ◌+◌, ◌<◌, ◌≤◌, Bool, true, false, cond, List, [], ◌∷◌, ◌++◌, length, refl, sym, subst, ap, ◌∙◌, arith, Option, Some, None, ◌||◌, not, unwrap_or, slice_get, false≢true, ExecutorTree, ActorTree, DeclTree, Executes, Binds, Acts, Roots, SeenView, at_name, on_error, repeat_error, decl_error, declarations_error, names_error, seen_after, past_decl, PlanView, on_executor, executors_from, script_in, plan_in, own_executor, own_executors, actors_from, methods_from, WasAccepted, no_actor, executor_count, method_count, root_count, actor_executor}
+use Rattle.std.proofs.Common.{if◌then◌else◌, length-append}
 use Rattle.std.specs.Str.{bytes_eq}
-use Rattle.script_grammar.specs.Tree.{ExecutorTree, ActorTree, DeclTree, Executes, Binds, Acts, Roots}
 use Rattle.script_names.specs.Texts.{is_among, place_of}
 use Rattle.script_names.specs.Directory.{DirectoryView, directory_of, executors_in}
 use Rattle.script_names.specs.declared.error.NameErrorKind.TheVariants.{Unknown}
-use Rattle.script_names.specs.Rules.{SeenView, at_name, on_error, repeat_error, decl_error, declarations_error, names_error, seen_after, past_decl}
 use Rattle.script_names.proofs.LeftOut.{nothing_left_out}
-use Rattle.script_compiler.specs.Plan.{PlanView, on_executor, executors_from}
-use Rattle.script_printing.specs.Script.{ScriptView, script_in}
-use Rattle.script_compiler.specs.Compiled.{plan_in, own_executor, own_executors, executors_from as views_from, actors_from, methods_from}
+use Rattle.script_printing.specs.Script.{ScriptView}
+use Rattle.script_compiler.specs.Compiled.{executors_from as views_from}
 use Rattle.script_compiler.proofs.ByKinds.{same_plan}
-use Rattle.swift_script.specs.Accepted.{WasAccepted}
-use Rattle.swift_script.specs.Scripts.{parts_of, no_actor, executor_count, method_count, root_count, actor_executor}
+use Rattle.swift_script.specs.Scripts.{parts_of}
 use Rattle.swift_script.proofs.NamesAnywhere.{earlier_parts}
 use Rattle.swift_script.proofs.Facts.{root_method_there}
 

@@ -1,22 +1,9 @@
 -- What a log says of the children of a group and of those who wait, by its events.
-use Rattle.std.proofs.Common.{◌≡◌, ◌⊎◌, inl, inr, ℕ, Bool, true, false, if◌then◌else◌, List, [], ◌∷◌, refl, sym, subst, ap, ◌∙◌, arith}
-use Rattle.std.specs.Prelude.{Option, Some, None, is_some, ◌==◌, ◌||◌, not, unwrap_or}
-use Rattle.std.specs.List.{filter, filter_map, list_any, cons_option}
-use Rattle.std.proofs.lemmas.Bool.{false≢true}
-use Rattle.std.proofs.lemmas.Bool.Decides.{nat_tests}
-use Rattle.std.proofs.lemmas.Option.{none-some}
-use Rattle.swift_types.specs.declared.id.TaskId.{TaskId}
-use Rattle.swift_types.specs.declared.outcome.Ending.{Ending}
-use Rattle.swift_types.specs.declared.priority.Priority.{Priority}
+use Rattle.swift_laws.proofs.Prelude.{◌≡◌, inl, inr, ℕ, Bool, true, false, List, [], ◌∷◌, refl, sym, subst, ap, ◌∙◌, arith, Option, Some, None, is_some, ◌==◌, ◌||◌, not, unwrap_or, filter, filter_map, list_any, cons_option, false≢true, nat_tests, none-some, TaskId, Ending, Priority, close_among, close_of, Event, Child, Wait, End, task_of, events_of, later, last_of, ending_in, child_in, children_of, ending_among, endings_of, group_of, waiters_of, HasEnded}
+use Rattle.std.proofs.Common.{◌⊎◌, if◌then◌else◌}
 use Rattle.swift_groups.specs.declared.answer.Close.TheVariants as closing
 use Rattle.swift_groups.specs.Groups.{has_ended, is_among, unfinished_of}
-use Rattle.swift_groups.specs.Close.{close_among, close_of}
-use Rattle.swift_events.specs.declared.event.Event.{Event}
-use Rattle.swift_events.specs.declared.event.Event.TheVariants.{Child, Wait, End}
-use Rattle.swift_events.specs.Events.{task_of, events_of, later, last_of}
-use Rattle.swift_events.specs.Lives.{life, ending_in}
-use Rattle.swift_events.specs.Relations.{child_in, children_of, ending_among, endings_of, group_of, waiters_of}
-use Rattle.swift_laws.specs.Ended.{HasEnded}
+use Rattle.swift_events.specs.Lives.{life}
 use Rattle.swift_laws.proofs.OpenLogs.{In, cases_of, equal_of}
 
 -- lists

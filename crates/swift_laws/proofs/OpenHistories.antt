@@ -1,29 +1,8 @@
 -- Each event that a history writes may stand where it stands.
-use Rattle.std.proofs.Common.{◌≡◌, inl, inr, ℕ, ◌+◌, ◌<◌, Bool, true, false, List, [], ◌∷◌, ◌++◌, refl, sym, subst, ap, ◌∙◌, arith, append_assoc, replicate, length}
-use Rattle.std.specs.Prelude.{Option, Some, None, is_some, ◌&&◌, nat_lt, ◌-◌, ◌^◌}
-use Rattle.std.proofs.lemmas.Bool.{false≢true}
-use Rattle.std.proofs.lemmas.Bool.Decides.{nat_tests}
-use Rattle.std.proofs.lemmas.List.{append-nil}
-use Rattle.swift_types.specs.declared.outcome.Resume.{Resume}
-use Rattle.swift_types.specs.declared.priority.Priority.{Priority}
-use Rattle.swift_types.specs.declared.env.Env.{Env}
-use Rattle.swift_script.specs.Scripts.{ScriptView, root_count, root_priority}
-use Rattle.swift_interpreter.specs.Frames.{FrameView}
-use Rattle.swift_interpreter.specs.Turn.{EffectView, ExitView}
-use Rattle.swift_turn.specs.Body.{Advanced, advanced}
-use Rattle.swift_journal.specs.Checkpoints.{CheckpointView}
-use Rattle.swift_events.specs.declared.event.Event.{Event}
-use Rattle.swift_events.specs.declared.event.Event.TheVariants.{Root, Begin, Apply}
-use Rattle.swift_events.specs.declared.life.LastJob.{LastJob}
-use Rattle.swift_events.specs.declared.life.JobStage.{JobStage}
+use Rattle.swift_laws.proofs.Prelude.{◌≡◌, inl, inr, ℕ, ◌+◌, ◌<◌, Bool, true, false, List, [], ◌∷◌, ◌++◌, refl, sym, subst, ap, ◌∙◌, arith, append_assoc, replicate, length, Option, Some, None, is_some, ◌&&◌, nat_lt, ◌^◌, false≢true, nat_tests, append-nil, Resume, Priority, Env, ScriptView, root_count, root_priority, FrameView, EffectView, ExitView, Advanced, advanced, CheckpointView, Event, Root, Begin, Apply, LastJob, JobStage, task_of, life_of, origin_in, given_in, ending_in, opened_by-push_no, is_closed-push_no, is_under_way, is_current, counters, Block, added, begun, ran, folded, Standing, at_first, begun_priority, left_as, frames_applied, job_applied, turn_applied, after_block, after_blocks, TurnStands, Stands, AllStand, IsLegal, ReportView, JobFacts, AfterTurn, task, root_job, root_events, gives, log_after, jobs_made, exit_events, exit_resume, followed, HasEnded}
+use Rattle.std.specs.Prelude.{◌-◌}
 use Rattle.swift_events.specs.declared.life.JobStage.TheVariants as stage
-use Rattle.swift_events.specs.Events.{task_of}
-use Rattle.swift_events.specs.Lives.{life_of, origin_in, given_in, ending_in}
-use Rattle.swift_events.proofs.LogLemmas.{opened_by-push_no, is_closed-push_no}
-use Rattle.swift_history.specs.Checks.{was_given as given_so, is_under_way, is_current, counters}
-use Rattle.swift_history.specs.Histories.{Block, added, begun, ran, folded, Standing, at_first, begun_priority, left_as, frames_applied, job_applied, turn_applied, after_block, after_blocks, TurnStands, Stands, AllStand, IsLegal, ReportView}
-use Rattle.swift_history.specs.TurnEnds.{JobFacts, AfterTurn, task, root_job, root_events, gives, log_after, jobs_made, exit_events, exit_resume, followed}
-use Rattle.swift_laws.specs.Ended.{HasEnded}
+use Rattle.swift_history.specs.Checks.{was_given as given_so}
 use Rattle.swift_laws.proofs.OpenLogs.{cases_of, not_both, none_some, was_given, stage_at, origin_now, given_same, given_stays, stage_now, ending_same, IsFree, Sound, May, Leads, stays, leads_by, leads_on, sound_from, sound_leads, free_at, holds_at}
 use Rattle.swift_laws.proofs.OpenSteps.{each_map, is_child, no_child, may_move, Active, Fresh, effects, Goes, goes_new, AllGo, leads_give, leads_gives}
 use Rattle.swift_laws.proofs.OpenEnds.{followed_go, exit_wrote}

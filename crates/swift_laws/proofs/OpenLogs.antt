@@ -1,22 +1,7 @@
 -- What each point of a legal log keeps: who has ended, who waits for whom, and which groups are closed.
-use Rattle.std.proofs.Common.{◌≡◌, ◌⊎◌, inl, inr, ℕ, ◌+◌, ◌<◌, ◌≤◌, zero, suc, Bool, true, false, List, [], ◌∷◌, ◌++◌, refl, sym, subst, ap, ◌∙◌, arith, append_assoc, cond}
-use Rattle.std.specs.Prelude.{Option, Some, None, is_some, Contains, ◌==◌, ◌||◌, ◌&&◌, count_by}
-use Rattle.std.proofs.lemmas.Bool.{cases_eq, false≢true}
-use Rattle.std.proofs.lemmas.Bool.Decides.{nat_tests}
-use Rattle.std.proofs.lemmas.List.{append-nil}
-use Rattle.std.proofs.lemmas.List.Sums.{sum_by-append}
-use Rattle.swift_types.specs.declared.id.TaskId.{TaskId}
-use Rattle.swift_types.specs.declared.priority.Priority.{Priority}
-use Rattle.swift_events.specs.declared.event.Event.{Event}
-use Rattle.swift_events.specs.declared.event.Event.TheVariants.{Child, Wait, Close}
-use Rattle.swift_events.specs.declared.life.JobStage.{JobStage}
+use Rattle.swift_laws.proofs.Prelude.{◌≡◌, inl, inr, ℕ, ◌+◌, ◌<◌, ◌≤◌, zero, suc, Bool, true, false, List, [], ◌∷◌, ◌++◌, refl, sym, subst, ap, ◌∙◌, arith, append_assoc, cond, Option, Some, None, is_some, Contains, ◌==◌, ◌||◌, ◌&&◌, count_by, cases_eq, false≢true, nat_tests, append-nil, sum_by-append, TaskId, Priority, Event, Child, Wait, Close, JobStage, Life, task_of, is_made, tasks_of, later, life_of, lived, unborn, origin_in, given_in, stage_in, ending_in, opens, opened_by, closes, is_closed, life_of-push_same, life_of-push_other, unborn_without, is_closed-push, HasEnded}
+use Rattle.std.proofs.Common.{◌⊎◌}
 use Rattle.swift_events.specs.declared.life.JobStage.TheVariants as stage
-use Rattle.swift_events.specs.declared.life.Life.{Life}
-use Rattle.swift_events.specs.Events.{task_of, is_made, tasks_of, later}
-use Rattle.swift_events.specs.Lives.{life_of, lived, unborn, origin_in, given_in, stage_in, ending_in}
-use Rattle.swift_events.specs.Relations.{opens, opened_by, closes, is_closed}
-use Rattle.swift_events.proofs.LogLemmas.{life_of-push_same, life_of-push_other, unborn_without, is_closed-push}
-use Rattle.swift_laws.specs.Ended.{HasEnded}
 
 -- an element of a list
 abbrev pub In : {A : Type 0} → List A → A → Type 0

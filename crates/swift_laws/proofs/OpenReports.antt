@@ -1,22 +1,8 @@
 -- The laws of legal reports.
-use Rattle.std.proofs.Common.{◌≡◌, ◌≢◌, inl, inr, ℕ, zero, suc, ◌<◌, true, List, [], ◌∷◌, ◌++◌, length, refl, subst, ap, ◌∙◌, arith}
-use Rattle.std.specs.Prelude.{Some, IsTrue, Contains}
-use Rattle.std.proofs.lemmas.Option.{none-some}
-use Rattle.swift_types.specs.declared.id.TaskId.{TaskId}
-use Rattle.swift_types.specs.declared.priority.Priority.{Priority}
-use Rattle.swift_script.specs.Accepted.{WasAccepted}
-use Rattle.swift_script.specs.Scripts.{ScriptView, root_count}
+use Rattle.swift_laws.proofs.Prelude.{◌≡◌, ◌≢◌, inl, inr, ℕ, zero, suc, ◌<◌, true, List, [], ◌∷◌, ◌++◌, length, refl, subst, ap, ◌∙◌, arith, Some, IsTrue, Contains, none-some, TaskId, Priority, WasAccepted, ScriptView, root_count, Event, Root, Free, Child, Wait, tasks_of, life_of, opened_by, is_closed, link_in, links_of, IsLegal, ReportView, TurnPlace, HasTurn, turns_of, AppliedTurnsStand, HasEnded, IsPrefix}
 use Rattle.swift_escalation.specs.declared.waits.PriorityEvent.TheVariants as link
 use Rattle.swift_escalation.specs.Waits.{Reaches}
-use Rattle.swift_events.specs.declared.event.Event.{Event}
-use Rattle.swift_events.specs.declared.event.Event.TheVariants.{Root, Free, Child, Wait}
 use Rattle.swift_events.specs.declared.life.JobStage.TheVariants.{Waits, Closes}
-use Rattle.swift_events.specs.Events.{tasks_of}
-use Rattle.swift_events.specs.Lives.{life_of}
-use Rattle.swift_events.specs.Relations.{opened_by, is_closed, link_in, links_of}
-use Rattle.swift_history.specs.Histories.{IsLegal, ReportView}
-use Rattle.swift_laws.specs.Laws.{TurnPlace, HasTurn, turns_of, AppliedTurnsStand}
-use Rattle.swift_laws.specs.Ended.{HasEnded, IsPrefix}
 use Rattle.swift_laws.proofs.OpenLogs.{In, in_contains, tasks_grow, opened_grow, Sound, sound_front, closed_front, free_ended}
 use Rattle.swift_laws.proofs.OpenGroups.{from_filter_map}
 use Rattle.swift_laws.proofs.OpenHistories.{legal_leads}

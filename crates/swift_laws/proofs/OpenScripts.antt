@@ -1,30 +1,20 @@
 -- The methods of accepted scripts close the groups that they open, since a group's block does not return.
-use Rattle.std.proofs.Common.{◌≡◌, ℕ, zero, suc, ◌-◌, Bool, true, false, if◌then◌else◌, List, [], ◌∷◌, ◌++◌, map, refl, sym, subst}
-use Rattle.std.specs.Prelude.{Option, Some, None, unwrap_or, slice_get}
-use Rattle.std.specs.List.{All, AllByRecursion}
-use Rattle.std.proofs.lemmas.Bool.{false≢true}
-use Rattle.std.proofs.lemmas.List.Elements.{recursion_from_All}
+use Rattle.swift_laws.proofs.Prelude.{◌≡◌, ℕ, zero, suc, ◌-◌, Bool, true, false, List, [], ◌∷◌, ◌++◌, map, refl, sym, subst, Option, Some, None, unwrap_or, slice_get, All, AllByRecursion, false≢true, recursion_from_All, ValueTree, Computed, Waited, MakeTree, Spawned, Detached, ActionTree, Let, LetTask, Assign, Makes, Adds, Cancel, Return, Throw, Check, Yield, HeadTree, If, While, Bind, Group, Assume, StmtTree, Do, Headed, IfElse, BlockTree, nothing, first_then, block_tree, MethodTree, ActorTree, scope_after, scope_within, NumberPlace, Variable, Field, Term, Operation, Code, end, act, PlanView, MethodView, plan_in, method_of, methods_from, no_method, WasAccepted, after_operation, LeadsTo, ClosesGroups}
+use Rattle.std.proofs.Common.{if◌then◌else◌}
 use Rattle.script_grammar.specs.declared.region.Region.{Region}
 use Rattle.script_grammar.specs.declared.region.Region.TheVariants as region
 use Rattle.script_grammar.specs.Grammar.{may_return}
-use Rattle.script_grammar.specs.Tree.{ValueTree, Computed, Waited, MakeTree, Spawned, Detached, ActionTree, Let, LetTask, Assign, Await, Makes, Adds, Cancel, Return, Throw, Check, Yield, HeadTree, If, While, Bind, Group, Assume, StmtTree, Do, Headed, IfElse, BlockTree, nothing, first_then, block_tree, MethodTree, ActorTree}
+use Rattle.script_grammar.specs.Tree.{Await}
 use Rattle.script_names.specs.Scope.{ScopeView}
-use Rattle.script_names.specs.Rules.{scope_after, scope_within}
 use Rattle.script_printing.specs.Limits.{ActionFits, region_in, StmtFits, BlockFits, MethodFits, ActorFits}
 use Rattle.script_printing.proofs.Read.{actors_fit}
 use Rattle.script_printing.specs.Script.{ScriptView}
 use Rattle.script_parser.specs.declared.limits.TheConstants.{NESTING}
-use Rattle.script_code.specs.declared.instruction.NumberPlace.{NumberPlace}
-use Rattle.script_code.specs.declared.instruction.NumberPlace.TheVariants.{Variable, Field}
 use Rattle.script_code.specs.Tree as code
-use Rattle.script_code.specs.Tree.{Term, Operation, Code, end, act, followed}
-use Rattle.script_compiler.specs.Plan.{PlanView}
+use Rattle.script_code.specs.Tree.{followed}
 use Rattle.script_compiler.specs.Lowered.{numbers_in, handles_in, place_named, set_at, value_to, make_to, action_code, headed_code, stmt_code, block_code}
-use Rattle.script_compiler.specs.Compiled.{MethodView, plan_in, method_of, methods_from}
 use Rattle.script_compiler.specs.Methods.{method_scope}
-use Rattle.swift_script.specs.Scripts.{parts_of, no_method}
-use Rattle.swift_script.specs.Accepted.{WasAccepted}
-use Rattle.swift_laws.specs.Accepted.{after_operation, LeadsTo, ClosesGroups}
+use Rattle.swift_script.specs.Scripts.{parts_of}
 
 -- statements one after the other
 

@@ -1,26 +1,7 @@
 -- Which events may stand after a log: those of effects, and those by which jobs are made.
-use Rattle.std.proofs.Common.{◌≡◌, inl, inr, ℕ, ◌+◌, ◌<◌, Bool, true, false, if◌then◌else◌, List, [], ◌∷◌, ◌++◌, refl, sym, subst, ap, ◌∙◌, arith, append_assoc, cond}
-use Rattle.std.specs.Prelude.{Some, None, is_some, ◌==◌, ◌&&◌, not, nat_lt, unwrap_or, count_by}
-use Rattle.std.proofs.lemmas.Bool.{false≢true}
-use Rattle.std.proofs.lemmas.Bool.Decides.{nat_tests}
-use Rattle.std.proofs.lemmas.List.{append-nil}
-use Rattle.std.proofs.lemmas.List.Sums.{sum_by-cons}
-use Rattle.swift_types.specs.declared.id.TaskId.{TaskId}
-use Rattle.swift_types.specs.declared.priority.Priority.{Priority}
-use Rattle.swift_types.specs.declared.priority.Priority.TheVariants.{Background}
-use Rattle.swift_script.specs.Scripts.{ScriptView, root_count}
-use Rattle.swift_interpreter.specs.Turn.{EffectView, spawning, detaching, opening, adding, cancelling_task, cancelling_group, ExitView}
-use Rattle.swift_events.specs.declared.event.Event.{Event}
-use Rattle.swift_events.specs.declared.event.Event.TheVariants.{Free, Open, Child, Skip, CancelTask, CancelGroup, Wait, Give}
+use Rattle.swift_laws.proofs.Prelude.{◌≡◌, inl, inr, ℕ, ◌+◌, ◌<◌, Bool, true, false, List, [], ◌∷◌, ◌++◌, refl, sym, subst, ap, ◌∙◌, arith, append_assoc, cond, Some, None, is_some, ◌==◌, ◌&&◌, not, nat_lt, unwrap_or, count_by, false≢true, nat_tests, append-nil, sum_by-cons, TaskId, Priority, Background, ScriptView, root_count, EffectView, spawning, detaching, opening, adding, cancelling_task, cancelling_group, ExitView, Event, Free, Open, Child, Skip, CancelTask, CancelGroup, Wait, Give, task_of, is_made, tasks_of, life_of, origin_in, given_in, stage_in, ending_in, opens, opened_by, closes, is_closed, tasks_of-push_made, opened_by-push_yes, opened_by-push_no, is_closed-push_no, Counters, can_use, fits_effect, counted, fits_turn, opens_group, JobFacts, task, first_job, gives, named_task, is_left_out, effect_events, effect_jobs, log_after, jobs_made, HasEnded}
+use Rattle.std.proofs.Common.{if◌then◌else◌}
 use Rattle.swift_events.specs.declared.life.JobStage.TheVariants as stage
-use Rattle.swift_events.specs.Events.{task_of, is_made, tasks_of}
-use Rattle.swift_events.specs.Lives.{life_of, origin_in, given_in, stage_in, ending_in}
-use Rattle.swift_events.specs.Relations.{opens, opened_by, closes, is_closed}
-use Rattle.swift_events.proofs.LogLemmas.{tasks_of-push_made, opened_by-push_yes, opened_by-push_no, is_closed-push_no}
-use Rattle.swift_history.specs.Checks.{Counters, can_use, fits_effect, counted, fits_turn}
-use Rattle.swift_history.specs.Histories.{opens_group}
-use Rattle.swift_history.specs.TurnEnds.{JobFacts, task, first_job, gives, named_task, is_left_out, effect_events, effect_jobs, log_after, jobs_made}
-use Rattle.swift_laws.specs.Ended.{HasEnded}
 use Rattle.swift_laws.proofs.OpenLogs.{in_push, cases_of, not_both, none_some, has_origin, was_given, stage_at, origin_stays, origin_now, given_same, given_now, given_stays, stage_same, ended_stays, ending_same, closed_cases, IsFree, Sound, May, sound_leads, Leads, stays, leads_by, leads_on, holds_at, free_at}
 
 -- of each of some jobs

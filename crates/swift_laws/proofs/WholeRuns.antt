@@ -1,16 +1,9 @@
 -- Each turn of a run is known by its whole report.
-use Rattle.std.proofs.Common.{◌≡◌, ℕ, zero, suc, ◌<◌, List, [], ◌∷◌, ◌++◌, length, map, refl, sym, subst, ap, ◌∙◌, arith}
-use Rattle.std.specs.Prelude.{Some, slice_get}
-use Rattle.std.proofs.lemmas.Option.{none-some, same_Some, slice_get_within}
-use Rattle.swift_script.specs.Scripts.{ScriptView}
-use Rattle.swift_events.specs.declared.event.Event.{Event}
-use Rattle.swift_journal.specs.Checkpoints.{CheckpointView, FoldedView, folded_of}
-use Rattle.swift_journal.specs.Records.{RecordView}
-use Rattle.swift_history.specs.Histories.{ReportView}
+use Rattle.swift_laws.proofs.Prelude.{◌≡◌, ℕ, zero, suc, ◌<◌, List, [], ◌∷◌, ◌++◌, length, map, refl, sym, subst, ap, ◌∙◌, arith, Some, slice_get, none-some, same_Some, slice_get_within, ScriptView, Event, CheckpointView, FoldedView, RecordView, ReportView, BeginsIn, HasTurn, TurnPlace, in_checkpoint, in_journal, turns_of}
+use Rattle.swift_journal.specs.Checkpoints.{folded_of}
 use Rattle.swift_course.specs.Course.{starts}
 use Rattle.swift_course.specs.Whole.{AreFoldedInto, HasWhole}
 use Rattle.swift_course.proofs.Starts.{none_folded_at}
-use Rattle.swift_laws.specs.Laws.{BeginsIn, HasTurn, TurnPlace, in_checkpoint, in_journal, turns_of}
 use Rattle.swift_laws.specs.Whole.{AllTurnsAreKnown, FoldedTurnsAreKnown, IsKnownTurn}
 use Rattle.swift_laws.proofs.HistoriesApplied.{applied_stands, there}
 use Rattle.swift_laws.proofs.HistoriesBegun.{begins_by}

@@ -1,6 +1,5 @@
 -- A list of counts that gets places.
-use Rattle.std.proofs.Common.{◌≡◌, ℕ, zero, suc, List, [], ◌∷◌, ◌++◌, refl}
-use Rattle.std.specs.Prelude.{slice_index_or}
+use Rattle.swift_ledger.proofs.Prelude.{◌≡◌, ℕ, zero, suc, List, [], ◌∷◌, ◌++◌, refl, slice_index_or}
 
 -- one more count of 0 changes no count
 pub pushed_none : (xs : List ℕ) (t : ℕ) → slice_index_or (xs ++ 0 ∷ []) t 0 ≡ slice_index_or xs t 0

@@ -1,25 +1,8 @@
 -- The marks of cancelled tasks once one more event is written.
-use Rattle.std.proofs.Common.{◌≡◌, ◌≢◌, ◌⊎◌, ℕ, ◌+◌, ◌<◌, ◌≤◌, List, [], ◌∷◌, ◌++◌, length, get_or, set, refl, sym, ◌∙◌, ap, arith, true, false, Bool, inl, inr, subst, get_or-set_same, get_or-set_other, length-set, replicate}
-use Rattle.std.specs.Prelude.{Option, Some, None, not, ◌==◌, ◌&&◌, ◌||◌}
-use Rattle.std.specs.List.{cons_option}
-use Rattle.std.proofs.lemmas.Bool.{cases_eq, cases_lt, cases_Bool, false≢true, eqb-true, eq-eqb, cond-true, and_from, and_parts, and_cases, or_left, or_right, not-false}
-use Rattle.std.proofs.lemmas.List.{get_or_past, length-replicate, get_or-replicate}
+use Rattle.swift_ledger.proofs.Prelude.{◌≡◌, ◌≢◌, ◌⊎◌, ℕ, ◌+◌, ◌<◌, ◌≤◌, List, [], ◌∷◌, ◌++◌, length, get_or, set, refl, sym, ◌∙◌, ap, arith, true, false, Bool, inl, inr, subst, get_or-set_same, get_or-set_other, length-set, replicate, Option, Some, None, ◌==◌, cons_option, cases_eq, cases_lt, cases_Bool, false≢true, eqb-true, eq-eqb, cond-true, and_from, and_parts, and_cases, or_left, or_right, not-false, get_or_past, length-replicate, get_or-replicate, TaskId, Priority, Event, Free, Child, CancelTask, CancelGroup, Life, Origin, task_of, events_of, last_of, later, is_made, tasks_of, life_of, unborn, origin_in, child_in, children_of, names_group, is_named_group, names_task, parent_by, parent_of, of_parent, is_cancelled, is_cancelled_group, lives_of, unborn_without, get_or-lives_of, origin_of, tasks_of-push_made, tasks_of-push_other, of_parent_same, unnamed_without, cancelled_no_child, NamesNothingNew, cancelled_push, cancelled_same, cancelled_before_child, cancelled_child, CanNote, IsWellFormed, is_named_in, HasNoChildren, is_new_cancel, is_born_cancelled, is_reached, AreMarked}
+use Rattle.std.specs.Prelude.{not, ◌&&◌, ◌||◌}
 use Rattle.std.proofs.lemmas.List.FromFn.{fill_by_all, get_or-map-range_with_len, length-map-range_with_len, map-range_with_len_more}
-use Rattle.swift_types.specs.declared.id.TaskId.{TaskId}
-use Rattle.swift_types.specs.declared.priority.Priority.{Priority}
-use Rattle.swift_events.specs.declared.event.Event.{Event}
-use Rattle.swift_events.specs.declared.event.Event.TheVariants.{Free, Child, CancelTask, CancelGroup}
-use Rattle.swift_events.specs.declared.life.Life.{Life}
-use Rattle.swift_events.specs.declared.life.Origin.{Origin}
-use Rattle.swift_events.specs.Events.{task_of, events_of, last_of, later, is_made, tasks_of}
-use Rattle.swift_events.specs.Lives.{life_of, unborn, origin_in}
-use Rattle.swift_events.specs.Relations.{child_in, children_of, names_group, is_named_group, names_task, parent_by, parent_of, of_parent, is_cancelled, is_cancelled_group}
-use Rattle.swift_events.specs.Room.{lives_of}
-use Rattle.swift_events.proofs.LogLemmas.{unborn_without, get_or-lives_of, origin_of, tasks_of-push_made, tasks_of-push_other}
-use Rattle.swift_events.proofs.Cancels.{of_parent_same, unnamed_without, cancelled_no_child, NamesNothingNew, cancelled_push, cancelled_same, cancelled_before_child, cancelled_child}
-use Rattle.swift_ledger.specs.Ledgers.{CanNote}
-use Rattle.swift_ledger.specs.WellFormedInside.{IsWellFormed}
-use Rattle.swift_ledger.specs.FlagsInside.{flags_of, is_named_in, HasNoChildren, is_new_cancel, is_born_cancelled, is_reached, AreMarked}
+use Rattle.swift_ledger.specs.FlagsInside.{flags_of}
 use Rattle.swift_ledger.proofs.FormLemmas.{unmade_beyond, is_child, same_parents, makes_new, owner_older}
 
 -- the marks of a log, by place

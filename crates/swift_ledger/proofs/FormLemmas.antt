@@ -1,24 +1,6 @@
 -- A log stays well-formed where an event that may be written is written.
-use Rattle.std.proofs.Common.{◌≡◌, ℕ, ◌+◌, ◌-◌, ◌<◌, ◌≤◌, List, [], ◌∷◌, ◌++◌, refl, sym, ◌∙◌, ap, arith, true, false, Bool, inl, inr, subst}
-use Rattle.std.specs.Prelude.{Option, Some, None, ◌==◌, IsSome, is_some, All}
-use Rattle.std.specs.List.{filter_map}
-use Rattle.std.proofs.lemmas.Bool.{cases_eq, cases_lt, cases_Bool, false≢true}
-use Rattle.std.proofs.lemmas.List.Elements.{All-nil, All-cons, All-append, All-weaker, All-same}
-use Rattle.swift_types.specs.declared.limits.TheConstants.{TASKS}
-use Rattle.swift_types.specs.declared.id.TaskId.{TaskId}
-use Rattle.swift_types.specs.declared.priority.Priority.{Priority}
-use Rattle.swift_events.specs.declared.event.Event.{Event}
-use Rattle.swift_events.specs.declared.event.Event.TheVariants.{Root, Begin, Apply, Free, Open, Child, Skip, CancelTask, CancelGroup, Wait, Next, Close, End, Give}
-use Rattle.swift_events.specs.declared.life.Life.{Life}
-use Rattle.swift_events.specs.Events.{task_of, events_of, later, is_made, tasks_of}
-use Rattle.swift_events.specs.Lives.{life_of, lived, unborn, origin_in, room_held}
-use Rattle.swift_events.specs.Relations.{own_in, own_tasks, waiter_in, waiters_of, parent_by, parent_of}
-use Rattle.swift_events.specs.Room.{reserved_of}
+use Rattle.swift_ledger.proofs.Prelude.{◌≡◌, ℕ, ◌+◌, ◌-◌, ◌<◌, ◌≤◌, List, [], ◌∷◌, ◌++◌, refl, sym, ◌∙◌, ap, arith, true, false, Bool, inl, inr, subst, Option, Some, None, ◌==◌, IsSome, is_some, All, filter_map, cases_eq, cases_lt, cases_Bool, false≢true, All-nil, All-cons, All-append, All-weaker, All-same, TASKS, TaskId, Priority, Event, Root, Begin, Apply, Free, Open, Child, Skip, CancelTask, CancelGroup, Wait, Next, Close, End, Give, Life, task_of, events_of, later, is_made, tasks_of, life_of, lived, unborn, origin_in, room_held, own_in, own_tasks, waiter_in, waiters_of, parent_by, parent_of, reserved_of, sum_of_none, life_of-push_same, life_of-push_other, unborn_without, tasks_of-push_made, tasks_of-push_other, none_beyond, reserved_of-push, reserved_of-push_made, life_le_sum, own_tasks-push, waiters_of-push, parent_of-push, parent_of-push_other, parent_of-push_child, SameParents, older_same, older_child, IsMade, HasRoom, CanNote, IsWellFormed}
 use Rattle.swift_events.specs.Laws.{OwnersAreOlder, MakesNew}
-use Rattle.swift_events.proofs.LogLemmas.{sum_of_none, life_of-push_same, life_of-push_other, unborn_without, tasks_of-push_made, tasks_of-push_other, none_beyond, reserved_of-push, reserved_of-push_made, life_le_sum, own_tasks-push, waiters_of-push, parent_of-push, parent_of-push_other, parent_of-push_child}
-use Rattle.swift_events.proofs.Cancels.{SameParents, older_same, older_child}
-use Rattle.swift_ledger.specs.Ledgers.{IsMade, HasRoom, CanNote}
-use Rattle.swift_ledger.specs.WellFormedInside.{IsWellFormed}
 
 -- tasks that were made
 

@@ -1,24 +1,11 @@
 -- What calls do to the group at a place.
-use Rattle.std.proofs.Common.{◌≡◌, ◌≢◌, ℕ, zero, suc, ◌<◌, ◌≤◌, List, Some, Result, Ok, Err, [], ◌∷◌, set, Bool, true, false, cond, refl, ap, sym, ◌∙◌, arith}
-use Rattle.std.proofs.lemmas.Bool.{cond-true, cond-false, lt-leb, true≢false}
-use Rattle.std.proofs.lemmas.Option.{slice_get_within}
-use Rattle.std.specs.Prelude.{leb}
+use Rattle.swift_ledger.proofs.Prelude.{◌≡◌, ◌≢◌, ℕ, zero, suc, ◌<◌, ◌≤◌, List, Result, Ok, Err, [], ◌∷◌, set, Bool, true, false, cond, refl, ap, sym, ◌∙◌, arith, cond-true, cond-false, lt-leb, true≢false, slice_get_within, leb, TaskId, Ending, Memory, GroupStage, GroupView, GroupsView, is_among, unfinished, with_ending, handed_on, closed_on, if_unfinished, if_open, if_live, accepted, open_if_opened, live_if_opened, open_group, live_group, group_with_unfinished, groups_after, slice_get_set, stage_of, GroupNotes, CanEnd, ended_with}
+use Rattle.std.proofs.Common.{Some}
 use Rattle.std.specs.List.{slice_get}
 use Rattle.std.specs.Result.{IsOk}
-use Rattle.swift_types.specs.declared.id.TaskId.{TaskId}
-use Rattle.swift_types.specs.declared.outcome.Ending.{Ending}
 use Rattle.swift_groups.specs.declared.fault.GroupFault.{GroupFault}
-use Rattle.swift_groups.specs.declared.fault.GroupFault.TheVariants.{Memory, Child as NoChild}
-use Rattle.swift_groups.specs.declared.group.GroupStage.{GroupStage}
+use Rattle.swift_groups.specs.declared.fault.GroupFault.TheVariants.{Child as NoChild}
 use Rattle.swift_groups.specs.declared.group.GroupStage.TheVariants.{Open as IsOpen}
-use Rattle.swift_groups.specs.Groups.{GroupView, GroupsView, is_among, unfinished, with_ending}
-use Rattle.swift_groups.specs.Next.{handed_on}
-use Rattle.swift_groups.specs.Close.{closed_on}
-use Rattle.swift_groups.specs.Answers.{if_unfinished, if_open, if_live, accepted, open_if_opened, live_if_opened, open_group, live_group, group_with_unfinished, groups_after}
-use Rattle.swift_groups.proofs.Lists.{slice_get_set}
-use Rattle.swift_events.specs.Relations.{stage_of}
-use Rattle.swift_ledger.specs.declared.group_index.GroupNotes.{GroupNotes}
-use Rattle.swift_ledger.specs.GroupIndexesInside.{CanEnd, ended_with}
 use Rattle.swift_ledger.proofs.KeptGroups.{stage_open}
 
 -- one place written twice

@@ -1,25 +1,7 @@
 -- What a log says of a group once one more event is written.
-use Rattle.std.proofs.Common.{◌≡◌, ℕ, ◌+◌, List, Option, None, Some, [], ◌∷◌, ◌++◌, Bool, true, false, ◌||◌, ◌&&◌, cond, eqb, refl, ap, sym, ◌∙◌, inl, inr, arith}
-use Rattle.std.proofs.lemmas.Bool.{cases_eq, cases_Bool, eq-eqb, ne_eqb}
-use Rattle.std.proofs.lemmas.List.{append-nil}
-use Rattle.std.specs.List.{filter_map, cons_option}
-use Rattle.swift_types.specs.declared.id.TaskId.{TaskId}
-use Rattle.swift_types.specs.declared.outcome.Ending.{Ending}
-use Rattle.swift_types.specs.declared.priority.Priority.{Priority}
-use Rattle.swift_groups.specs.Groups.{is_among}
-use Rattle.swift_events.specs.declared.event.Event.{Event}
-use Rattle.swift_events.specs.declared.event.Event.TheVariants.{Root, Begin, Apply, Free, Open, Child, Skip, CancelTask, CancelGroup, Wait, Next, Close, End, Give}
-use Rattle.swift_events.specs.declared.life.Origin.{Origin}
-use Rattle.swift_events.specs.declared.life.Life.{Life}
-use Rattle.swift_events.specs.Events.{task_of, events_of}
-use Rattle.swift_events.specs.Lives.{life_of, lived, origin_in}
-use Rattle.swift_events.specs.Relations.{opened_by, child_in, children_of, ending_among, endings_of, asks, asked_of, closes, is_closed, names_group, is_named_group, parent_of, parent_by}
-use Rattle.swift_events.proofs.LogLemmas.{opened_by-push_yes, opened_by-push_no, asked_of-push, asked_of-push_no, is_closed-push, is_closed-push_no, is_named_group-push, is_named_group-push_no, children_of-push, children_of-push_none, parent_of-push, parent_of-push_other, parent_of-push_child, life_of-push_same, unborn_without}
-use Rattle.swift_events.proofs.GroupLemmas.{endings_of-push_kept, endings_of-push_child, is_among-push, is_among-by}
-use Rattle.swift_ledger.specs.GroupIndexesInside.{facts_of, FitsGroups, is_child_of}
-use Rattle.swift_ledger.specs.WellFormedInside.{IsWellFormed}
+use Rattle.swift_ledger.proofs.Prelude.{◌≡◌, ℕ, ◌+◌, List, [], ◌∷◌, ◌++◌, Bool, true, false, ◌||◌, ◌&&◌, cond, eqb, refl, ap, sym, ◌∙◌, inl, inr, arith, cases_eq, cases_Bool, eq-eqb, ne_eqb, append-nil, filter_map, cons_option, TaskId, Ending, Priority, is_among, Event, Root, Begin, Apply, Free, Open, Child, Skip, CancelTask, CancelGroup, Wait, Next, Close, End, Give, Origin, Life, task_of, events_of, life_of, lived, origin_in, opened_by, child_in, children_of, ending_among, endings_of, asks, asked_of, closes, is_closed, names_group, is_named_group, parent_of, parent_by, opened_by-push_yes, opened_by-push_no, asked_of-push, asked_of-push_no, is_closed-push, is_closed-push_no, is_named_group-push, is_named_group-push_no, children_of-push, children_of-push_none, parent_of-push, parent_of-push_other, parent_of-push_child, life_of-push_same, unborn_without, endings_of-push_kept, endings_of-push_child, is_among-push, is_among-by, facts_of, FitsGroups, is_child_of, IsWellFormed, CanNote}
+use Rattle.std.proofs.Common.{Option, None, Some}
 use Rattle.swift_ledger.proofs.FormLemmas.{made_few}
-use Rattle.swift_ledger.specs.Ledgers.{CanNote}
 
 -- each part by itself
 facts-are : (o g : ℕ) (log : List Event) (c : List TaskId) (n : List (TaskId × Ending)) (a : ℕ) (x y : Bool)

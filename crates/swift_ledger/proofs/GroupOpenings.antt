@@ -1,25 +1,10 @@
 -- What the index keeps of an empty log, with more room, and once a group is opened.
-use Rattle.std.proofs.Common.{◌≡◌, ℕ, ◌+◌, ◌<◌, ◌≤◌, List, Option, None, Some, [], ◌∷◌, ◌++◌, length, ◌-◌, true, false, ◌&&◌, cond, eqb, refl, ap, sym, ◌∙◌, subst, inl, inr, arith}
-use Rattle.std.proofs.lemmas.Bool.{cases_eq, cases_lt, cases_Bool, cond-true, cond-false, eq-eqb, ne_eqb, and_from, lt-ltb, le-ltb, true≢false}
-use Rattle.std.proofs.lemmas.List.{length_push}
-use Rattle.std.proofs.lemmas.Option.{slice_get_within}
-use Rattle.std.specs.Prelude.{is_some, nat_lt, vec_len, vec_capacity}
+use Rattle.swift_ledger.proofs.Prelude.{◌≡◌, ℕ, ◌+◌, ◌<◌, ◌≤◌, List, [], ◌∷◌, ◌++◌, length, ◌-◌, true, false, ◌&&◌, cond, eqb, refl, ap, sym, ◌∙◌, subst, inl, inr, arith, cases_eq, cases_lt, cases_Bool, cond-true, cond-false, eq-eqb, ne_eqb, and_from, lt-ltb, le-ltb, true≢false, length_push, slice_get_within, is_some, nat_lt, vec_capacity, spare, TASKS, TaskId, GroupView, GroupsView, slice_get_old, slice_get_new, Event, Open, Origin, parent_by, opened_by, opened_by-push, origin_of, GroupNotes, GroupIndex, count_at, HasPlaces, GroupFacts, facts_of, AreNotesOf, AreGroupsOf, is_child_of, place_in, same_number}
+use Rattle.std.proofs.Common.{Option, None, Some}
+use Rattle.std.specs.Prelude.{vec_len}
 use Rattle.std.specs.List.{slice_get}
 use Rattle.std.specs.Map.{lookup}
-use Rattle.std.specs.HashMap.{spare}
-use Rattle.swift_types.specs.declared.limits.TheConstants.{TASKS}
-use Rattle.swift_types.specs.declared.id.TaskId.{TaskId}
-use Rattle.swift_groups.specs.Groups.{GroupView, GroupsView, opened_by as new_group}
-use Rattle.swift_groups.proofs.Lists.{slice_get_old, slice_get_new}
-use Rattle.swift_events.specs.declared.event.Event.{Event}
-use Rattle.swift_events.specs.declared.event.Event.TheVariants.{Open}
-use Rattle.swift_events.specs.declared.life.Origin.{Origin}
-use Rattle.swift_events.specs.Relations.{parent_by, opened_by}
-use Rattle.swift_events.proofs.LogLemmas.{opened_by-push, origin_of}
-use Rattle.swift_ledger.specs.declared.group_index.GroupNotes.{GroupNotes}
-use Rattle.swift_ledger.specs.declared.group_index.GroupIndex.{GroupIndex}
-use Rattle.swift_ledger.specs.CountsInside.{count_at, HasPlaces}
-use Rattle.swift_ledger.specs.GroupIndexesInside.{GroupFacts, facts_of, AreNotesOf, AreGroupsOf, is_child_of, place_in, same_number}
+use Rattle.swift_groups.specs.Groups.{opened_by as new_group}
 use Rattle.swift_ledger.proofs.GroupFacts.{parents-push, facts-quiet, opened-own, opened-other}
 use Rattle.swift_ledger.proofs.KeptGroups.{kept_new}
 use Rattle.swift_ledger.proofs.GroupSteps.{both, kept_at}

@@ -1,33 +1,11 @@
 -- What the index keeps once one more event is written.
-use Rattle.std.proofs.Common.{◌≡◌, ℕ, suc, ◌+◌, ◌<◌, ◌≤◌, List, Option, None, Some, Ok, Err, [], ◌∷◌, ◌++◌, length, get_or, set, ◌-◌, Bool, true, false, not, ◌||◌, ◌&&◌, eqb, refl, ap, sym, ◌∙◌, subst, inl, inr, arith, length-set}
-use Rattle.std.proofs.lemmas.Bool.{cases_lt, cases_Bool, cond-false, eq-eqb, eqb-true, and_parts, and_from, not-true, ltb-true, ltb-false, true≢false}
-use Rattle.std.proofs.lemmas.Option.{slice_get_within, get_or_from_slice_get}
-use Rattle.std.specs.Prelude.{IsTrue, is_some, nat_lt, vec_len, vec_capacity}
-use Rattle.std.specs.List.{slice_get, filter_map, cons_option}
+use Rattle.swift_ledger.proofs.Prelude.{◌≡◌, ℕ, suc, ◌+◌, ◌<◌, ◌≤◌, List, Ok, Err, [], ◌∷◌, ◌++◌, length, get_or, set, ◌-◌, Bool, true, false, not, ◌||◌, ◌&&◌, eqb, refl, ap, sym, ◌∙◌, subst, inl, inr, arith, length-set, cases_lt, cases_Bool, cond-false, eq-eqb, eqb-true, and_parts, and_from, not-true, ltb-true, ltb-false, true≢false, slice_get_within, get_or_from_slice_get, IsTrue, is_some, nat_lt, vec_capacity, filter_map, cons_option, get, spare, TaskId, Ending, Priority, GroupView, GroupsView, is_among, unfinished, unfinished_of, with_child, as_cancelled, handed_on, closed_on, if_new, open_group, live_group, group_without, groups_after, slice_get_set, slice_get_set_other, Event, Root, Begin, Apply, Free, Open, Child, Skip, CancelTask, CancelGroup, Wait, Next, Close, End, Give, Life, events_of, life_of, child_in, ending_among, asks, closes, names_group, opens, parent_of, parent_by, opened_by, is_open_group, is_closed, children_of, endings_of, is_named_group, stage_of, opened_by-push_no, unborn_without, has_ended-unended, GroupNotes, GroupIndex, count_at, HasPlaces, GroupFacts, no_facts, facts_of, FitsGroups, AreNotesOf, IsKeptAt, AreGroupsOf, CanEnd, ended_with, is_child_of, place_in, same_number}
+use Rattle.std.proofs.Common.{Option, None, Some}
+use Rattle.std.specs.Prelude.{vec_len}
+use Rattle.std.specs.List.{slice_get}
 use Rattle.std.proofs.lemmas.List.Sums.{count_by-le-length}
-use Rattle.std.specs.HashMap.{get, spare}
-use Rattle.swift_types.specs.declared.id.TaskId.{TaskId}
-use Rattle.swift_types.specs.declared.outcome.Ending.{Ending}
-use Rattle.swift_types.specs.declared.priority.Priority.{Priority}
 use Rattle.swift_groups.specs.declared.fault.GroupFault.TheVariants.{Child as NoChild}
-use Rattle.swift_groups.specs.Groups.{GroupView, GroupsView, is_among, unfinished, unfinished_of, with_child, as_cancelled}
-use Rattle.swift_groups.specs.Next.{handed_on}
-use Rattle.swift_groups.specs.Close.{closed_on}
-use Rattle.swift_groups.specs.Answers.{if_new, open_group, live_group, group_without, groups_after}
-use Rattle.swift_groups.proofs.Lists.{slice_get_set, slice_get_set_other}
 use Rattle.swift_groups.proofs.Children.{among_unfinished}
-use Rattle.swift_events.specs.declared.event.Event.{Event}
-use Rattle.swift_events.specs.declared.event.Event.TheVariants.{Root, Begin, Apply, Free, Open, Child, Skip, CancelTask, CancelGroup, Wait, Next, Close, End, Give}
-use Rattle.swift_events.specs.declared.life.Life.{Life}
-use Rattle.swift_events.specs.Events.{events_of}
-use Rattle.swift_events.specs.Lives.{life_of}
-use Rattle.swift_events.specs.Relations.{child_in, ending_among, asks, closes, names_group, opens, parent_of, parent_by, opened_by, is_open_group, is_closed, children_of, endings_of, is_named_group, stage_of}
-use Rattle.swift_events.proofs.LogLemmas.{opened_by-push_no, unborn_without}
-use Rattle.swift_events.proofs.GroupLemmas.{has_ended-unended}
-use Rattle.swift_ledger.specs.declared.group_index.GroupNotes.{GroupNotes}
-use Rattle.swift_ledger.specs.declared.group_index.GroupIndex.{GroupIndex}
-use Rattle.swift_ledger.specs.CountsInside.{count_at, HasPlaces}
-use Rattle.swift_ledger.specs.GroupIndexesInside.{GroupFacts, no_facts, facts_of, FitsGroups, AreNotesOf, IsKeptAt, AreGroupsOf, CanEnd, ended_with, is_child_of, place_in, same_number}
 use Rattle.swift_ledger.proofs.GroupFacts.{parents-push, facts-quiet, facts-next, facts-close, facts-cancel, facts-child, facts-end}
 use Rattle.swift_ledger.proofs.KeptGroups.{kept_next, stage_kept, kept_child, kept_cancel, kept_close, kept_end}
 use Rattle.swift_ledger.proofs.GroupCalls.{open_at, live_open}

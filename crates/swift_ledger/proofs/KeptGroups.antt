@@ -1,18 +1,7 @@
 -- What is kept of one group once one more event is written.
-use Rattle.std.proofs.Common.{◌≡◌, ℕ, zero, suc, ◌+◌, ◌<◌, ◌≤◌, List, [], ◌∷◌, ◌++◌, length, drop, Bool, true, false, cond, refl, ap, sym, ◌∙◌, subst, inl, inr, arith}
-use Rattle.std.proofs.lemmas.Bool.{cases_lt, cases_Bool, cond-true, cond-false, leb-true, leb-false, true≢false}
-use Rattle.std.proofs.lemmas.List.{drop_all, length_push}
-use Rattle.std.specs.Prelude.{min, leb}
-use Rattle.swift_types.specs.declared.id.TaskId.{TaskId}
-use Rattle.swift_types.specs.declared.outcome.Ending.{Ending}
-use Rattle.swift_groups.specs.declared.group.GroupStage.{GroupStage}
+use Rattle.swift_ledger.proofs.Prelude.{◌≡◌, ℕ, zero, suc, ◌+◌, ◌<◌, ◌≤◌, List, [], ◌∷◌, ◌++◌, length, drop, Bool, true, false, cond, refl, ap, sym, ◌∙◌, subst, inl, inr, arith, cases_lt, cases_Bool, cond-true, cond-false, leb-true, leb-false, true≢false, drop_all, length_push, min, leb, TaskId, Ending, GroupStage, GroupView, unfinished_of, with_child, with_ending, as_cancelled, handed_on, handed_after, closed_on, stage_of, GroupNotes, GroupFacts, no_facts, group_with, AreNotesOf, ended_with, has_any}
 use Rattle.swift_groups.specs.declared.group.GroupStage.TheVariants.{Open as IsOpen}
-use Rattle.swift_groups.specs.Groups.{GroupView, opened_by as new_group, unfinished_of, with_child, with_ending, as_cancelled}
-use Rattle.swift_groups.specs.Next.{handed_on, handed_after}
-use Rattle.swift_groups.specs.Close.{closed_on}
-use Rattle.swift_events.specs.Relations.{stage_of}
-use Rattle.swift_ledger.specs.declared.group_index.GroupNotes.{GroupNotes}
-use Rattle.swift_ledger.specs.GroupIndexesInside.{GroupFacts, no_facts, group_with, AreNotesOf, ended_with, has_any}
+use Rattle.swift_groups.specs.Groups.{opened_by as new_group}
 
 after_more : (es : List (TaskId × Ending)) (a m : ℕ) → a < length es → handed_after (drop a es) m ≡ m + 1
 after_more [] a m h = absurd (omega (arith, h))

@@ -1,21 +1,7 @@
 -- A list of levels: filled from the first task on, and which events leave it as it is.
-use Rattle.std.proofs.Common.{◌≡◌, ℕ, zero, suc, ◌<◌, ◌≤◌, List, [], ◌∷◌, ◌++◌, length, take, take_all, get_or, refl, sym, ◌∙◌, ap, arith, subst, inl, inr, length-append}
-use Rattle.std.specs.Prelude.{slice_index_or, Option, Some, None, IsSome, is_some}
-use Rattle.std.proofs.lemmas.Bool.{cases_lt, false≢true}
-use Rattle.std.proofs.lemmas.List.{take-append-le}
-use Rattle.swift_types.specs.Priority.{rank}
-use Rattle.swift_types.specs.declared.id.TaskId.{TaskId}
-use Rattle.swift_types.specs.declared.priority.Priority.{Priority}
+use Rattle.swift_ledger.proofs.Prelude.{◌≡◌, ℕ, zero, suc, ◌<◌, ◌≤◌, List, [], ◌∷◌, ◌++◌, length, take, take_all, get_or, refl, sym, ◌∙◌, ap, arith, subst, inl, inr, length-append, slice_index_or, Option, Some, None, IsSome, is_some, cases_lt, false≢true, take-append-le, rank, TaskId, Priority, IsPriority, IsKnown, Event, Root, Free, Child, Wait, life_of, origin_in, link_in, links_of, origin-push, links_of-push_some, links_of-push_none, IsMade, IsLevel, AreLevels, HaveStayed}
 use Rattle.swift_escalation.specs.declared.waits.PriorityEvent.{PriorityEvent as Link}
 use Rattle.swift_escalation.specs.declared.waits.PriorityEvent.TheVariants as link
-use Rattle.swift_escalation.specs.Waits.{IsPriority, IsKnown}
-use Rattle.swift_events.specs.declared.event.Event.{Event}
-use Rattle.swift_events.specs.declared.event.Event.TheVariants.{Root, Free, Child, Wait}
-use Rattle.swift_events.specs.Lives.{life_of, origin_in}
-use Rattle.swift_events.specs.Relations.{link_in, links_of}
-use Rattle.swift_events.proofs.LogLemmas.{origin-push, links_of-push_some, links_of-push_none}
-use Rattle.swift_ledger.specs.Ledgers.{IsMade}
-use Rattle.swift_ledger.specs.Levels.{IsLevel, AreLevels, HaveStayed}
 use Rattle.swift_ledger.proofs.LinkLemmas.{made_known}
 use Rattle.swift_ledger.proofs.WaitLemmas.{priority_stays}
 

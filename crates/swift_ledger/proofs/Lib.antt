@@ -1,3 +1,4 @@
+pub mod Prelude
 pub mod CountLemmas
 pub mod ListLemmas
 pub mod FormLemmas

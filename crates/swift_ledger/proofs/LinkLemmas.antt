@@ -1,25 +1,10 @@
 -- Priorities know the tasks that were made.
-use Rattle.std.proofs.Common.{◌≡◌, ◌⊎◌, ℕ, List, [], ◌∷◌, refl, sym, ◌∙◌, ap, arith, true, false, inl, inr, subst, Err, Result}
-use Rattle.std.specs.Prelude.{Option, Some, None, ◌==◌, IsSome, is_some, Contains}
-use Rattle.std.proofs.lemmas.Bool.{cases_Bool, eqb-true, eq-eqb, false≢true}
-use Rattle.std.proofs.lemmas.List.Elements.{Contains-append_left, Contains-append_right, Contains-push, Contains-push_cases, Contains-append_cases}
-use Rattle.swift_types.specs.declared.id.TaskId.{TaskId}
+use Rattle.swift_ledger.proofs.Prelude.{◌≡◌, ◌⊎◌, ℕ, List, [], ◌∷◌, refl, sym, ◌∙◌, ap, arith, true, false, inl, inr, subst, Err, Result, Option, Some, None, ◌==◌, IsSome, is_some, Contains, cases_Bool, eqb-true, eq-eqb, false≢true, Contains-append_left, Contains-append_right, Contains-push, Contains-push_cases, Contains-append_cases, TaskId, IsKnown, Event, Root, Free, Child, Wait, Life, task_of, events_of, last_of, later, tasks_of, life_of, origin_in, link_in, links_of, origin_of, IsMade, CanNote, IsWellFormed, CanLink}
 use Rattle.swift_escalation.specs.declared.waits.PriorityEvent.{PriorityEvent as Link}
 use Rattle.swift_escalation.specs.declared.waits.PriorityEvent.TheVariants as link
 use Rattle.swift_escalation.specs.declared.waits.WaitsFault.{WaitsFault}
 use Rattle.swift_escalation.specs.declared.waits.WaitsFault.TheVariants as fault
-use Rattle.swift_escalation.specs.Waits.{IsKnown}
 use Rattle.swift_escalation.specs.Waits as waits
-use Rattle.swift_events.specs.declared.event.Event.{Event}
-use Rattle.swift_events.specs.declared.event.Event.TheVariants.{Root, Free, Child, Wait}
-use Rattle.swift_events.specs.declared.life.Life.{Life}
-use Rattle.swift_events.specs.Events.{task_of, events_of, last_of, later, tasks_of}
-use Rattle.swift_events.specs.Lives.{life_of, origin_in}
-use Rattle.swift_events.specs.Relations.{link_in, links_of}
-use Rattle.swift_events.proofs.LogLemmas.{origin_of}
-use Rattle.swift_ledger.specs.Ledgers.{IsMade, CanNote}
-use Rattle.swift_ledger.specs.WellFormedInside.{IsWellFormed}
-use Rattle.swift_ledger.specs.LinksInside.{CanLink}
 use Rattle.swift_ledger.proofs.FormLemmas.{unmade_beyond}
 
 some_first : {A : Type 0} (x y : Option A) → IsSome x → IsSome (later x y)

@@ -1,9 +1,5 @@
 -- One more element of one list.
-use Rattle.std.proofs.Common.{◌≡◌, ◌≢◌, ℕ, ◌+◌, List, [], ◌∷◌, ◌++◌, length, refl, sym, ◌∙◌, ap, arith, cond, inl, inr, subst, zero, suc, length-append}
-use Rattle.std.specs.Prelude.{Option, Some, ◌==◌, slice_get}
-use Rattle.std.proofs.lemmas.Bool.{cases_eq, cond-true, cond-false, eq-eqb, ne_eqb}
-use Rattle.swift_types.specs.declared.id.TaskId.{TaskId}
-use Rattle.swift_ledger.specs.ListsInside.{AreListsKept, same_place, pushed}
+use Rattle.swift_ledger.proofs.Prelude.{◌≡◌, ◌≢◌, ℕ, ◌+◌, List, [], ◌∷◌, ◌++◌, length, refl, sym, ◌∙◌, ap, arith, cond, inl, inr, subst, zero, suc, length-append, Option, Some, ◌==◌, slice_get, cases_eq, cond-true, cond-false, eq-eqb, ne_eqb, TaskId, AreListsKept, same_place, pushed}
 
 at_end : {X : Type 0} (xs : List X) (y : X) → slice_get (xs ++ y ∷ []) (length xs) ≡ Some y
 at_end [] y = refl

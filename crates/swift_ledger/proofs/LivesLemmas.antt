@@ -1,16 +1,5 @@
 -- What is kept of each task once one more event is written.
-use Rattle.std.proofs.Common.{◌≡◌, ℕ, ◌+◌, ◌-◌, ◌<◌, ◌≤◌, List, [], ◌∷◌, ◌++◌, length, get_or, set, refl, sym, ◌∙◌, ap, arith, cond, true, false, Bool, inl, inr, replicate}
-use Rattle.std.proofs.lemmas.Bool.{cases_lt, false≢true}
-use Rattle.std.proofs.lemmas.List.{get_or_past}
-use Rattle.swift_events.specs.declared.event.Event.{Event}
-use Rattle.swift_events.specs.declared.event.Event.TheVariants.{Free, Child}
-use Rattle.swift_events.specs.declared.life.Life.{Life}
-use Rattle.swift_events.specs.Events.{task_of, is_made, tasks_of}
-use Rattle.swift_events.specs.Lives.{life_of, lived, unborn, is_open, room_held}
-use Rattle.swift_events.specs.Room.{lives_of, open_of, reserved_of}
-use Rattle.swift_events.proofs.LogLemmas.{lives_of_none, length-lives_of, get_or-lives_of, lives_of-push, lives_of-push_made, life_of-push_same, tasks_of-push_made, tasks_of-push_other, life_le_sum, open_of-push, open_of-push_made, reserved_of-push, reserved_of-push_made}
-use Rattle.swift_ledger.specs.Ledgers.{CanNote}
-use Rattle.swift_ledger.specs.WellFormedInside.{IsWellFormed}
+use Rattle.swift_ledger.proofs.Prelude.{◌≡◌, ℕ, ◌+◌, ◌-◌, ◌<◌, ◌≤◌, List, [], ◌∷◌, ◌++◌, length, get_or, set, refl, sym, ◌∙◌, ap, arith, cond, true, false, Bool, inl, inr, replicate, cases_lt, false≢true, get_or_past, Event, Free, Child, Life, task_of, is_made, tasks_of, life_of, lived, unborn, is_open, room_held, lives_of, open_of, reserved_of, lives_of_none, length-lives_of, get_or-lives_of, lives_of-push, lives_of-push_made, life_of-push_same, tasks_of-push_made, tasks_of-push_other, life_le_sum, open_of-push, open_of-push_made, reserved_of-push, reserved_of-push_made, CanNote, IsWellFormed}
 use Rattle.swift_ledger.proofs.FormLemmas.{unmade_beyond, made_next, made_holds_none, held_within}
 
 pub no_lives : (roots : ℕ) → replicate roots unborn ≡ lives_of (tasks_of roots []) []

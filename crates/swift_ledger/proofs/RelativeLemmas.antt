@@ -1,20 +1,5 @@
 -- The lists of a task's own tasks and waiters, and the groups, once one more event is written.
-use Rattle.std.proofs.Common.{◌≡◌, ◌≢◌, ℕ, ◌+◌, ◌<◌, ◌≤◌, List, [], ◌∷◌, ◌++◌, length, refl, sym, ◌∙◌, arith, false, inl, inr, subst}
-use Rattle.std.specs.Prelude.{Option, Some, None, slice_get, IfSome, All}
-use Rattle.std.specs.List.{filter_map, cons_option}
-use Rattle.std.proofs.lemmas.Bool.{cases_eq, false≢true}
-use Rattle.std.proofs.lemmas.Option.{slice_get_within, get_or_from_slice_get}
-use Rattle.swift_types.specs.declared.limits.TheConstants.{TASKS}
-use Rattle.swift_types.specs.declared.id.TaskId.{TaskId}
-use Rattle.swift_events.specs.declared.event.Event.{Event}
-use Rattle.swift_events.specs.declared.event.Event.TheVariants.{Free, Wait}
-use Rattle.swift_events.specs.Relations.{own_in, own_tasks, waiter_in, waiters_of}
-use Rattle.swift_events.proofs.LogLemmas.{own_tasks-push_none, own_tasks-push_same, own_tasks-push_other, waiters_of-push_none, waiters_of-push_same, waiters_of-push_other}
-use Rattle.swift_ledger.specs.Ledgers.{CanNote}
-use Rattle.swift_ledger.specs.WellFormedInside.{IsWellFormed}
-use Rattle.swift_ledger.specs.ListsInside.{pushed}
-use Rattle.swift_ledger.specs.RelativesInside.{own_pair, waiter_pair}
-use Rattle.swift_ledger.specs.GroupIndexesInside.{has_any}
+use Rattle.swift_ledger.proofs.Prelude.{◌≡◌, ◌≢◌, ℕ, ◌+◌, ◌<◌, ◌≤◌, List, [], ◌∷◌, ◌++◌, length, refl, sym, ◌∙◌, arith, false, inl, inr, subst, Option, Some, None, slice_get, IfSome, All, filter_map, cons_option, cases_eq, false≢true, slice_get_within, get_or_from_slice_get, TASKS, TaskId, Event, Free, Wait, own_in, own_tasks, waiter_in, waiters_of, own_tasks-push_none, own_tasks-push_same, own_tasks-push_other, waiters_of-push_none, waiters_of-push_same, waiters_of-push_other, CanNote, IsWellFormed, pushed, own_pair, waiter_pair, has_any}
 use Rattle.swift_ledger.proofs.FormLemmas.{made_few}
 use Rattle.swift_ledger.proofs.ListLemmas.{pushed_same, pushed_other}
 

@@ -1,35 +1,13 @@
 -- A begin, an apply and a give change nothing of what is kept of a log but the life of their task.
-use Rattle.std.proofs.Common.{◌≡◌, ℕ, ◌+◌, ◌-◌, ◌<◌, ◌≤◌, List, [], ◌∷◌, ◌++◌, Bool, true, false, set, get_or, length, refl, subst, sym, ◌∙◌, ap, arith}
-use Rattle.std.specs.Prelude.{None}
-use Rattle.std.specs.HashMap.{get}
-use Rattle.std.proofs.lemmas.Bool.{false≢true}
-use Rattle.swift_events.specs.declared.event.Event.{Event}
-use Rattle.swift_events.specs.declared.event.Event.TheVariants.{Begin, Apply, Give}
-use Rattle.swift_events.specs.declared.life.Life.{Life}
-use Rattle.swift_events.specs.Events.{task_of, is_made, tasks_of}
-use Rattle.swift_events.specs.Lives.{life_of, lived, is_open, room_held}
-use Rattle.swift_events.specs.Relations.{own_tasks, waiters_of, link_in, links_of}
-use Rattle.swift_events.proofs.LogLemmas.{length-lives_of, links_of-push_none}
-use Rattle.swift_events.proofs.Cancels.{NamesNothingNew}
-use Rattle.swift_log.specs.Logs.{LogView}
-use Rattle.swift_ledger.specs.Ledgers.{CanNote}
-use Rattle.swift_ledger.specs.WellFormedInside.{IsWellFormed}
+use Rattle.swift_ledger.proofs.Prelude.{◌≡◌, ℕ, ◌+◌, ◌-◌, ◌<◌, ◌≤◌, List, [], ◌∷◌, ◌++◌, Bool, true, false, set, get_or, length, refl, subst, sym, ◌∙◌, ap, arith, None, get, false≢true, Event, Begin, Apply, Give, Life, task_of, is_made, tasks_of, life_of, lived, is_open, room_held, own_tasks, waiters_of, link_in, links_of, length-lives_of, links_of-push_none, NamesNothingNew, LogView, CanNote, IsWellFormed, count_at, AreLists, same_place, own_pair, waiter_pair, AreGroupsOf, AreIndexes, HasSpare, KeepsLevels, Indexes, GroupIndex}
 use Rattle.swift_ledger.specs.LivesInside.{AreLives}
 use Rattle.swift_ledger.specs.LivesInside as lives
 use Rattle.swift_ledger.specs.FlagsInside.{flags_of}
-use Rattle.swift_ledger.specs.CountsInside.{count_at}
-use Rattle.swift_ledger.specs.ListsInside.{AreLists, same_place}
-use Rattle.swift_ledger.specs.RelativesInside.{own_pair, waiter_pair}
-use Rattle.swift_ledger.specs.GroupIndexesInside.{AreGroupsOf}
-use Rattle.swift_ledger.specs.IndexesInside.{AreIndexes, HasSpare}
-use Rattle.swift_ledger.specs.LevelsInside.{KeepsLevels}
 use Rattle.swift_ledger.specs.LedgerInside.{IsLedger}
 use Rattle.swift_ledger.specs.declared.ledger.Ledger.TheInside.{Inside}
 use Rattle.swift_ledger.specs.declared.lists.TaskLists.{TaskLists}
 use Rattle.swift_ledger.specs.declared.lives.Lives.{Lives}
 use Rattle.swift_ledger.specs.declared.levels.Levels.{Levels}
-use Rattle.swift_ledger.specs.declared.indexes.Indexes.{Indexes}
-use Rattle.swift_ledger.specs.declared.group_index.GroupIndex.{GroupIndex}
 use Rattle.swift_ledger.proofs.FormLemmas.{known_below, form_push}
 use Rattle.swift_ledger.proofs.LivesLemmas.{read_life, room_within, changed_lives, changed_open, changed_reserved, one_if}
 use Rattle.swift_ledger.proofs.FlagLemmas.{flags_same}

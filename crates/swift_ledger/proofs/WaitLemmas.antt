@@ -1,12 +1,6 @@
 -- A wait for a task that is at least as urgent raises nobody.
-use Rattle.std.proofs.Common.{◌≡◌, ◌⊎◌, ℕ, zero, suc, ◌≤◌, List, [], ◌∷◌, ◌++◌, sym, subst, inl, inr, arith}
-use Rattle.std.proofs.lemmas.List.Elements.{Contains-push_cases}
-use Rattle.swift_types.specs.Priority.{rank}
-use Rattle.swift_types.specs.declared.id.TaskId.{TaskId}
-use Rattle.swift_types.specs.declared.priority.Priority.{Priority}
-use Rattle.swift_escalation.specs.declared.waits.PriorityEvent.{PriorityEvent}
+use Rattle.swift_ledger.proofs.Prelude.{◌≡◌, ◌⊎◌, ℕ, zero, suc, ◌≤◌, List, [], ◌∷◌, ◌++◌, sym, subst, inl, inr, arith, Contains-push_cases, rank, TaskId, Priority, PriorityEvent, IsGiven, Leads, Reaches, IsPriority}
 use Rattle.swift_escalation.specs.declared.waits.PriorityEvent.TheVariants.{Root, Child, Free, Wait}
-use Rattle.swift_escalation.specs.Waits.{IsGiven, Leads, Reaches, IsPriority}
 use Rattle.swift_escalation.proofs.Record.{given_more, reaches_more}
 
 -- a wait gives no priority

@@ -1,4 +1,4 @@
-use Rattle.std.proofs.Common.{true}
+use Rattle.swift_groups.proofs.Prelude.{true}
 use Rattle.swift_groups.proofs.group.mark_ended.Goals as goal
 
 pub returns-in-Some-clause-written : goal.returns-in-Some-clause-written

@@ -1,4 +1,4 @@
-use Rattle.std.proofs.Common.{rules, sym, ◌∙◌, arith}
+use Rattle.swift_groups.proofs.Prelude.{rules, sym, ◌∙◌, arith}
 use Rattle.swift_groups.proofs.Links.{place_within, linked_first, linked_later}
 use Rattle.swift_groups.proofs.queue.enqueue.Goals as goal
 

@@ -1,7 +1,4 @@
-use Rattle.std.proofs.Common.{sym, subst, ◌≡◌, length, List, []}
-use Rattle.std.specs.List.{range_with_len}
-use Rattle.swift_events.specs.declared.event.Event.{Event}
-use Rattle.swift_laws.specs.Laws.{turns_of}
+use Rattle.swift_laws.proofs.Prelude.{sym, subst, ◌≡◌, length, List, [], range_with_len, Event, turns_of}
 use Rattle.swift_laws.proofs.HistoriesApplied.{standing_applied}
 use Rattle.swift_laws.proofs.HistoriesTurns.{all_keep, first_counted}
 use Rattle.swift_laws.proofs.laws.turns_are_numbered.Goals as goal

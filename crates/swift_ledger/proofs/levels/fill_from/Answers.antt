@@ -1,4 +1,4 @@
-use Rattle.std.proofs.Common.{◌≡◌, ◌∙◌, sym, arith, length}
+use Rattle.swift_ledger.proofs.Prelude.{◌≡◌, ◌∙◌, sym, arith, length}
 use Rattle.swift_ledger.proofs.LevelLemmas.{each_more}
 use Rattle.swift_ledger.proofs.levels.fill_from.Goals as goal
 

@@ -1,8 +1,5 @@
-use Rattle.std.proofs.Common.{◌-◌, ◌<◌, ◌≤◌, vec_len}
-use Rattle.std.specs.Prelude.{slice_index_or, vec_capacity, length}
-use Rattle.swift_types.specs.declared.limits.TheConstants.{TASKS}
-use Rattle.swift_types.specs.declared.id.TaskId.{TaskId}
-use Rattle.swift_ledger.specs.Levels.{IsLevel}
+use Rattle.swift_ledger.proofs.Prelude.{◌-◌, ◌<◌, ◌≤◌, vec_len, slice_index_or, vec_capacity, TASKS, TaskId, IsLevel}
+use Rattle.std.specs.Prelude.{length}
 use Rattle.swift_ledger.proofs.levels.fill_from.Given as goal
 
 abbrev pub invariant-fill : goal.invariant-fill

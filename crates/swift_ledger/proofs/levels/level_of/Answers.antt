@@ -1,7 +1,5 @@
-use Rattle.std.proofs.Common.{List, subst, sym, refl, rules, inr}
-use Rattle.std.proofs.lemmas.Bool.{false≢true}
+use Rattle.swift_ledger.proofs.Prelude.{List, subst, sym, refl, rules, inr, false≢true, IsKnown, IsPriority}
 use Rattle.swift_escalation.specs.declared.waits.PriorityEvent.{PriorityEvent as Link}
-use Rattle.swift_escalation.specs.Waits.{IsKnown, IsPriority}
 use Rattle.swift_ledger.proofs.LevelLemmas.{none_level}
 use Rattle.swift_ledger.proofs.LinkLemmas.{known_made}
 use Rattle.swift_ledger.proofs.levels.level_of.Goals as goal

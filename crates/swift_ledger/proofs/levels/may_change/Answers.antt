@@ -1,9 +1,4 @@
-use Rattle.std.proofs.Common.{◌++◌, ◌∷◌, [], sym, subst, ◌∙◌}
-use Rattle.std.proofs.lemmas.Bool.{false≢true, ltb-false}
-use Rattle.swift_events.specs.declared.event.Event.{Event}
-use Rattle.swift_events.specs.declared.event.Event.TheVariants.{Wait}
-use Rattle.swift_ledger.specs.Ledgers.{CanNote}
-use Rattle.swift_ledger.specs.Levels.{AreLevels}
+use Rattle.swift_ledger.proofs.Prelude.{◌++◌, ◌∷◌, [], sym, subst, ◌∙◌, false≢true, ltb-false, Event, Wait, CanNote, AreLevels}
 use Rattle.swift_ledger.proofs.LevelLemmas.{not_some, levels_stay, levels_at_wait}
 use Rattle.swift_ledger.proofs.levels.may_change.Goals as goal
 

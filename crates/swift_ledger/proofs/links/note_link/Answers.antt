@@ -1,7 +1,5 @@
-use Rattle.std.proofs.Common.{List, [], ◌∷◌, ◌++◌, ap, sym, subst, ◌∙◌}
+use Rattle.swift_ledger.proofs.Prelude.{List, [], ◌∷◌, ◌++◌, ap, sym, subst, ◌∙◌, links_of-push_some, links_of-push_none, CanLink}
 use Rattle.swift_escalation.specs.declared.waits.PriorityEvent.{PriorityEvent as Link}
-use Rattle.swift_events.proofs.LogLemmas.{links_of-push_some, links_of-push_none}
-use Rattle.swift_ledger.specs.LinksInside.{CanLink}
 use Rattle.swift_ledger.proofs.LinkLemmas.{link_fits}
 use Rattle.swift_ledger.proofs.links.note_link.Goals as goal
 

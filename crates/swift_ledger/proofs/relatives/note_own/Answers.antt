@@ -1,8 +1,4 @@
-use Rattle.std.proofs.Common.{[], ◌∷◌, ◌++◌, sym, ◌∙◌, arith}
-use Rattle.std.specs.HashMap.{get}
-use Rattle.swift_events.specs.Relations.{own_in, own_tasks}
-use Rattle.swift_ledger.specs.CountsInside.{count_at}
-use Rattle.swift_ledger.specs.ListsInside.{same_place, pushed}
+use Rattle.swift_ledger.proofs.Prelude.{[], ◌∷◌, ◌++◌, sym, ◌∙◌, arith, get, own_in, own_tasks, count_at, same_place, pushed}
 use Rattle.swift_ledger.proofs.ListLemmas.{kept_same}
 use Rattle.swift_ledger.proofs.RelativeLemmas.{length-filter_map, own_known, own_pushed, own_same}
 use Rattle.swift_ledger.proofs.relatives.note_own.Goals as goal

@@ -1,8 +1,4 @@
-use Rattle.std.proofs.Common.{[], ◌∷◌, ◌++◌, sym, ◌∙◌, arith}
-use Rattle.std.specs.HashMap.{get}
-use Rattle.swift_events.specs.Relations.{waiter_in, waiters_of}
-use Rattle.swift_ledger.specs.CountsInside.{count_at}
-use Rattle.swift_ledger.specs.ListsInside.{same_place, pushed}
+use Rattle.swift_ledger.proofs.Prelude.{[], ◌∷◌, ◌++◌, sym, ◌∙◌, arith, get, waiter_in, waiters_of, count_at, same_place, pushed}
 use Rattle.swift_ledger.proofs.ListLemmas.{kept_same}
 use Rattle.swift_ledger.proofs.RelativeLemmas.{length-filter_map, waiter_known, waiter_pushed, waiter_same}
 use Rattle.swift_ledger.proofs.relatives.note_waiter.Goals as goal

@@ -1,6 +1,4 @@
-use Rattle.std.proofs.Common.{arith, refl, sym, ap, ◌∙◌}
-use Rattle.swift_groups.specs.Groups.{GroupsView, as_cancelled}
-use Rattle.swift_groups.specs.Answers.{accepted}
+use Rattle.swift_groups.proofs.Prelude.{arith, refl, sym, ap, ◌∙◌, GroupsView, as_cancelled, accepted}
 use Rattle.swift_groups.proofs.FieldsKept.{are_groups_changed}
 use Rattle.swift_groups.proofs.Calls.{found_live, refused_live, kept_by_refusal, changed, groups_are, err_from}
 use Rattle.swift_groups.proofs.groups.Groups.cancel_all.Goals as goal

@@ -1,7 +1,4 @@
-use Rattle.std.proofs.Common.{Result, sym, ap, ◌∙◌}
-use Rattle.swift_groups.specs.declared.fault.GroupFault.{GroupFault}
-use Rattle.swift_groups.specs.Groups.{GroupView}
-use Rattle.swift_groups.specs.Answers.{if_new, accepted}
+use Rattle.swift_groups.proofs.Prelude.{Result, sym, ap, ◌∙◌, GroupFault, GroupView, if_new, accepted}
 use Rattle.swift_groups.proofs.Children.{mark_none, mark_some}
 use Rattle.swift_groups.proofs.Calls.{found_open, refused_open, err_from, without, not_without}
 use Rattle.swift_groups.proofs.groups.Groups.check_new.Goals as goal

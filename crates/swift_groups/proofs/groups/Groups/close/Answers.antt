@@ -1,7 +1,4 @@
-use Rattle.std.proofs.Common.{Ok, arith, refl, sym, ap, ◌∙◌}
-use Rattle.swift_groups.specs.Groups.{GroupsView}
-use Rattle.swift_groups.specs.Close.{close_of, closed_on}
-use Rattle.swift_groups.specs.Answers.{answer}
+use Rattle.swift_groups.proofs.Prelude.{Ok, arith, refl, sym, ap, ◌∙◌, GroupsView, close_of, closed_on, answer}
 use Rattle.swift_groups.proofs.Results.{close_done, closed_done, close_wait, closed_wait}
 use Rattle.swift_groups.proofs.FieldsKept.{are_groups_changed}
 use Rattle.swift_groups.proofs.Calls.{found_live, refused_live, kept_by_refusal, changed, groups_are, err_from}

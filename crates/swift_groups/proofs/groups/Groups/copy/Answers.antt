@@ -1,6 +1,4 @@
-use Rattle.std.proofs.Common.{ℕ, List, Option, ◌∙◌, arith, sym, subst}
-use Rattle.swift_groups.specs.declared.group.ChildEnding.{ChildEnding}
-use Rattle.swift_groups.specs.Inside.{AreLinked}
+use Rattle.swift_groups.proofs.Prelude.{ℕ, List, Option, ◌∙◌, arith, sym, subst, ChildEnding, AreLinked}
 use Rattle.swift_groups.proofs.FieldsKept.{are_groups_same}
 use Rattle.swift_groups.proofs.groups.Groups.copy.Goals as goal
 

@@ -1,14 +1,4 @@
-use Rattle.std.proofs.Common.{rules, ◌≡◌, true, eqb, List, Some, Result, arith, refl, sym, ap, ◌∙◌}
-use Rattle.std.specs.HashMap.{get}
-use Rattle.std.specs.Option.{is_some}
-use Rattle.swift_types.specs.declared.id.TaskId.{TaskId}
-use Rattle.swift_types.specs.declared.outcome.Ending.{Ending}
-use Rattle.swift_groups.specs.declared.fault.GroupFault.{GroupFault}
-use Rattle.swift_groups.specs.declared.group.ChildEnding.{ChildEnding}
-use Rattle.swift_groups.specs.Groups.{GroupView, GroupsView, with_ending}
-use Rattle.swift_groups.specs.Answers.{if_unfinished, accepted}
-use Rattle.swift_groups.specs.Inside.{ended_of}
-use Rattle.swift_groups.specs.KeysInside.{same_key, unended}
+use Rattle.swift_groups.proofs.Prelude.{rules, ◌≡◌, true, eqb, List, Some, Result, arith, refl, sym, ap, ◌∙◌, get, is_some, TaskId, Ending, GroupFault, ChildEnding, GroupView, GroupsView, with_ending, if_unfinished, accepted, ended_of, same_key, unended}
 use Rattle.swift_groups.proofs.Links.{ended_push_same, ended_push_other}
 use Rattle.swift_groups.proofs.Children.{mark_unended, unended_mark, mark_written}
 use Rattle.swift_groups.proofs.FieldsKept.{are_groups_ended, ending_fits}

@@ -1,6 +1,4 @@
-use Rattle.std.proofs.Common.{sym, ap, ◌∙◌}
-use Rattle.swift_groups.specs.Groups.{GroupView}
-use Rattle.swift_groups.specs.Answers.{answer}
+use Rattle.swift_groups.proofs.Prelude.{sym, ap, ◌∙◌, GroupView, answer}
 use Rattle.swift_groups.proofs.Calls.{found_live, refused_live, err_from}
 use Rattle.swift_groups.proofs.groups.Groups.is_cancelled.Goals as goal
 

@@ -1,7 +1,4 @@
-use Rattle.std.proofs.Common.{Ok, arith, refl, sym, ap, ◌∙◌}
-use Rattle.swift_groups.specs.Groups.{GroupsView}
-use Rattle.swift_groups.specs.Next.{next_of, handed_on}
-use Rattle.swift_groups.specs.Answers.{answer}
+use Rattle.swift_groups.proofs.Prelude.{Ok, arith, refl, sym, ap, ◌∙◌, GroupsView, next_of, handed_on, answer}
 use Rattle.swift_groups.proofs.Results.{next_empty, next_wait, handed_none, first_within, handed_within, next_result, handed_one, group_handed}
 use Rattle.swift_groups.proofs.FieldsKept.{are_groups_changed}
 use Rattle.swift_groups.proofs.Calls.{found_open, refused_open, kept_by_refusal, changed, unchanged, groups_are, err_from}

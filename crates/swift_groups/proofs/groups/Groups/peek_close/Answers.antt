@@ -1,6 +1,4 @@
-use Rattle.std.proofs.Common.{◌≡◌, Ok, arith, sym, ap, ◌∙◌}
-use Rattle.swift_groups.specs.Close.{close_of}
-use Rattle.swift_groups.specs.Answers.{answer}
+use Rattle.swift_groups.proofs.Prelude.{◌≡◌, Ok, arith, sym, ap, ◌∙◌, close_of, answer}
 use Rattle.swift_groups.proofs.Results.{close_done, close_wait}
 use Rattle.swift_groups.proofs.Calls.{found_any, refused_any, err_from}
 use Rattle.swift_groups.proofs.groups.Groups.peek_close.Goals as goal

@@ -1,6 +1,4 @@
-use Rattle.std.proofs.Common.{Ok, arith, sym, ap, ◌∙◌}
-use Rattle.swift_groups.specs.Next.{next_of}
-use Rattle.swift_groups.specs.Answers.{answer}
+use Rattle.swift_groups.proofs.Prelude.{Ok, arith, sym, ap, ◌∙◌, next_of, answer}
 use Rattle.swift_groups.proofs.Results.{next_empty, next_wait, first_within, next_result}
 use Rattle.swift_groups.proofs.Calls.{found_open, refused_open, err_from}
 use Rattle.swift_groups.proofs.groups.Groups.peek_next.Goals as goal

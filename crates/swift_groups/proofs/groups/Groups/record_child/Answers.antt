@@ -1,10 +1,4 @@
-use Rattle.std.proofs.Common.{◌≡◌, false, eqb, ◌-◌, List, Some, arith, refl, sym, ap, ◌∙◌}
-use Rattle.std.specs.HashMap.{get}
-use Rattle.swift_types.specs.declared.id.TaskId.{TaskId}
-use Rattle.swift_groups.specs.declared.group.Child.{Child}
-use Rattle.swift_groups.specs.Groups.{GroupsView, with_child}
-use Rattle.swift_groups.specs.Inside.{added_of}
-use Rattle.swift_groups.specs.KeysInside.{same_key}
+use Rattle.swift_groups.proofs.Prelude.{◌≡◌, false, eqb, ◌-◌, List, Some, arith, refl, sym, ap, ◌∙◌, get, TaskId, Child, GroupsView, with_child, added_of, same_key}
 use Rattle.swift_groups.proofs.Children.{added_push_same, added_push_other, mark_fresh, mark_written}
 use Rattle.swift_groups.proofs.FieldsKept.{are_groups_added, unfinished_le}
 use Rattle.swift_groups.proofs.Calls.{seen, found_open, refused_open, changed, groups_are, without, new_from, not_refused}

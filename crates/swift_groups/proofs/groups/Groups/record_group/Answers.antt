@@ -1,10 +1,4 @@
-use Rattle.std.proofs.Common.{◌-◌, List, length, arith, refl, sym, ap, subst}
-use Rattle.std.specs.HashMap.{get}
-use Rattle.swift_groups.specs.declared.group.Group.{Group}
-use Rattle.swift_groups.specs.Groups.{GroupsView}
-use Rattle.swift_groups.specs.Inside.{added_of, ended_of}
-use Rattle.swift_groups.specs.GroupsInside.{AreGroups}
-use Rattle.swift_groups.specs.KeysInside.{same_key}
+use Rattle.swift_groups.proofs.Prelude.{◌-◌, List, length, arith, refl, sym, ap, subst, get, Group, GroupsView, added_of, ended_of, AreGroups, same_key}
 use Rattle.swift_groups.proofs.Views.{length_view}
 use Rattle.swift_groups.proofs.FieldsKept.{are_groups_opened}
 use Rattle.swift_groups.proofs.Calls.{opened, groups_are}

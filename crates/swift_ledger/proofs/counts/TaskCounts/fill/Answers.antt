@@ -1,5 +1,4 @@
-use Rattle.std.proofs.Common.{◌∙◌, ℕ, List, ap, arith}
-use Rattle.std.specs.Prelude.{slice_index_or}
+use Rattle.swift_ledger.proofs.Prelude.{◌∙◌, ℕ, List, ap, arith, slice_index_or}
 use Rattle.swift_ledger.proofs.CountLemmas.{pushed_none}
 use Rattle.swift_ledger.proofs.counts.TaskCounts.fill.Goals as goal
 

@@ -1,5 +1,4 @@
-use Rattle.std.proofs.Common.{◌≡◌, ℕ, ◌+◌, ◌-◌, vec_len}
-use Rattle.swift_ledger.specs.CountsInside.{count_at, HasPlaces}
+use Rattle.swift_ledger.proofs.Prelude.{◌≡◌, ℕ, ◌+◌, ◌-◌, vec_len, count_at, HasPlaces}
 use Rattle.swift_ledger.proofs.counts.TaskCounts.fill.Given as goal
 
 abbrev pub invariant-fill : goal.invariant-fill

@@ -1,4 +1,4 @@
-use Rattle.std.proofs.Common.{◌∙◌}
+use Rattle.swift_ledger.proofs.Prelude.{◌∙◌}
 use Rattle.swift_ledger.proofs.FlagLemmas.{flags_made}
 use Rattle.swift_ledger.proofs.flags.Flags.add.Goals as goal
 

@@ -1,4 +1,4 @@
-use Rattle.std.proofs.Common.{List, Bool, false, ◌∙◌, ap, get_or}
+use Rattle.swift_ledger.proofs.Prelude.{List, Bool, false, ◌∙◌, ap, get_or}
 use Rattle.swift_ledger.proofs.FlagLemmas.{flag_of}
 use Rattle.swift_ledger.proofs.flags.Flags.get.Goals as goal
 

@@ -1,4 +1,4 @@
-use Rattle.std.proofs.Common.{◌∙◌}
+use Rattle.swift_ledger.proofs.Prelude.{◌∙◌}
 use Rattle.swift_ledger.proofs.FlagLemmas.{no_flags}
 use Rattle.swift_ledger.proofs.flags.Flags.new.Goals as goal
 

@@ -1,4 +1,4 @@
-use Rattle.std.proofs.Common.{sym, ◌∙◌, arith}
+use Rattle.swift_ledger.proofs.Prelude.{sym, ◌∙◌, arith}
 use Rattle.swift_ledger.proofs.FlagLemmas.{nothing_new, flags_same}
 use Rattle.swift_ledger.proofs.flags.Flags.note.Goals as goal
 

@@ -1,6 +1,4 @@
-use Rattle.std.proofs.Common.{ℕ, ◌<◌, ◌≤◌, length, ap, ◌∙◌, arith}
-use Rattle.swift_events.specs.Events.{tasks_of}
-use Rattle.swift_events.proofs.LogLemmas.{length-lives_of}
+use Rattle.swift_ledger.proofs.Prelude.{ℕ, ◌<◌, ◌≤◌, length, ap, ◌∙◌, arith, tasks_of, length-lives_of}
 use Rattle.swift_ledger.proofs.FlagLemmas.{length-flags_of, marked_first, marked_more, marked_all}
 use Rattle.swift_ledger.proofs.flags.Flags.spread.Goals as goal
 

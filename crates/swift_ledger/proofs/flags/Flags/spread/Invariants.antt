@@ -1,5 +1,4 @@
-use Rattle.swift_events.specs.Events.{tasks_of}
-use Rattle.swift_ledger.specs.FlagsInside.{AreMarked}
+use Rattle.swift_ledger.proofs.Prelude.{tasks_of, AreMarked}
 use Rattle.swift_ledger.proofs.flags.Flags.spread.Given as goal
 
 abbrev pub invariant-loop-task : goal.invariant-loop-task

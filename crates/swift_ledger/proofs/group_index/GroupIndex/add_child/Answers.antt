@@ -1,4 +1,4 @@
-use Rattle.std.proofs.Common.{refl, arith}
+use Rattle.swift_ledger.proofs.Prelude.{refl, arith}
 use Rattle.swift_ledger.proofs.GroupSteps.{child-step, not_child}
 use Rattle.swift_ledger.proofs.GroupCalls.{added}
 use Rattle.swift_ledger.proofs.group_index.GroupIndex.add_child.Goals as goal

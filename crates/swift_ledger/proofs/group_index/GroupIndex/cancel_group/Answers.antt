@@ -1,4 +1,4 @@
-use Rattle.std.proofs.Common.{refl}
+use Rattle.swift_ledger.proofs.Prelude.{refl}
 use Rattle.swift_ledger.proofs.GroupSteps.{cancel-step}
 use Rattle.swift_ledger.proofs.group_index.GroupIndex.cancel_group.Goals as goal
 

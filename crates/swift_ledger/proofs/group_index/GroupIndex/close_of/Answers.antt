@@ -1,7 +1,4 @@
-use Rattle.std.proofs.Common.{ap, sym, ◌∙◌}
-use Rattle.swift_groups.specs.Close.{close_among}
-use Rattle.swift_groups.specs.Groups.{unfinished_of}
-use Rattle.swift_ledger.specs.GroupIndexesInside.{GroupFacts}
+use Rattle.swift_ledger.proofs.Prelude.{ap, sym, ◌∙◌, close_among, unfinished_of, GroupFacts}
 use Rattle.swift_ledger.proofs.GroupSteps.{no_place}
 use Rattle.swift_ledger.proofs.group_index.GroupIndex.close_of.Goals as goal
 

@@ -1,5 +1,4 @@
-use Rattle.std.proofs.Common.{◌<◌, ◌∙◌, arith, ap}
-use Rattle.swift_groups.specs.Groups.{GroupsView}
+use Rattle.swift_ledger.proofs.Prelude.{◌<◌, ◌∙◌, arith, ap, GroupsView}
 use Rattle.swift_ledger.proofs.GroupOpenings.{room-step}
 use Rattle.swift_ledger.proofs.group_index.GroupIndex.copy.Goals as goal
 

@@ -1,4 +1,4 @@
-use Rattle.std.proofs.Common.{refl, arith}
+use Rattle.swift_ledger.proofs.Prelude.{refl, arith}
 use Rattle.swift_ledger.proofs.GroupSteps.{end-step, can_end, child_opened, ended_few}
 use Rattle.swift_ledger.proofs.group_index.GroupIndex.end_child.Goals as goal
 

@@ -1,5 +1,4 @@
-use Rattle.std.proofs.Common.{ap, sym, ◌∙◌}
-use Rattle.swift_ledger.specs.GroupIndexesInside.{GroupFacts, has_any}
+use Rattle.swift_ledger.proofs.Prelude.{ap, sym, ◌∙◌, GroupFacts, has_any}
 use Rattle.swift_ledger.proofs.GroupSteps.{no_place}
 use Rattle.swift_ledger.proofs.group_index.GroupIndex.has_children.Goals as goal
 

@@ -1,4 +1,4 @@
-use Rattle.std.proofs.Common.{refl, arith}
+use Rattle.swift_ledger.proofs.Prelude.{refl, arith}
 use Rattle.swift_ledger.proofs.GroupOpenings.{none-step}
 use Rattle.swift_ledger.proofs.group_index.GroupIndex.new.Goals as goal
 

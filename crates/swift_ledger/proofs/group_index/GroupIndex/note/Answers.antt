@@ -1,8 +1,5 @@
-use Rattle.std.proofs.Common.{ap, sym, ◌∙◌, subst, ◌++◌, ◌∷◌, []}
-use Rattle.swift_types.specs.declared.id.TaskId.{TaskId}
-use Rattle.std.specs.Prelude.{ℕ, Option}
-use Rattle.swift_events.specs.declared.event.Event.{Event}
-use Rattle.swift_ledger.specs.GroupIndexesInside.{AreGroupsOf, FitsGroups, IsParentIn, plain_parent}
+use Rattle.swift_ledger.proofs.Prelude.{ap, sym, ◌∙◌, subst, ◌++◌, ◌∷◌, [], TaskId, Option, Event, AreGroupsOf, FitsGroups, IsParentIn, plain_parent}
+use Rattle.std.specs.Prelude.{ℕ}
 use Rattle.swift_ledger.proofs.GroupSteps.{other-step, end-alone}
 use Rattle.swift_ledger.proofs.group_index.GroupIndex.note.Goals as goal
 

@@ -1,4 +1,4 @@
-use Rattle.std.proofs.Common.{arith}
+use Rattle.swift_ledger.proofs.Prelude.{arith}
 use Rattle.swift_ledger.proofs.GroupOpenings.{open-step}
 use Rattle.swift_ledger.proofs.group_index.GroupIndex.open_group.Goals as goal
 

@@ -1,4 +1,4 @@
-use Rattle.std.proofs.Common.{◌∙◌}
+use Rattle.swift_ledger.proofs.Prelude.{◌∙◌}
 use Rattle.swift_ledger.proofs.group_index.GroupIndex.opened.Goals as goal
 
 pub returns : goal.returns

@@ -1,6 +1,4 @@
-use Rattle.std.proofs.Common.{◌∙◌, ap}
-use Rattle.swift_escalation.specs.Waits.{WaitsView}
-use Rattle.swift_events.specs.Relations.{own_tasks, waiters_of}
+use Rattle.swift_ledger.proofs.Prelude.{◌∙◌, ap, WaitsView, own_tasks, waiters_of}
 use Rattle.swift_ledger.proofs.indexes.Indexes.copy.Goals as goal
 
 pub returns : goal.returns

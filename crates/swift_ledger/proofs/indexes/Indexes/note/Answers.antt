@@ -1,4 +1,4 @@
-use Rattle.std.proofs.Common.{arith}
+use Rattle.swift_ledger.proofs.Prelude.{arith}
 use Rattle.swift_ledger.proofs.GroupFacts.{fits-groups}
 use Rattle.swift_ledger.proofs.indexes.Indexes.note.Goals as goal
 

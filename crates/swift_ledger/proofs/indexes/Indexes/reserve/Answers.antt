@@ -1,5 +1,4 @@
-use Rattle.std.proofs.Common.{arith, ◌∙◌}
-use Rattle.swift_events.specs.Relations.{own_tasks, waiters_of}
+use Rattle.swift_ledger.proofs.Prelude.{arith, ◌∙◌, own_tasks, waiters_of}
 use Rattle.swift_ledger.proofs.indexes.Indexes.reserve.Goals as goal
 
 pub returns-in_err-reserve-clause-spare : goal.returns-in_err-reserve-clause-spare

@@ -1,4 +1,4 @@
-use Rattle.std.proofs.Common.{arith}
+use Rattle.swift_ledger.proofs.Prelude.{arith}
 use Rattle.swift_ledger.proofs.ledger.Ledger.env.Goals as goal
 
 pub returns-clause-begins : goal.returns-clause-begins

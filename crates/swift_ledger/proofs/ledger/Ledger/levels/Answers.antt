@@ -1,4 +1,4 @@
-use Rattle.std.proofs.Common.{arith}
+use Rattle.swift_ledger.proofs.Prelude.{arith}
 use Rattle.swift_ledger.proofs.FormLemmas.{made_below}
 use Rattle.swift_ledger.proofs.ledger.Ledger.levels.Goals as goal
 

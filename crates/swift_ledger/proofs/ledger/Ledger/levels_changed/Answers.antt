@@ -1,6 +1,4 @@
-use Rattle.std.proofs.Common.{ℕ, subst, sym}
-use Rattle.swift_ledger.specs.Ledgers.{LedgerView}
-use Rattle.swift_ledger.specs.Levels.{HaveStayed}
+use Rattle.swift_ledger.proofs.Prelude.{ℕ, subst, sym, LedgerView, HaveStayed}
 use Rattle.swift_ledger.proofs.ledger.Ledger.levels_changed.Goals as goal
 
 pub returns : goal.returns

@@ -1,6 +1,4 @@
-use Rattle.std.proofs.Common.{subst}
-use Rattle.swift_ledger.specs.Ledgers.{LedgerView}
-use Rattle.swift_ledger.specs.WellFormedInside.{IsWellFormed}
+use Rattle.swift_ledger.proofs.Prelude.{subst, LedgerView, IsWellFormed}
 use Rattle.swift_ledger.proofs.FormLemmas.{made_below}
 use Rattle.swift_ledger.proofs.ledger.Ledger.life.Goals as goal
 

@@ -1,9 +1,4 @@
-use Rattle.std.proofs.Common.{◌<◌, subst, sym, arith}
-use Rattle.swift_log.specs.Logs.{LogView}
-use Rattle.swift_ledger.specs.WellFormedInside.{IsWellFormed}
-use Rattle.swift_ledger.specs.IndexesInside.{AreIndexes, HasSpare}
-use Rattle.swift_ledger.specs.LevelsInside.{KeepsLevels}
-use Rattle.swift_ledger.specs.declared.indexes.Indexes.{Indexes}
+use Rattle.swift_ledger.proofs.Prelude.{◌<◌, subst, sym, arith, LogView, IsWellFormed, AreIndexes, HasSpare, KeepsLevels, Indexes}
 use Rattle.swift_ledger.proofs.FormLemmas.{form_none}
 use Rattle.swift_ledger.proofs.ledger.Ledger.new.Goals as goal
 

@@ -1,7 +1,4 @@
-use Rattle.std.proofs.Common.{ap, ◌∙◌}
-use Rattle.swift_groups.specs.Next.{next_of}
-use Rattle.swift_events.specs.Relations.{group_of}
-use Rattle.swift_ledger.specs.Ledgers.{LedgerView}
+use Rattle.swift_ledger.proofs.Prelude.{ap, ◌∙◌, next_of, group_of, LedgerView}
 use Rattle.swift_ledger.proofs.ledger.Ledger.next_of.Goals as goal
 
 pub returns : goal.returns

@@ -1,9 +1,4 @@
-use Rattle.std.proofs.Common.{◌≡◌, ◌+◌, List, refl, subst, sym}
-use Rattle.swift_events.specs.declared.event.Event.{Event}
-use Rattle.swift_events.specs.declared.event.Event.TheVariants.{Apply}
-use Rattle.swift_events.specs.Lives.{life_of, room_held}
-use Rattle.swift_events.specs.Room.{reserved_of}
-use Rattle.swift_ledger.specs.Ledgers.{LedgerView, CanNote}
+use Rattle.swift_ledger.proofs.Prelude.{◌≡◌, ◌+◌, List, refl, subst, sym, Event, Apply, life_of, room_held, reserved_of, LedgerView, CanNote}
 use Rattle.swift_ledger.proofs.FormLemmas.{reserved_push}
 use Rattle.swift_ledger.proofs.TurnLemmas.{ledger_follows}
 use Rattle.swift_ledger.proofs.ledger.Ledger.note_apply.Goals as goal

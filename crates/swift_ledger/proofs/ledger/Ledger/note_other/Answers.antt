@@ -1,12 +1,4 @@
-use Rattle.std.proofs.Common.{◌≡◌, ℕ, ◌+◌, ◌-◌, ◌<◌, List, [], ◌∷◌, ◌++◌, subst, sym, ap, ◌∙◌, arith}
-use Rattle.swift_events.specs.declared.event.Event.{Event}
-use Rattle.swift_events.specs.Events.{task_of}
-use Rattle.swift_events.specs.Lives.{life_of, room_held}
-use Rattle.swift_events.specs.Room.{reserved_of}
-use Rattle.swift_ledger.specs.Ledgers.{LedgerView, CanNote}
-use Rattle.swift_ledger.specs.WellFormedInside.{IsWellFormed}
-use Rattle.swift_ledger.specs.IndexesInside.{AreIndexes, HasSpare}
-use Rattle.swift_ledger.specs.LevelsInside.{KeepsLevels}
+use Rattle.swift_ledger.proofs.Prelude.{◌≡◌, ℕ, ◌+◌, ◌-◌, ◌<◌, List, [], ◌∷◌, ◌++◌, subst, sym, ap, ◌∙◌, arith, Event, task_of, life_of, room_held, reserved_of, LedgerView, CanNote, IsWellFormed, AreIndexes, HasSpare, KeepsLevels}
 use Rattle.swift_ledger.proofs.FormLemmas.{form_push, reserved_push}
 use Rattle.swift_ledger.proofs.ledger.Ledger.note_other.Goals as goal
 

@@ -1,8 +1,5 @@
-use Rattle.std.proofs.Common.{List, subst, sym, ap, ◌∙◌}
-use Rattle.swift_escalation.specs.Waits.{IsKnown}
+use Rattle.swift_ledger.proofs.Prelude.{List, subst, sym, ap, ◌∙◌, IsKnown, links_of, LedgerView}
 use Rattle.swift_escalation.specs.declared.waits.PriorityEvent.{PriorityEvent as Link}
-use Rattle.swift_events.specs.Relations.{links_of}
-use Rattle.swift_ledger.specs.Ledgers.{LedgerView}
 use Rattle.swift_ledger.proofs.LinkLemmas.{known_made, made_known}
 use Rattle.swift_ledger.proofs.ledger.Ledger.priority.Goals as goal
 

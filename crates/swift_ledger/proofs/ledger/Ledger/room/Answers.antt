@@ -1,6 +1,4 @@
-use Rattle.std.proofs.Common.{subst, sym, ap, arith}
-use Rattle.swift_events.specs.Lives.{room_held}
-use Rattle.swift_ledger.specs.Ledgers.{LedgerView, IsMade}
+use Rattle.swift_ledger.proofs.Prelude.{subst, sym, ap, arith, room_held, LedgerView, IsMade}
 use Rattle.swift_ledger.proofs.FormLemmas.{made_below, held_within}
 use Rattle.swift_ledger.proofs.ledger.Ledger.room.Goals as goal
 

@@ -1,8 +1,4 @@
-use Rattle.std.proofs.Common.{subst, ap, ◌∙◌}
-use Rattle.std.specs.Prelude.{slice_get}
-use Rattle.swift_events.specs.Relations.{waiters_of}
-use Rattle.swift_ledger.specs.Ledgers.{LedgerView, IsMade}
-use Rattle.swift_ledger.specs.WellFormedInside.{IsWellFormed}
+use Rattle.swift_ledger.proofs.Prelude.{subst, ap, ◌∙◌, slice_get, waiters_of, LedgerView, IsMade, IsWellFormed}
 use Rattle.swift_ledger.proofs.RelativeLemmas.{all_read}
 use Rattle.swift_ledger.proofs.ledger.Ledger.waiter.Goals as goal
 

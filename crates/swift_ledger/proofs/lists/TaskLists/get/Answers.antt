@@ -1,5 +1,4 @@
-use Rattle.std.proofs.Common.{sym, arith}
-use Rattle.std.proofs.lemmas.Option.{slice_get_past}
+use Rattle.swift_ledger.proofs.Prelude.{sym, arith, slice_get_past}
 use Rattle.swift_ledger.proofs.lists.TaskLists.get.Goals as goal
 
 pub returns-then-place-len : goal.returns-then-place-len

@@ -1,6 +1,4 @@
-use Rattle.std.specs.HashMap.{get}
-use Rattle.swift_ledger.specs.CountsInside.{count_at}
-use Rattle.swift_ledger.specs.ListsInside.{same_place}
+use Rattle.swift_ledger.proofs.Prelude.{get, count_at, same_place}
 use Rattle.swift_ledger.proofs.ListLemmas.{kept_pushed}
 use Rattle.swift_ledger.proofs.lists.TaskLists.push.Goals as goal
 

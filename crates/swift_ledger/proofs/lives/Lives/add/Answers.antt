@@ -1,6 +1,4 @@
-use Rattle.std.proofs.Common.{◌∙◌, ap}
-use Rattle.swift_events.specs.declared.life.Life.{Life}
-use Rattle.swift_events.specs.Lives.{lived}
+use Rattle.swift_ledger.proofs.Prelude.{◌∙◌, ap, Life, lived}
 use Rattle.swift_ledger.proofs.LivesLemmas.{made_lives, made_open, made_reserved}
 use Rattle.swift_ledger.proofs.lives.Lives.add.Goals as goal
 

@@ -1,5 +1,4 @@
-use Rattle.std.proofs.Common.{refl, arith}
-use Rattle.swift_events.specs.declared.event.Event.TheVariants.{Begin}
+use Rattle.swift_ledger.proofs.Prelude.{refl, arith, Begin}
 use Rattle.swift_ledger.proofs.TurnLemmas.{place_within, held_is_reserved, lives_follow}
 use Rattle.swift_ledger.proofs.lives.Lives.begin.Goals as goal
 

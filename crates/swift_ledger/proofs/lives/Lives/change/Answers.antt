@@ -1,6 +1,4 @@
-use Rattle.std.proofs.Common.{◌<◌, length, ◌∙◌, ap, arith}
-use Rattle.swift_events.specs.Events.{task_of, tasks_of}
-use Rattle.swift_events.proofs.LogLemmas.{length-lives_of}
+use Rattle.swift_ledger.proofs.Prelude.{◌<◌, length, ◌∙◌, ap, arith, task_of, tasks_of, length-lives_of}
 use Rattle.swift_ledger.proofs.FormLemmas.{known_below}
 use Rattle.swift_ledger.proofs.LivesLemmas.{read_life, changed_lives, open_within, changed_open, room_within, changed_reserved}
 use Rattle.swift_ledger.proofs.lives.Lives.change.Goals as goal

@@ -1,6 +1,4 @@
-use Rattle.std.proofs.Common.{List, ◌∙◌, ap, get_or}
-use Rattle.swift_events.specs.declared.life.Life.{Life}
-use Rattle.swift_events.specs.Lives.{unborn}
+use Rattle.swift_ledger.proofs.Prelude.{List, ◌∙◌, ap, get_or, Life, unborn}
 use Rattle.swift_ledger.proofs.LivesLemmas.{any_life}
 use Rattle.swift_ledger.proofs.lives.Lives.get.Goals as goal
 

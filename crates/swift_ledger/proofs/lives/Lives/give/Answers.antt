@@ -1,5 +1,4 @@
-use Rattle.std.proofs.Common.{refl, arith}
-use Rattle.swift_events.specs.declared.event.Event.TheVariants.{Give}
+use Rattle.swift_ledger.proofs.Prelude.{refl, arith, Give}
 use Rattle.swift_ledger.proofs.TurnLemmas.{place_within, held_is_reserved, lives_follow}
 use Rattle.swift_ledger.proofs.lives.Lives.give.Goals as goal
 

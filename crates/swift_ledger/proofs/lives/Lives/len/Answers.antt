@@ -1,6 +1,4 @@
-use Rattle.std.proofs.Common.{length, ◌∙◌, ap}
-use Rattle.swift_events.specs.Events.{tasks_of}
-use Rattle.swift_events.proofs.LogLemmas.{length-lives_of}
+use Rattle.swift_ledger.proofs.Prelude.{length, ◌∙◌, ap, tasks_of, length-lives_of}
 use Rattle.swift_ledger.proofs.lives.Lives.len.Goals as goal
 
 pub returns : goal.returns

@@ -1,7 +1,4 @@
-use Rattle.std.proofs.Common.{[], cond, refl, sym, replicate, ◌∙◌, ap}
-use Rattle.swift_events.specs.Events.{tasks_of}
-use Rattle.swift_events.specs.Lives.{is_open, room_held}
-use Rattle.swift_events.proofs.LogLemmas.{sum_of_none}
+use Rattle.swift_ledger.proofs.Prelude.{[], cond, refl, sym, replicate, ◌∙◌, ap, tasks_of, is_open, room_held, sum_of_none}
 use Rattle.swift_ledger.proofs.LivesLemmas.{no_lives}
 use Rattle.swift_ledger.proofs.lives.Lives.new.Goals as goal
 

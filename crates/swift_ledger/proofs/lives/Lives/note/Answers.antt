@@ -1,4 +1,4 @@
-use Rattle.std.proofs.Common.{arith}
+use Rattle.swift_ledger.proofs.Prelude.{arith}
 use Rattle.swift_ledger.proofs.lives.Lives.note.Goals as goal
 
 pub returns-else-makes_task-clause-spare : goal.returns-else-makes_task-clause-spare
