@@ -1,5 +1,7 @@
 pub mod Layouts
 pub mod Lines
+pub mod Written
+pub mod WholeMethods
 pub mod Mapped
 pub mod Renumbers
 pub mod LocalReads

@@ -10,7 +10,7 @@ use Rattle.script_code.specs.declared.instruction.Instruction.{Instruction}
 use Rattle.script_code.specs.Instructions.{ends, does, tests, first, first_by, first_if, FollowsCode}
 use Rattle.script_code.specs.Layout.{entry, stands_for, code_written, exchanged, code_at}
 use Rattle.script_compiler.specs.Waiting.{operations_in}
-use Rattle.script_compiler.specs.ActsInside.{operation_of}
+use Rattle.script_code.specs.Statements.{operation_of}
 use Rattle.script_compiler.proofs.Membership.{Has, has_left, has_right, has_cases}
 
 same_act : (d e : Operation) (a b : Code) → act d a ≡ act e b → d ≡ e

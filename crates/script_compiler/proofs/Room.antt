@@ -1,82 +1,104 @@
 -- How much a script that is no larger than its text declares, and how many names stand and how many instructions are written in it.
-use Rattle.std.proofs.Common.{◌≡◌, ◌≤◌, ◌<◌, ◌+◌, ◌*◌, ℕ, zero, suc, List, [], ◌∷◌, ◌++◌, length, map, take, drop, get_or, ap, subst, sym, ◌∙◌, arith, length-append}
+use Rattle.std.proofs.Common.{◌≡◌, ◌≤◌, ◌<◌, ◌+◌, ◌*◌, ℕ, zero, suc, List, [], ◌∷◌, ◌++◌, length, map, drop, get_or, ap, subst, sym, ◌∙◌, arith, length-append}
 use Rattle.std.specs.Prelude.{Bool, true, false, cond, if◌then◌else◌, count_by, slice_get, unwrap_or, None}
 use Rattle.std.proofs.lemmas.List.{length-map}
 use Rattle.std.proofs.lemmas.List.Sums.{sum_by-cons}
+use Rattle.std.proofs.lemmas.Bool.{cond_both}
 use Rattle.swift_types.specs.declared.limits.TheConstants.{BYTES}
 use Rattle.script_grammar.specs.declared.statement.Stmt.{Stmt}
-use Rattle.script_grammar.specs.Tree.{Computed, Waited, ActionTree, Let, LetTask, Assign, HeadTree, If, While, Bind, Group, Assume, StmtTree, Do, Headed, IfElse, BlockTree, nothing, first_then, block_tree, view_stmt, MethodTree, DeclTree, Executes, Binds, Acts, Roots}
-use Rattle.script_grammar.specs.Size.{stmt_size, block_size, methods_size, script_size}
+use Rattle.script_grammar.specs.Tree.{Computed, Waited, ActionTree, Let, LetTask, Assign, HeadTree, If, While, Bind, Group, Assume, StmtTree, Do, Headed, IfElse, BlockTree, nothing, first_then, block_tree, view_stmt, MethodTree, ActorTree, DeclTree, Executes, Binds, Acts, Roots}
+use Rattle.script_grammar.specs.Size.{stmt_size, block_size, methods_size, actor_size, decl_size, script_size}
 use Rattle.script_names.specs.declared.scope.NameKind.{NameKind}
 use Rattle.script_names.specs.declared.scope.NameKind.TheVariants as kind
-use Rattle.script_names.specs.Directory.{DirectoryView, directory_of, declared_in, locals_in, roots_in, actors_in, fields_in, methods_from}
+use Rattle.script_names.specs.Texts.{is_among, with_name}
+use Rattle.script_names.specs.Methods.{method_key}
+use Rattle.script_names.specs.Directory.{DirectoryView, fields_at, field_names, with_names, with_method, with_methods, with_actor, with_decl, with_decls, nothing_declared, directory_of}
 use Rattle.script_names.specs.Scope.{ScopeView, with_standing}
-use Rattle.script_names.specs.Rules.{names_error, scope_after, scope_within, with_parameters}
-use Rattle.script_names.proofs.LeftOut.{nothing_left_out}
-use Rattle.script_code.specs.Tree.{Code, act, end, assume, isolated}
+use Rattle.script_names.specs.Rules.{scope_after, scope_within, with_parameters}
+use Rattle.script_code.specs.Tree.{Code, act, end, unbind, close_group, assume, isolated}
 use Rattle.script_code.specs.Layout.{count}
 use Rattle.script_code.proofs.Layouts.{count_then}
 use Rattle.script_compiler.specs.Plan.{PlanView}
 use Rattle.script_compiler.specs.Lowered.{is_number, is_handle, action_code, headed_code, stmt_code, block_code}
 use Rattle.script_compiler.specs.Few.{HasFewNames}
-use Rattle.script_compiler.specs.HeadsInside.{foot}
-use Rattle.script_compiler.specs.StandingInside.{scope_through}
-use Rattle.script_compiler.proofs.Blocks.{at_item, through_more}
-
--- no more task locals, roots, actors and methods than the script is large
-few_locals : (xs : List DeclTree) → length (locals_in xs) ≤ script_size xs
-few_locals [] = omega arith
-few_locals (Executes x ∷ xs) = omega (arith, few_locals xs)
-few_locals (Binds l ∷ xs) = omega (arith, few_locals xs)
-few_locals (Acts a ∷ xs) = omega (arith, few_locals xs)
-few_locals (Roots r ∷ xs) = omega (arith, few_locals xs)
-
-few_roots : (xs : List DeclTree) → length (roots_in xs) ≤ script_size xs
-few_roots [] = omega arith
-few_roots (Executes x ∷ xs) = omega (arith, few_roots xs)
-few_roots (Binds l ∷ xs) = omega (arith, few_roots xs)
-few_roots (Acts a ∷ xs) = omega (arith, few_roots xs)
-few_roots (Roots r ∷ xs) = omega (arith, few_roots xs)
-
-few_actors : (xs : List DeclTree) → length (actors_in xs) ≤ script_size xs
-few_actors [] = omega arith
-few_actors (Executes x ∷ xs) = omega (arith, few_actors xs)
-few_actors (Binds l ∷ xs) = omega (arith, few_actors xs)
-few_actors (Acts a ∷ xs) = omega (arith, few_actors xs)
-few_actors (Roots r ∷ xs) = omega (arith, few_actors xs)
+use Rattle.script_compiler.proofs.Blocks.{at_item}
 
 pub few_in : (ms : List MethodTree) → length ms ≤ methods_size ms
 few_in [] = omega arith
 few_in (m ∷ ms) = omega (arith, few_in ms)
 
-few_methods : (k : ℕ) (xs : List DeclTree) → length (methods_from k xs) ≤ script_size xs
-few_methods k [] = omega arith
-few_methods k (Executes x ∷ xs) = omega (arith, few_methods k xs)
-few_methods k (Binds l ∷ xs) = omega (arith, few_methods k xs)
-few_methods k (Acts a ∷ xs) =
-    let key = λ (m : MethodTree). k ∷ m.name in
-    omega (arith, few_methods (k + 1) xs, few_in a.methods, length-map a.methods key, length-append (map key a.methods) (methods_from (k + 1) xs))
-few_methods k (Roots r ∷ xs) = omega (arith, few_methods k xs)
+-- No more task locals, roots, actors and methods are declared than this, and no actor has more fields.
+record AreFew (n : ℕ) (d : DirectoryView) : Type 0 where
+  locals : length d.locals ≤ n
+  roots : length d.roots ≤ n
+  actors : length d.actors ≤ n
+  methods : length d.methods ≤ n
+  fields : (actor : ℕ) → length (fields_at d actor) ≤ n
 
-few_fields : (xs : List DeclTree) (k : ℕ) → length (unwrap_or (slice_get (fields_in xs) k) []) ≤ script_size xs
-few_fields [] k = omega arith
-few_fields (Executes x ∷ xs) k = omega (arith, few_fields xs k)
-few_fields (Binds l ∷ xs) k = omega (arith, few_fields xs k)
-few_fields (Acts a ∷ xs) zero = omega (arith, length-map a.fields (λ f. f.name))
-few_fields (Acts a ∷ xs) (suc k) = omega (arith, few_fields xs k)
-few_fields (Roots r ∷ xs) k = omega (arith, few_fields xs k)
-
-declares_few : (xs : List DeclTree) → script_size xs ≤ BYTES → HasFewNames (declared_in xs)
-declares_few xs h = record {
-  locals = omega (arith, h, few_locals xs);
-  roots = omega (arith, h, few_roots xs);
-  actors = omega (arith, h, few_actors xs);
-  methods = omega (arith, h, few_methods 0 xs);
-  fields = λ k. omega (arith, h, few_fields xs k);
+wider : (m n : ℕ) (d : DirectoryView) → m ≤ n → AreFew m d → AreFew n d
+wider m n d le h = record {
+  locals = omega (arith, le, h.locals);
+  roots = omega (arith, le, h.roots);
+  actors = omega (arith, le, h.actors);
+  methods = omega (arith, le, h.methods);
+  fields = λ k. let f = h.fields k in omega (arith, le, f);
 }
 
-pub few_names : (d : DirectoryView) (xs : List DeclTree) → d ≡ directory_of xs → names_error xs ≡ None → script_size xs ≤ BYTES → HasFewNames d
-few_names d xs is e h = subst HasFewNames (sym (is ∙ nothing_left_out xs e)) (declares_few xs h)
+one_name : (names : List (List ℕ)) (name : List ℕ) → length (with_name names name) ≤ length names + 1
+one_name names name =
+    cond_both (is_among names name) names (names ++ name ∷ []) (λ (xs : List (List ℕ)). length xs ≤ length names + 1) (λ _. omega arith) (λ _. omega (arith, length-append names (name ∷ [])))
+
+some_names : (seen names : List (List ℕ)) → length (with_names seen names) ≤ length seen + length names
+some_names seen [] = omega arith
+some_names seen (n ∷ ns) = omega (arith, some_names (with_name seen n) ns, one_name seen n)
+
+method_more : (k : ℕ) (m : MethodTree) (n : ℕ) (d : DirectoryView) → AreFew n d → AreFew (suc n) (with_method k m d)
+method_more k m n d h =
+    let key = method_key k m.name in
+    let more = record d { methods = d.methods ++ key ∷ []; params = d.params ++ length m.params ∷ [] } in
+    let here = wider n (suc n) d (omega arith) h in
+    cond_both (is_among d.methods key) d more (AreFew (suc n)) (λ _. here)
+    (λ _. record { locals = here.locals; roots = here.roots; actors = here.actors; methods = omega (arith, h.methods, length-append d.methods (key ∷ [])); fields = here.fields })
+
+methods_more : (k : ℕ) (ms : List MethodTree) (n : ℕ) (d : DirectoryView) → AreFew n d → AreFew (n + methods_size ms) (with_methods k ms d)
+methods_more k [] n d h = wider n (n + 0) d (omega arith) h
+methods_more k (m ∷ ms) n d h =
+    wider (suc n + methods_size ms) (n + methods_size (m ∷ ms)) (with_methods k (m ∷ ms) d) (omega arith) (methods_more k ms (suc n) (with_method k m d) (method_more k m n d h))
+
+fields_more : (xs : List (List (List ℕ))) (y : List (List ℕ)) (k n : ℕ) → ((j : ℕ) → length (unwrap_or (slice_get xs j) []) ≤ n) → length y ≤ n → length (unwrap_or (slice_get (xs ++ y ∷ []) k) []) ≤ n
+fields_more [] y zero n h l = l
+fields_more [] y (suc k) n h l = omega arith
+fields_more (x ∷ xs) y zero n h l = h zero
+fields_more (x ∷ xs) y (suc k) n h l = fields_more xs y k n (λ j. h (suc j)) l
+
+actor_more : (a : ActorTree) (n : ℕ) (d : DirectoryView) → AreFew n d → AreFew (n + actor_size a) (with_actor a d)
+actor_more a n d h =
+    let own = with_names [] (field_names a.fields) in
+    let alone = record d { actors = d.actors ++ a.name ∷ []; fields = d.fields ++ own ∷ [] } in
+    let m = n + suc (length a.fields) in
+    let here = wider n m d (omega arith) h in
+    let few : length own ≤ m = omega (arith, some_names [] (field_names a.fields), length-map a.fields (λ f. f.name)) in
+    let one : AreFew m alone =
+    record { locals = here.locals; roots = here.roots; actors = omega (arith, h.actors, length-append d.actors (a.name ∷ [])); methods = here.methods; fields = λ k. fields_more d.fields own k m here.fields few } in
+    cond_both (is_among d.actors a.name) d (with_methods (length d.actors) a.methods alone) (AreFew (n + actor_size a)) (λ _. wider n (n + actor_size a) d (omega arith) h)
+    (λ _. wider (m + methods_size a.methods) (n + actor_size a) (with_methods (length d.actors) a.methods alone) (omega arith) (methods_more (length d.actors) a.methods m alone one))
+
+decl_more : (x : DeclTree) (n : ℕ) (d : DirectoryView) → AreFew n d → AreFew (n + decl_size x) (with_decl x d)
+decl_more (Executes x) n d h = let here = wider n (n + 1) d (omega arith) h in record { locals = here.locals; roots = here.roots; actors = here.actors; methods = here.methods; fields = here.fields }
+decl_more (Binds l) n d h = let here = wider n (n + 1) d (omega arith) h in record { locals = omega (arith, h.locals, one_name d.locals l.name); roots = here.roots; actors = here.actors; methods = here.methods; fields = here.fields }
+decl_more (Acts a) n d h = actor_more a n d h
+decl_more (Roots r) n d h = let here = wider n (n + 1) d (omega arith) h in record { locals = here.locals; roots = omega (arith, h.roots, one_name d.roots r.name); actors = here.actors; methods = here.methods; fields = here.fields }
+
+decls_more : (xs : List DeclTree) (n : ℕ) (d : DirectoryView) → AreFew n d → AreFew (n + script_size xs) (with_decls xs d)
+decls_more [] n d h = wider n (n + 0) d (omega arith) h
+decls_more (x ∷ xs) n d h = wider (n + decl_size x + script_size xs) (n + script_size (x ∷ xs)) (with_decls (x ∷ xs) d) (omega arith) (decls_more xs (n + decl_size x) (with_decl x d) (decl_more x n d h))
+
+-- a script declares no more than it is large, whatever its names
+pub few_names : (xs : List DeclTree) → script_size xs ≤ BYTES → HasFewNames (directory_of xs)
+few_names xs h =
+    let none : AreFew 0 nothing_declared = record { locals = omega arith; roots = omega arith; actors = omega arith; methods = omega arith; fields = λ k. omega arith } in
+    let few = decls_more xs 0 nothing_declared none in
+    record { locals = omega (arith, h, few.locals); roots = omega (arith, h, few.roots); actors = omega (arith, h, few.actors); methods = omega (arith, h, few.methods); fields = λ k. let f = few.fields k in omega (arith, h, f) }
 
 -- a name is a number or a handle, not both
 one_at_most : (k : NameKind) → cond (is_number k) 1 0 + cond (is_handle k) 1 0 ≤ 1
@@ -97,7 +119,7 @@ one_stands : (ks : List NameKind) (k : NameKind) → length (ks ++ k ∷ []) ≡
 one_stands ks k = omega (arith, length-append ks (k ∷ []))
 
 -- a statement makes one name at most
-after_stands : (s : ScopeView) (x : StmtTree) → length (scope_after s x).kinds ≤ length s.kinds + stmt_size x
+pub after_stands : (s : ScopeView) (x : StmtTree) → length (scope_after s x).kinds ≤ length s.kinds + stmt_size x
 after_stands s (Do (Let n v)) = omega (arith, one_stands s.kinds kind.Number)
 after_stands s (Do (LetTask n m)) = omega (arith, one_stands s.kinds kind.Task)
 after_stands s _ = omega arith
@@ -112,14 +134,6 @@ not_empty (IfElse t a b) = omega arith
 pub size_next : (block : List Stmt) (i : ℕ) (x : Stmt) → i < length block → x ≡ get_or block i x
     → block_size (block_tree (map view_stmt (drop i block))) ≡ stmt_size (view_stmt x) + block_size (block_tree (map view_stmt (drop (i + 1) block)))
 size_next block i x h is = ap block_size (at_item block i x h is)
-
--- what stands at a place of a block leaves room for the statements from there on
-pub stands_through : (s : ScopeView) (block : List Stmt) (i : ℕ)
-    → length (scope_through s (map view_stmt (take i block))).kinds + block_size (block_tree (map view_stmt (drop i block))) ≤ length s.kinds + block_size (block_tree (map view_stmt block))
-stands_through s [] zero = omega arith
-stands_through s [] (suc i) = omega arith
-stands_through s (x ∷ xs) zero = omega arith
-stands_through s (x ∷ xs) (suc i) = omega (arith, stands_through (scope_after s (view_stmt x)) xs i, after_stands s (view_stmt x))
 
 -- a statement takes two instructions at most, beside those of its blocks
 action_takes : (p : PlanView) (s : ScopeView) (a : ActionTree) → count (action_code p s a) ≤ 2
@@ -136,8 +150,8 @@ assumed_takes false inner = omega arith
 headed_takes : (p : PlanView) (s : ScopeView) (h : HeadTree) (inner : Code) → count (headed_code p s h inner) ≤ 2 + count inner
 headed_takes p s (If t) inner = omega arith
 headed_takes p s (While t) inner = omega arith
-headed_takes p s (Bind n t) inner = omega (arith, count_then inner (foot (Bind n t)))
-headed_takes p s (Group n) inner = omega (arith, count_then inner (foot (Group n)))
+headed_takes p s (Bind n t) inner = omega (arith, count_then inner (act unbind end))
+headed_takes p s (Group n) inner = omega (arith, count_then inner (act close_group end))
 headed_takes p s (Assume n) inner = assumed_takes _ inner
 
 mutual
@@ -150,28 +164,12 @@ mutual
   block_takes p s nothing = omega arith
   block_takes p s (first_then x xs) = omega (arith, count_then (stmt_code p s x) (block_code p (scope_after s x) xs), stmt_takes p s x, block_takes p (scope_after s x) xs)
 
-pub foot_takes : (h : HeadTree) → count (foot h) ≤ 1
-foot_takes (If t) = omega arith
-foot_takes (While t) = omega arith
-foot_takes (Bind n t) = omega arith
-foot_takes (Group n) = omega arith
-foot_takes (Assume n) = omega arith
-
 -- the statements from a place on are no larger than the block
 pub size_left : (block : List Stmt) (i : ℕ) → block_size (block_tree (map view_stmt (drop i block))) ≤ block_size (block_tree (map view_stmt block))
 size_left [] zero = omega arith
 size_left [] (suc i) = omega arith
 size_left (x ∷ xs) zero = omega arith
 size_left (x ∷ xs) (suc i) = omega (arith, size_left xs i)
-
--- what stands again before a statement leaves room for it and those after it
-pub stands_back : (t u v : ScopeView) (block : List Stmt) (left i : ℕ) (x : Stmt) → i + 1 ≡ left → i < length block → x ≡ get_or block i x
-    → u ≡ scope_through t (map view_stmt (take left block)) → ((s : ScopeView) → u ≡ scope_after s (view_stmt x) → v ≡ s)
-    → length v.kinds + block_size (block_tree (map view_stmt (drop i block))) ≤ length t.kinds + block_size (block_tree (map view_stmt block))
-stands_back t u v block left i x is_next h is standing back =
-    let s = scope_through t (map view_stmt (take i block)) in
-    let after : u ≡ scope_after s (view_stmt x) = standing ∙ ap (λ (k : ℕ). scope_through t (map view_stmt (take k block))) (sym is_next) ∙ through_more t block i x h is in
-    omega (arith, stands_through t block i, ap (λ (y : ScopeView). length y.kinds) (back s after))
 
 -- each parameter stands
 pub parameters_stand : (s : ScopeView) (names : List (List ℕ)) → length (with_parameters s names).kinds ≡ length s.kinds + length names

@@ -9,7 +9,6 @@ use Rattle.script_grammar.specs.Tree.{view_method, view_actor, DeclTree, Execute
 use Rattle.script_grammar.specs.Size.{method_size, methods_size, script_size}
 use Rattle.script_names.specs.Directory.{DirectoryView}
 use Rattle.script_printing.specs.Script.{ScriptView, script_in}
-use Rattle.script_compiler.specs.Checked.{IsChecked}
 use Rattle.script_compiler.specs.Plan.{PlanView}
 use Rattle.script_compiler.specs.MembersInside.{actors_size}
 use Rattle.script_compiler.proofs.Room.{few_in}
@@ -36,9 +35,6 @@ actors_small (Executes x ∷ xs) = omega (arith, actors_small xs)
 actors_small (Binds l ∷ xs) = omega (arith, actors_small xs)
 actors_small (Acts a ∷ xs) = omega (arith, actors_small xs)
 actors_small (Roots r ∷ xs) = omega (arith, actors_small xs)
-
-pub small_here : (s : ScriptView) (d : DirectoryView) → IsChecked s d → actors_size s.actors ≤ BYTES
-small_here s d c = omega (arith, actors_small c.decls, ap (λ (t : ScriptView). actors_size t.actors) c.is, c.size)
 
 -- two lists that agree are as long
 as_long : {A B : Type 0} (R : A → B → Type 0) (xs : List A) (ys : List B) → AllZip R xs ys → length xs ≡ length ys

@@ -1,32 +1,29 @@
 -- Statements with blocks of their own.
-use Rattle.std.proofs.Common.{rules, ◌≡◌, ℕ, suc, ◌+◌, true, false, ◌&&◌, List, [], ◌∷◌, ◌++◌, length, map, take, refl, sym, ap, subst, ◌∙◌}
-use Rattle.std.specs.Prelude.{OnOk, IfOk, Result, Ok, Err, slice_set}
-use Rattle.std.proofs.lemmas.Bool.{and_parts}
-use Rattle.std.proofs.Math.Seq.{take-length, take-append_seam}
+use Rattle.std.proofs.Common.{rules, ◌≡◌, ℕ, suc, ◌+◌, ◌≤◌, Bool, true, ◌&&◌, List, [], ◌∷◌, ◌++◌, length, map, take, eqb, sym, ap, ◌∙◌, arith}
+use Rattle.std.specs.Prelude.{if◌then◌else◌}
+use Rattle.std.proofs.lemmas.Bool.{and_parts, eqb-true, eq-eqb}
+use Rattle.std.proofs.lemmas.List.{take-append-le, length-take}
 use Rattle.std.specs.Global.{Vec}
-use Rattle.script_grammar.specs.Tree.{ExprTree, HeadTree, BlockTree, block_tree, view, view_head, view_stmt}
+use Rattle.script_grammar.specs.Tree.{StmtTree, block_tree, view, view_head, view_stmt}
 use Rattle.script_grammar.specs.Tree as tree
 use Rattle.script_grammar.specs.Size.{stmt_size, block_size}
 use Rattle.script_grammar.specs.declared.expression.Expr.{Expr}
+use Rattle.script_grammar.specs.declared.expression.Name.{Name}
 use Rattle.script_grammar.specs.declared.statement.Head.{Head}
 use Rattle.script_grammar.specs.declared.statement.Head.TheVariants as head
 use Rattle.script_grammar.specs.declared.statement.Stmt.{Stmt, Block, IfElse, the_lemmas}
-use Rattle.script_code.specs.Tree.{Term, Code, end, choice}
-use Rattle.script_code.specs.Instructions.{tests}
-use Rattle.script_code.specs.Layout.{entry, Meaning, meaning_of, written}
-use Rattle.script_code.specs.declared.instruction.Act.{Act}
-use Rattle.script_code.specs.declared.instruction.Instruction.{Instruction}
+use Rattle.script_code.specs.Tree.{Term, Code, followed, end, act, choice, loop, bind, unbind, open_group, close_group, assume, isolated}
+use Rattle.script_names.specs.Texts.{place_of}
+use Rattle.script_names.specs.declared.scope.NameKind.{NameKind}
 use Rattle.script_names.specs.declared.scope.NameKind.TheVariants as kind
 use Rattle.script_names.specs.declared.scope.Outside.{Outside}
-use Rattle.script_names.specs.Scope.{ScopeView}
-use Rattle.script_names.specs.Rules.{scope_within}
-use Rattle.script_compiler.specs.Plan.{PlanView}
-use Rattle.script_compiler.specs.Lowered.{lowered, headed_code, stmt_code, block_code}
-use Rattle.script_compiler.specs.New.{stmt_new, block_new}
-use Rattle.script_compiler.specs.StandingInside.{outside_of, left}
-use Rattle.script_compiler.specs.HeadsInside.{is_isolated, is_loop}
-use Rattle.script_compiler.proofs.Lines.{IsWritten, choice_lines, choice_start, loop_lines, loop_start}
-use Rattle.script_compiler.proofs.Heads.{HasParts, head_written}
+use Rattle.script_names.specs.Scope.{ScopeView, with_standing}
+use Rattle.script_names.specs.Rules.{scope_after, scope_within}
+use Rattle.script_compiler.specs.Plan.{PlanView, executor_at}
+use Rattle.script_compiler.specs.Lowered.{handles_in, lowered, headed_code, stmt_code}
+use Rattle.script_compiler.specs.StandingInside.{left}
+use Rattle.script_compiler.proofs.Blocks.{code_in}
+use Rattle.script_compiler.proofs.Steps.{elsewhere}
 
 view-Block : (h : Head) (b : Vec Stmt) → view_stmt (Block h b) ≡ tree.Headed (view_head h) (block_tree (map view_stmt b.items))
 view-Block h b = search (rules, the_lemmas)
@@ -45,95 +42,68 @@ else_size x e a b held failed is same same' =
     ∙ ap (λ (ss : List Stmt). suc (block_size (block_tree (map view_stmt ss)) + block_size (block_tree (map view_stmt b.items)))) (sym same)
     ∙ ap (λ (ss : List Stmt). suc (block_size (block_tree (map view_stmt held)) + block_size (block_tree (map view_stmt ss)))) (sym same')
 
--- all that the first block of a test makes is new
-pub held_new : (s : ScopeView) (x : Stmt) (e : Expr) (a b : Vec Stmt) (held : List Stmt) → x ≡ IfElse e a b → held ≡ a.items
-    → stmt_new s (view_stmt x) ≡ true → block_new s (block_tree (map view_stmt held)) ≡ true
-held_new s x e a b held is same new =
-    ap (λ (ss : List Stmt). block_new s (block_tree (map view_stmt ss))) same
-    ∙ (and_parts (block_new s (block_tree (map view_stmt a.items))) (block_new s (block_tree (map view_stmt b.items))) (sym (ap (stmt_new s) (ap view_stmt is ∙ view-IfElse e a b)) ∙ new)).0
-
--- the code of a block
-abbrev pub code_in : PlanView → ScopeView → List Stmt → Code
-code_in p s body = block_code p s (block_tree (map view_stmt body))
-
 -- a statement with these parts
-headed_is : (p : PlanView) (s : ScopeView) (x : Stmt) (h : Head) (b : Vec Stmt) (body : List Stmt) → x ≡ Block h b → body ≡ b.items
+pub headed_is : (p : PlanView) (s : ScopeView) (x : Stmt) (h : Head) (b : Vec Stmt) (body : List Stmt) → x ≡ Block h b → body ≡ b.items
     → headed_code p s (view_head h) (code_in p (scope_within s (view_head h)) body) ≡ stmt_code p s (view_stmt x)
 headed_is p s x h b body is same =
-    ap (λ xs. headed_code p s (view_head h) (code_in p (scope_within s (view_head h)) xs)) same
+    ap (λ (xs : List Stmt). headed_code p s (view_head h) (code_in p (scope_within s (view_head h)) xs)) same
     ∙ ap (stmt_code p s) (sym (ap view_stmt is ∙ view-Block h b))
 
-pub while_written : (p : PlanView) (s : ScopeView) (x : Stmt) (h : Head) (b : Vec Stmt) (body : List Stmt) (e : Expr) (t : Term) (f : Meaning) (l m n o : List Instruction) (q first here : ℕ)
-    → x ≡ Block h b → h ≡ head.While e → body ≡ b.items → t ≡ lowered p s (view e)
-    → map meaning_of m ≡ map meaning_of l ++ f ∷ [] → here ≡ length l
-    → IsWritten (code_in p s body) m n here first
-    → map meaning_of o ≡ slice_set (map meaning_of n) here (λ at. tests t (at first) (at q))
-    → IsWritten (stmt_code p s (view_stmt x)) l o q here
-while_written p s x h b body e t f l m n o q first here is loops same made kept at inner linked =
-    let code : headed_code p s (view_head (head.While e)) (code_in p s body) ≡ stmt_code p s (view_stmt x) = headed_is p s x (head.While e) b body (is ∙ ap (λ y. Block y b) loops) same in
-    subst (λ (c : Code). IsWritten c l o q here) code
-    (record {
-      lines = loop_lines (lowered p s (view e)) (code_in p s body) f (λ at. tests t (at first) (at q)) l m n o q first here kept at inner.lines inner.start (ap (λ y. λ k. tests y (k first) (k q)) made) linked;
-      start = loop_start (lowered p s (view e)) (code_in p s body) l q here at;
-    })
+pub else_is : (p : PlanView) (s : ScopeView) (x : Stmt) (e : Expr) (a b : Vec Stmt) (held failed : List Stmt) → x ≡ IfElse e a b → held ≡ a.items → failed ≡ b.items
+    → choice (lowered p s (view e)) (code_in p s held) (code_in p s failed) end ≡ stmt_code p s (view_stmt x)
+else_is p s x e a b held failed is same same' =
+    ap (λ (xs : List Stmt). choice (lowered p s (view e)) (code_in p s xs) (code_in p s failed) end) same
+    ∙ ap (λ (xs : List Stmt). choice (lowered p s (view e)) (code_in p s a.items) (code_in p s xs) end) same'
+    ∙ ap (stmt_code p s) (sym (ap view_stmt is ∙ view-IfElse e a b))
 
-pub block_written : (p : PlanView) (s : ScopeView) (x : Stmt) (h : Head) (b : Vec Stmt) (body : List Stmt) (a : Act) (l m n o : List Instruction) (q last first number : ℕ)
-    → x ≡ Block h b → body ≡ b.items → is_loop (view_head h) ≡ false → is_isolated p s (view_head h) ≡ false
-    → HasParts p s (view_head h) (code_in p (scope_within s (view_head h)) body) a l m n o q last first number
-    → IsWritten (stmt_code p s (view_stmt x)) l o q number
-block_written p s x h b body a l m n o q last first number is same once run parts =
-    subst (λ (c : Code). IsWritten c l o q number) (headed_is p s x h b body is same)
-    (head_written p s (view_head h) (code_in p (scope_within s (view_head h)) body) a l m n o q last first number once run parts)
+-- what a test and two blocks stand for
+pub else_code : (p : PlanView) (s : ScopeView) (x : Stmt) (e : Expr) (a b : Vec Stmt) (held failed : List Stmt) (t : Term) (c d : Code) → x ≡ IfElse e a b → held ≡ a.items → failed ≡ b.items
+    → t ≡ lowered p s (view e) → c ≡ code_in p s held → d ≡ code_in p s failed → choice t c d end ≡ stmt_code p s (view_stmt x)
+else_code p s x e a b held failed t c d is same same' test one other = (λ i. choice (test i) (one i) (other i) end) ∙ else_is p s x e a b held failed is same same'
 
-pub else_written : (p : PlanView) (s : ScopeView) (x : Stmt) (e : Expr) (a b : Vec Stmt) (held failed : List Stmt) (t : Term) (l m n o : List Instruction) (q first other number : ℕ)
-    → x ≡ IfElse e a b → held ≡ a.items → failed ≡ b.items → t ≡ lowered p s (view e)
-    → IsWritten (code_in p s failed) l m q other
-    → IsWritten (code_in p s held) m n q first
-    → map meaning_of o ≡ map meaning_of n ++ (λ at. tests t (at first) (at other)) ∷ [] → number ≡ length n
-    → IsWritten (stmt_code p s (view_stmt x)) l o q number
-else_written p s x e a b held failed t l m n o q first other number is same same' made below above line at =
-    let code : choice (lowered p s (view e)) (code_in p s held) (code_in p s failed) end ≡ stmt_code p s (view_stmt x) =
-    ap (λ xs. choice (lowered p s (view e)) (code_in p s xs) (code_in p s failed) end) same
-    ∙ ap (λ xs. choice (lowered p s (view e)) (code_in p s a.items) (code_in p s xs) end) same'
-    ∙ ap (stmt_code p s) (sym (ap view_stmt is ∙ view-IfElse e a b)) in
-    subst (λ (c : Code). IsWritten c l o q number) code
-    (record {
-      lines = choice_lines (lowered p s (view e)) (code_in p s held) (code_in p s failed) _ l m n o q first other below.lines below.start above.lines above.start (ap (λ y. λ k. tests y (k first) (k other)) made) line;
-      start = choice_start (lowered p s (view e)) (code_in p s held) (code_in p s failed) l m n q number below.lines above.lines at;
-    })
+-- the code of an `assume`, where its actor runs on the same executor, and where not
+pub run_here : (p : PlanView) (s : ScopeView) (name : List ℕ) (inner : Code) → executor_at p (place_of s.directory.actors name) ≡ executor_at p s.actor → headed_code p s (tree.Assume name) inner ≡ act assume inner
+run_here p s name inner same = ap (λ (b : Bool). if b then act assume inner else act isolated end) (eq-eqb (executor_at p (place_of s.directory.actors name)) (executor_at p s.actor) same)
 
--- what is known of an answer, from what is known of the instruction that gives it
-pub answered : {E : Type 0} (r : Result ℕ E) (f : Meaning) (c : Code) (l n o : List Instruction) (q : ℕ)
-    → OnOk r (map meaning_of o ≡ map meaning_of n ++ f ∷ []) → IfOk r (λ x. x ≡ length n)
-    → ((x : ℕ) → map meaning_of o ≡ map meaning_of n ++ f ∷ [] → x ≡ length n → IsWritten c l o q x)
-    → OnOk r (map meaning_of o ≡ map meaning_of l ++ written c (length l) q) × IfOk r (λ x. x ≡ entry c (length l) q)
-answered (Ok x) f c l n o q h k g = ((g x h k).lines, (g x h k).start)
-answered (Err e) f c l n o q h k g = (tt, tt)
+pub run_elsewhere : (p : PlanView) (s : ScopeView) (name : List ℕ) (inner : Code) → (executor_at p (place_of s.directory.actors name) ≡ executor_at p s.actor → ⊥) → headed_code p s (tree.Assume name) inner ≡ act isolated end
+run_elsewhere p s name inner other = ap (λ (b : Bool). if b then act assume inner else act isolated end) (elsewhere (eqb (executor_at p (place_of s.directory.actors name)) (executor_at p s.actor)) (λ t. other (eqb-true (executor_at p (place_of s.directory.actors name)) (executor_at p s.actor) t)))
 
-pub ok_of : {E : Type 0} (r : Result ℕ E) (P : Type 0) → P → OnOk r P
-ok_of (Ok x) P h = h
-ok_of (Err e) P h = tt
+as_long : {X : Type 0} (xs ys : List X) (n : ℕ) → take n xs ≡ ys → n ≡ length ys → n ≤ length xs
+as_long xs ys n e h = omega (arith, length-take n xs, ap length e)
 
-taken : {X : Type 0} (xs : List X) (n : ℕ) → n ≡ length xs → take n xs ≡ xs
-taken xs n e = ap (λ (k : ℕ). take k xs) e ∙ take-length xs
+one_more_left : (o : Outside) (s t : ScopeView) (name : List ℕ) (k : NameKind) → o.names ≡ length t.names → length t.kinds ≡ length t.names → left o s ≡ t → left o (with_standing s name k) ≡ t
+one_more_left o s t name k count kinds e =
+    let names : take o.names (s.names ++ name ∷ []) ≡ take o.names s.names = take-append-le o.names s.names (name ∷ []) (as_long s.names t.names o.names (ap (λ (y : ScopeView). y.names) e) count) in
+    let more : take o.names (s.kinds ++ k ∷ []) ≡ take o.names s.kinds = take-append-le o.names s.kinds (k ∷ []) (as_long s.kinds t.kinds o.names (ap (λ (y : ScopeView). y.kinds) e) (count ∙ sym kinds)) in
+    (λ i. record s { actor = o.actor; names = names i; kinds = more i; bound = o.bound }) ∙ e
 
-taken_back : {X : Type 0} (xs ys : List X) (n : ℕ) → n ≡ length xs → take n (xs ++ ys) ≡ xs
-taken_back xs ys n e = ap (λ (k : ℕ). take k (xs ++ ys)) e ∙ take-append_seam xs ys
+-- one name more is not among those that stood outside
+pub still_left : (o : Outside) (s t : ScopeView) (x : StmtTree) → o.names ≡ length t.names → length t.kinds ≡ length t.names → left o s ≡ t → left o (scope_after s x) ≡ t
+still_left o s t (tree.Do (tree.Let n v)) count kinds e = one_more_left o s t n kind.Number count kinds e
+still_left o s t (tree.Do (tree.LetTask n m)) count kinds e = one_more_left o s t n kind.Task count kinds e
+still_left o s t _ count kinds e = e
 
-left_so : (s : ScopeView) (h : HeadTree) → length s.names ≡ length s.kinds → left (outside_of s) (scope_within s h) ≡ s
-left_so s (tree.If t) e = λ i. record s { names = taken s.names (length s.names) refl i; kinds = taken s.kinds (length s.names) e i }
-left_so s (tree.While t) e = λ i. record s { names = taken s.names (length s.names) refl i; kinds = taken s.kinds (length s.names) e i }
-left_so s (tree.Bind name t) e = λ i. record s { names = taken s.names (length s.names) refl i; kinds = taken s.kinds (length s.names) e i }
-left_so s (tree.Group name) e = λ i. record s { names = taken_back s.names (name ∷ []) (length s.names) refl i; kinds = taken_back s.kinds (kind.Group ∷ []) (length s.names) e i }
-left_so s (tree.Assume name) e = λ i. record s { names = taken s.names (length s.names) refl i; kinds = taken s.kinds (length s.names) e i }
+-- what heads and their blocks stand for
+pub if_code : (p : PlanView) (s : ScopeView) (h : Head) (e : Expr) (t : Term) (inner none : Code) (body : List Stmt) → h ≡ head.If e → t ≡ lowered p s (view e) → inner ≡ code_in p s body → none ≡ end
+    → choice t inner none end ≡ headed_code p s (view_head h) (code_in p (scope_within s (view_head h)) body)
+if_code p s h e t inner none body is test one other =
+    (λ i. choice (test i) (one i) (other i) end) ∙ sym (ap (λ (y : Head). headed_code p s (view_head y) (code_in p (scope_within s (view_head y)) body)) is)
 
--- what stood outside a block stands after it
-pub left_is : (s t : ScopeView) (h : HeadTree) (o : Outside) → length s.kinds ≡ length s.names → o ≡ outside_of s → t ≡ scope_within s h → left o t ≡ s
-left_is s t h o e out inside = ap (λ x. left x t) out ∙ ap (left (outside_of s)) inside ∙ left_so s h (sym e)
+pub while_code : (p : PlanView) (s : ScopeView) (h : Head) (e : Expr) (t : Term) (inner : Code) (body : List Stmt) → h ≡ head.While e → t ≡ lowered p s (view e) → inner ≡ code_in p s body
+    → loop t inner end ≡ headed_code p s (view_head h) (code_in p (scope_within s (view_head h)) body)
+while_code p s h e t inner body is test one =
+    (λ i. loop (test i) (one i) end) ∙ sym (ap (λ (y : Head). headed_code p s (view_head y) (code_in p (scope_within s (view_head y)) body)) is)
 
-pub not_loop : (h : Head) → ((e : Expr) → h ≡ head.While e → ⊥) → is_loop (view_head h) ≡ false
-not_loop (head.If e) n = refl
-not_loop (head.While e) n = absurd (n e refl)
-not_loop (head.Bind name e) n = refl
-not_loop (head.Group name) n = refl
-not_loop (head.Assume name) n = refl
+pub bind_code : (p : PlanView) (s u : ScopeView) (h : Head) (name : Name) (e : Expr) (l : ℕ) (t : Term) (body : List Stmt) → h ≡ head.Bind name e → l ≡ place_of p.directory.locals name.text.items → t ≡ lowered p s (view e)
+    → u ≡ scope_within s (view_head h) → act (bind l t) (followed (code_in p u body) (act unbind end)) ≡ headed_code p s (view_head h) (code_in p (scope_within s (view_head h)) body)
+bind_code p s u h name e l t body is place value inside =
+    (λ i. act (bind (place i) (value i)) (followed (code_in p (inside i) body) (act unbind end)))
+    ∙ ap (λ (y : Head). act (bind (place_of p.directory.locals name.text.items) (lowered p s (view e))) (followed (code_in p (scope_within s (view_head y)) body) (act unbind end))) is
+    ∙ sym (ap (λ (y : Head). headed_code p s (view_head y) (code_in p (scope_within s (view_head y)) body)) is)
+
+pub group_code : (p : PlanView) (s u : ScopeView) (h : Head) (name : Name) (k : ℕ) (body : List Stmt) → h ≡ head.Group name → k ≡ handles_in s
+    → u ≡ scope_within s (view_head h) → act (open_group k) (followed (code_in p u body) (act close_group end)) ≡ headed_code p s (view_head h) (code_in p (scope_within s (view_head h)) body)
+group_code p s u h name k body is place inside =
+    (λ i. act (open_group (place i)) (followed (code_in p (inside i) body) (act close_group end)))
+    ∙ ap (λ (y : Head). act (open_group (handles_in s)) (followed (code_in p (scope_within s (view_head y)) body) (act close_group end))) is
+    ∙ sym (ap (λ (y : Head). headed_code p s (view_head y) (code_in p (scope_within s (view_head y)) body)) is)

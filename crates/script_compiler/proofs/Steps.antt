@@ -36,7 +36,7 @@ zip_push R [] (y' ∷ ys) x y h r = absurd h
 zip_push R (x' ∷ xs) [] x y h r = absurd h
 zip_push R (x' ∷ xs) (y' ∷ ys) x y h r = (h.0, zip_push R xs ys x y h.1 r)
 
-elsewhere : (b : Bool) → (b ≡ true → ⊥) → b ≡ false
+pub elsewhere : (b : Bool) → (b ≡ true → ⊥) → b ≡ false
 elsewhere true h = absurd (h refl)
 elsewhere false h = refl
 

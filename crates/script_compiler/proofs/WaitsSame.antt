@@ -14,7 +14,8 @@ use Rattle.script_compiler.specs.declared.compiled.Compiled.{Compiled}
 use Rattle.script_compiler.specs.Compiled.{MethodView, RootView, CompiledView}
 use Rattle.script_compiler.specs.IsCompiled.{IsMethod, IsCompiled, root_view}
 use Rattle.script_compiler.specs.Waiting.{operations_in, made_by, edges_made, waits_made, edges_of, waits_of, root_methods}
-use Rattle.script_compiler.specs.ActsInside.{operation_of, made_if, made_along, made_through}
+use Rattle.script_code.specs.Statements.{operation_of}
+use Rattle.script_compiler.specs.ActsInside.{made_if, made_along, made_through}
 use Rattle.script_compiler.proofs.Membership.{Has, has_left, has_right, has_cases, flat_within, has_contained, contains_had}
 use Rattle.script_compiler.proofs.Operations.{operations_along, operation_list, along_in, in_along}
 

@@ -2,7 +2,7 @@ use Rattle.std.proofs.Common.{◌≡◌, ◌≤◌, ◌+◌, drop, map}
 use Rattle.script_grammar.specs.Tree.{view_stmt, block_tree}
 use Rattle.script_grammar.specs.Size.{block_size}
 use Rattle.script_compiler.specs.Counts.{greater, most_of}
-use Rattle.script_compiler.specs.RoomInside.{greatest}
+use Rattle.script_code.specs.Layout.{greatest}
 use Rattle.script_compiler.proofs.lowering.counts.+most.Given as goal
 
 abbrev pub invariant-most_of-loop-stmt : goal.invariant-most_of-loop-stmt

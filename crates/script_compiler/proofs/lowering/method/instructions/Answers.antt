@@ -1,19 +1,15 @@
-use Rattle.std.proofs.Common.{◌≡◌, ◌++◌, ◌∷◌, [], ◌∙◌, List, map, ap}
+use Rattle.std.proofs.Common.{map, ap, subst, arith}
 use Rattle.script_grammar.specs.Tree.{view_stmt, block_tree}
-use Rattle.script_code.specs.Layout.{meaning_of, last_line}
-use Rattle.script_code.specs.declared.instruction.Instruction.{Instruction}
-use Rattle.script_compiler.specs.Lowered.{block_code}
-use Rattle.script_compiler.proofs.WholeMethods.{first_within, all_follow}
+use Rattle.script_code.specs.Instructions.{FollowsCode}
+use Rattle.script_code.specs.Layout.{count, code_at}
+use Rattle.script_code.specs.Tree.{Code}
+use Rattle.std.specs.Prelude.{IfOk}
+use Rattle.script_compiler.proofs.Room.{block_takes}
 use Rattle.script_compiler.proofs.lowering.method.instructions.Goals as goal
 
-pub renumber-requires : goal.renumber-requires
-renumber-requires c =
-    let ended : map meaning_of c.write.new.instructions.items ≡ last_line ∷ [] = c.in_ok-write.ensures.lines ∙ ap (λ (xs : List Instruction). map meaning_of xs ++ last_line ∷ []) c.new-instructions.ensures.items in
-    first_within (block_code c.args.plan.now c.args.scope.now (block_tree (map view_stmt c.args.body.now))) c.write.new.instructions.items c.block.new.instructions.items c.in_ok-first.first ended
-    (record { lines = c.in_ok-first.ensures.lines; start = c.in_ok-first.ensures.start })
+pub instructions_of-requires : goal.instructions_of-requires
+instructions_of-requires c =
+    omega (arith, c.requires.room, ap count c.in_ok-statements.ensures.code, block_takes c.args.plan.now c.args.scope.now (block_tree (map view_stmt c.args.body.now)))
 
 pub returns : goal.returns
-returns c =
-    let ended : map meaning_of c.write.new.instructions.items ≡ last_line ∷ [] = c.in_ok-write.ensures.lines ∙ ap (λ (xs : List Instruction). map meaning_of xs ++ last_line ∷ []) c.new-instructions.ensures.items in
-    all_follow c.written_code_implements.ensures (block_code c.args.plan.now c.args.scope.now (block_tree (map view_stmt c.args.body.now))) c.write.new.instructions.items c.block.new.instructions.items c.renumber.new.instructions.items c.in_ok-first.first ended
-    (record { lines = c.in_ok-first.ensures.lines; start = c.in_ok-first.ensures.start }) c.renumber.ensures
+returns c = subst (λ (code : Code). IfOk c.instructions_of.result (λ v. FollowsCode v.items code (code_at code))) c.in_ok-statements.ensures.code c.instructions_of.ensures
