@@ -1,9 +1,11 @@
 #!/usr/bin/env python3
 """Compiles files of the subset of Swift that nuchapay reads, runs them, and looks whether explore lists what they print.
 
-    tools/swift_in.py NUCHAPAY [FILE..] [--runs N] [--limit STATES] [--random N] [--seed N]
+    tools/swift_in.py NUCHAPAY [FILE..] [--runs N] [--limit STATES] [--random N] [--plain N] [--seed N]
 
-Without files it takes examples/swift, and those of examples/nuchapay; with --random N it takes N of tools/random_swift.py, from --seed on.
+Without files it takes examples/swift, and those of examples/nuchapay; with --random N it takes N of tools/random_swift.py, from --seed on;
+with --plain N what `nuchapay swift --plain` prints for N random scripts of tools/plain_swift.py, whose `main` also prints all fields at its
+end.
 The compiler is the `swiftc` on the PATH, or that of another system whose root folder SWIFT_ROOT names; where there is none, it says so and
 ends with status 0.
 
@@ -11,9 +13,11 @@ Of a file that nuchapay refuses, it says whether the compiler does, too. Another
 time on one core, and with short delays of random length at the beginning of statements, so that other orders come. The numbers, true and
 false that a run prints are compared with the fields print_lineN, print_lineN_2 .. of the outcomes that explore lists for what `nuchapay print` prints, without
 its invariants: Swift undoes nothing. A run that traps is inside where a precondition fails or a sum overflows in an outcome. Files that
-print a value more than once, or not always, are not compared; nor are those of more than STATES states (100,000).
+print a value more than once, or not always, are not compared; nor are those of more than STATES states (100,000), nor those of which a task
+may be ended by a limit: it goes on in Swift. Where a method of an actor cancels a task or a group, an outcome that is not listed is noted
+alone.
 
-Status 1 where the compiler refuses what nuchapay reads, or a run has an outcome that is not listed.
+Status 1 where the compiler refuses what nuchapay reads, or warns of a file of the repository, or a run has an outcome that is not listed.
 """
 from __future__ import annotations
 
@@ -30,13 +34,14 @@ import tempfile
 from typing import Optional
 
 sys.path.insert(0, os.path.dirname(os.path.abspath(__file__)))
+from plain_swift import Own, plain
 from random_swift import program as random_program
 
 TOP = os.path.dirname(os.path.dirname(os.path.abspath(__file__)))
 ROOT = os.environ.get("SWIFT_ROOT", "")
 # Where the programs are built, inside SWIFT_ROOT or here.
 INSIDE = "/tmp/nuchapay_swift_in"
-ENTER = ["chroot", ROOT, "env", "LD_LIBRARY_PATH=/usr/libexec/swift/lib/swift/linux"] if ROOT else []
+ENTER = ["chroot", ROOT, "env", "TMPDIR=/tmp", "LD_LIBRARY_PATH=/usr/libexec/swift/lib/swift/linux"] if ROOT else []
 SECONDS = 20
 EXPLORE_SECONDS = 120
 TRAP = "trap"
@@ -46,6 +51,8 @@ import Glibc
 """
 # A statement at the beginning of a line of a body that is none of a single expression, as these are examples' and random_swift's.
 STATEMENT = re.compile(r"^(\s{8,})((?:let|var|if|guard|while|for|return|throw)\b.*|\w+\.(?:cancel|cancelAll|addTask)\b.*)$")
+# A task that is ended by a limit.
+LIMIT = re.compile(r" fault (?:steps|turns|depth|tasks)$", re.MULTILINE)
 VALUE = re.compile(r"-?\b\d+\b|\btrue\b|\bfalse\b")
 
 Outcome = tuple[object, ...]
@@ -142,17 +149,27 @@ def explored(program: str, script: str, limit: int) -> Optional[str]:
     return done.stdout if "came to its end" in done.stdout else None
 
 
-def compare(row: Row, program: str, script: str, runs: int, limit: int) -> None:
+def cancels_early(text: str) -> bool:
+    """Whether a method of an actor cancels something: in Swift a task may begin before that in the turn that makes it."""
+    return bool(re.search(r"\.cancel(?:All)?\(\)", text.split("@main")[0]))
+
+
+def compare(row: Row, program: str, text: str, script: str, runs: int, limit: int) -> None:
     """Runs what was built, and compares."""
     seen = collections.Counter(run_once(row.name, place) for place in range(runs))
     said = explored(program, script, limit)
     name, fields = main_of(script)
+    if said is not None and LIMIT.search(said):
+        row.note = f"not compared, a task may be ended by a limit, {len(seen)} seen"
+        return
     if said is None or any(each != (TRAP,) and len(each) != len(fields) for each in seen):
         row.note = f"not compared, {len(seen)} seen"
         return
     found = listed(said, name, fields)
     outside = [f"{times} runs print {each}" for each, times in seen.items() if each not in found]
-    if outside:
+    if outside and cancels_early(text):
+        row.note = f"not compared, {len(seen)} seen, {len(outside)} of them outside: a task may begin in Swift before it is cancelled"
+    elif outside:
         row.fail("; ".join(outside) + f"; listed are {sorted(map(str, found))}")
     else:
         row.note = f"{len(seen)} seen of {len(found)} that are listed"
@@ -168,7 +185,11 @@ def look(program: str, path: str, runs: int, limit: int) -> Row:
     if done.returncode:
         row.note = f"refused, {done.stderr.splitlines()[0] if done.stderr else ''}; swiftc {'takes' if is_taken else 'refuses'} it"
     elif is_taken:
-        compare(row, program, done.stdout, runs, limit)
+        compare(row, program, text, done.stdout, runs, limit)
+        warnings = [line for line in told if " warning:" in line]
+        if warnings:
+            row.note += f", with {len(warnings)} warnings: {warnings[0]}"
+            row.is_well = row.is_well and not path.startswith(TOP)
     else:
         row.fail(f"read, and swiftc refuses it: {' '.join(told[:2])}")
     return row
@@ -185,6 +206,36 @@ def files(folder: str, many: int, seed: int) -> list[str]:
     return paths
 
 
+def with_prints(swift: str) -> str:
+    """A plain program whose `main` prints each field at its end."""
+    members: dict[str, list[str]] = collections.defaultdict(list)
+    actor = ""
+    for line in swift.split("\n"):
+        found = re.match(r"actor (\w+)", line)
+        actor = found.group(1) if found else actor
+        field = re.match(r"    private\(set\) var (\w+) =", line)
+        if field:
+            members[actor].append(field.group(1))
+    made = re.findall(r"^let (\w+) = (\w+)\(\)$", swift, re.MULTILINE)
+    prints = [f"        print(await {name}.{field})\n" for name, of in made for field in members[of]]
+    place = swift.rindex("    }\n}")
+    return swift[:place] + "".join(prints) + swift[place:]
+
+
+def plain_files(program: str, folder: str, many: int, seed: int) -> list[str]:
+    """Writes plain programs of random scripts into a folder. Their paths."""
+    paths: list[str] = []
+    number = seed
+    while len(paths) < many:
+        swift, _ = plain(program, Own(number).script())
+        if swift:
+            paths.append(os.path.join(folder, f"plain_{number}.swift"))
+            with open(paths[-1], "w", encoding="ascii") as file:
+                file.write(with_prints(swift))
+        number += 1
+    return paths
+
+
 def main() -> None:
     arguments = argparse.ArgumentParser(description=__doc__, formatter_class=argparse.RawDescriptionHelpFormatter)
     arguments.add_argument("program", metavar="NUCHAPAY")
@@ -192,6 +243,7 @@ def main() -> None:
     arguments.add_argument("--runs", type=int, default=60)
     arguments.add_argument("--limit", metavar="STATES", type=int, default=100_000)
     arguments.add_argument("--random", metavar="N", type=int, default=0)
+    arguments.add_argument("--plain", metavar="N", type=int, default=0)
     arguments.add_argument("--seed", metavar="N", type=int, default=1)
     given = arguments.parse_args()
     if not ROOT and not shutil.which("swiftc"):
@@ -201,8 +253,8 @@ def main() -> None:
     usual = [path for at in ("swift", "nuchapay") for path in sorted(glob.glob(os.path.join(TOP, "examples", at, "*.swift")))]
     is_well = True
     with tempfile.TemporaryDirectory() as folder, concurrent.futures.ThreadPoolExecutor(2) as pool:
-        paths = given.files or ([] if given.random else usual)
-        paths = paths + files(folder, given.random, given.seed)
+        paths = given.files or ([] if given.random or given.plain else usual)
+        paths = paths + files(folder, given.random, given.seed) + plain_files(program, folder, given.plain, given.seed)
         for row in pool.map(lambda path: look(program, path, given.runs, given.limit), paths):
             is_well = is_well and row.is_well
             print(f"{row.name}: {row.note}", flush=True)
