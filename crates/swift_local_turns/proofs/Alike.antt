@@ -1,5 +1,5 @@
 -- Two logs that say the same beside how far jobs are, and of which tasks wait.
-use Rattle.std.proofs.Common.{◌≡◌, ℕ, zero, suc, ◌+◌, List, [], ◌∷◌, ◌++◌, refl, sym, ◌∙◌, ap, ap₂, subst₂, Bool, true, false, inl, inr, append_assoc, append-nil}
+use Rattle.std.proofs.Common.{◌≡◌, ℕ, ◌+◌, List, [], ◌∷◌, ◌++◌, refl, sym, ◌∙◌, ap, ap₂, subst₂, Bool, true, false, inl, inr, append_assoc, append-nil}
 use Rattle.std.specs.Prelude.{Option, Some, None, ◌||◌, not}
 use Rattle.std.specs.List.{filter_map, list_any}
 use Rattle.std.proofs.lemmas.Bool.{cases_eq}
@@ -12,10 +12,11 @@ use Rattle.swift_events.specs.declared.life.Origin.{Origin}
 use Rattle.swift_events.specs.declared.life.JobStage.{JobStage}
 use Rattle.swift_events.specs.Events.{task_of, is_made, tasks_of, later}
 use Rattle.swift_events.specs.Lives.{life_of, lived, origin_in, stage_in, ending_in}
-use Rattle.swift_events.specs.Relations.{own_in, own_tasks, waiter_in, waiters_of, link_in, links_of, opens, opened_by, child_in, children_of, ending_among, endings_of, asks, asked_of, closes, is_closed, names_group, is_named_group, group_of, names_task, is_named, parent_by, parent_of, of_parent, cancelled_within, is_cancelled}
+use Rattle.swift_events.specs.Relations.{own_in, own_tasks, waiter_in, waiters_of, link_in, links_of, opens, opened_by, child_in, children_of, ending_among, endings_of, asks, asked_of, closes, is_closed, names_group, is_named_group, group_of, names_task, is_named, parent_by, parent_of, is_cancelled}
 use Rattle.swift_events.proofs.LogLemmas.{life_of-push_same, life_of-push_other}
 use Rattle.swift_local_turns.specs.LocalTurns.{is_job_event, without_jobs}
 use Rattle.swift_local_turns.specs.Answers.{stage_of, waits_at, AnswerAlike}
+use Rattle.swift_local_turns.proofs.Cancelled.{cancelled_alike}
 use Rattle.swift_local_turns.proofs.Told.{job_cases, without-job, told_list, told_count, told_any}
 
 pub record Alike (a b : List Event) : Type 0 where
@@ -136,20 +137,8 @@ module _ (a b : List Event) (alike : Alike a b) where
   same_parent : (t : ℕ) → parent_of t a ≡ parent_of t b
   same_parent t = ap parent_by (alike.origin t)
 
-  by_parent : (p : Option (ℕ × ℕ)) (f h : ℕ → ℕ → Bool) → ((o g : ℕ) → f o g ≡ h o g) → of_parent p f ≡ of_parent p h
-  by_parent None f h so = refl
-  by_parent (Some x) f h so = so x.0 x.1
-
-  same_within : (n t : ℕ) → cancelled_within n t a ≡ cancelled_within n t b
-  same_within zero t = refl
-  same_within (suc n) t =
-      let here : ℕ → ℕ → Bool = λ o g. is_named_group o g a || cancelled_within n o a in
-      let there : ℕ → ℕ → Bool = λ o g. is_named_group o g b || cancelled_within n o b in
-      ap₂ (λ (x : Bool) (p : Option (ℕ × ℕ)). x || of_parent p here) (same_named t) (same_parent t)
-      ∙ ap (λ (x : Bool). is_named t b || x) (by_parent (parent_of t b) here there (λ o g. ap₂ (λ (x y : Bool). x || y) (same_named_group o g) (same_within n o)))
-
   same_cancelled : (t : ℕ) → is_cancelled t a ≡ is_cancelled t b
-  same_cancelled t = same_within (suc t) t
+  same_cancelled t = cancelled_alike a b same_named same_named_group same_parent t
 
   pub answers : AnswerAlike a b
   answers = record {

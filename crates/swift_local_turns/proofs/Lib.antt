@@ -1,4 +1,5 @@
 pub mod Told
+pub mod Cancelled
 pub mod Alike
 pub mod Ends
 pub mod LocalEnds
@@ -9,3 +10,5 @@ pub mod Publishing
 pub mod Room
 pub mod Goers
 pub mod Open
+pub mod Changes
+pub mod Segments

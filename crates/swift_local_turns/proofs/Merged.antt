@@ -23,24 +23,24 @@ use Rattle.swift_local_turns.proofs.Shared.{written_is, shared_alike}
 
 -- by stamps
 
-same_list : {A : Type 0} (xs ys : List A) → length xs ≡ length ys → ((k : ℕ) (x y : A) → slice_get xs k ≡ Some x → slice_get ys k ≡ Some y → x ≡ y) → xs ≡ ys
+pub same_list : {A : Type 0} (xs ys : List A) → length xs ≡ length ys → ((k : ℕ) (x y : A) → slice_get xs k ≡ Some x → slice_get ys k ≡ Some y → x ≡ y) → xs ≡ ys
 same_list [] [] long each = refl
 same_list [] (y ∷ ys) long each = absurd (omega (arith, long))
 same_list (x ∷ xs) [] long each = absurd (omega (arith, long))
 same_list (x ∷ xs) (y ∷ ys) long each = ap₂ (λ a rest. a ∷ rest) (each 0 x y refl refl) (same_list xs ys (omega (arith, long)) (λ k. each (suc k)))
 
-long_written : (script : ScriptView) (s : Standing) (bs : List Block) → length (all_written script s bs) ≡ length bs
+pub long_written : (script : ScriptView) (s : Standing) (bs : List Block) → length (all_written script s bs) ≡ length bs
 long_written script s [] = refl
 long_written script s (b ∷ bs) = ap suc (long_written script (after_block script s b) bs)
 
-joined_is : (script : ScriptView) (bs : List Block) (s : Standing) → s.log ++ joined (all_written script s bs) ≡ (after_blocks script s bs).log
+pub joined_is : (script : ScriptView) (bs : List Block) (s : Standing) → s.log ++ joined (all_written script s bs) ≡ (after_blocks script s bs).log
 joined_is script [] s = append-nil s.log
 joined_is script (b ∷ bs) s =
     sym (append_assoc s.log (written script s b) (joined (all_written script (after_block script s b) bs)))
     ∙ ap (λ (l : List Event). l ++ joined (all_written script (after_block script s b) bs)) (sym (written_is script s b))
     ∙ joined_is script bs (after_block script s b)
 
-same_some : {A : Type 0} (x y : A) (o : Option A) → o ≡ Some x → o ≡ Some y → x ≡ y
+pub same_some : {A : Type 0} (x y : A) (o : Option A) → o ≡ Some x → o ≡ Some y → x ≡ y
 same_some x y o p q = let is : Some x ≡ Some y = sym p ∙ q in cc is
 
 pub merged_is : MergesAreTheLog

@@ -4,3 +4,5 @@ pub mod Tickets
 pub mod Merges
 pub mod Publishing
 pub mod Room
+pub mod Changes
+pub mod Segments

@@ -1,10 +1,12 @@
 //! What holds of turns that touch their own task alone. A call costs nothing; its contract is the law.
 
 ghost use Rattle.swift_local_turns.specs.Answers.{EnvsByShared, SharedLogsAnswer, TurnsEndAlike, TurnsFitAlike};
+ghost use Rattle.swift_local_turns.specs.Changes.{LevelsStay, TurnsBeginByCounts};
 ghost use Rattle.swift_local_turns.specs.LocalTurns.{LocalTurnsEnd};
 ghost use Rattle.swift_local_turns.specs.Merges.{JobEventsMayLieAnywhere, MergesAreTheLog};
 ghost use Rattle.swift_local_turns.specs.Publishing.{HoldersMayPublish};
 ghost use Rattle.swift_local_turns.specs.Room.{RoomHasToBeCounted, RoomIsCounted};
+ghost use Rattle.swift_local_turns.specs.Segments.{SegmentsAreTheLog, SegmentsKeepEach};
 ghost use Rattle.swift_local_turns.specs.Tickets.{GivenIsCurrent, GivenIsOpen};
 
 /// A local turn writes that it is applied, and its task's next job, and nothing else changes (our own).
@@ -65,4 +67,24 @@ pub fn room_is_counted()
 /// That room is no answer of a log without begins (our own).
 pub fn room_has_to_be_counted()
     ensures { RoomHasToBeCounted }
+{}
+
+/// The priority that was seen of a task, and whether it was cancelled, count while no block that changes any is added (our own).
+pub fn levels_stay()
+    ensures { LevelsStay }
+{}
+
+/// A turn may begin by its job, by what was seen of its task before, and by counts of changes and of room (our own).
+pub fn turns_begin_by_counts()
+    ensures { TurnsBeginByCounts }
+{}
+
+/// Segments have what each block has written, where each takes a stamp and its piece goes to one segment (our own).
+pub fn segments_keep_each()
+    ensures { SegmentsKeepEach }
+{}
+
+/// The pieces of such segments, put in order of their stamps, are the log (our own).
+pub fn segments_are_the_log()
+    ensures { SegmentsAreTheLog }
 {}

@@ -5,5 +5,6 @@ pub mod Left
 pub mod Opening
 pub mod Reported
 pub mod PoolCalls
+pub mod PoolEnded
 pub mod PoolLaws
 pub mod PoolSteps

@@ -27,21 +27,21 @@ image_of s = record { view = record { crew = record { script = s.script.value; w
 
 -- what the lock gives and takes
 
-pub finds : (v : PoolTold) → MayLearn HoldsOf v (λ image. IsInCourse v image.view)
-finds v image seats seat holds at = (seats, seat, holds, at)
+pub finds : (v : PoolTold) → MayLearn (λ clock. HoldsOf) v (λ image. IsInCourse v image.view)
+finds v clock image seats seat holds at = (seats, seat, holds, at)
 
 pub call_unlocks : (held : Option PoolImage) (v : PoolTold) (given : PoolImage) (script : ScriptView) (workers : ℕ) (p : Pool) (c : PoolCall) → MayGiveBack v.view held script workers p c
-    → given.view ≡ record { crew = record { script = script; workers = workers }; facts = facts_of p } → IfSome held (λ taken. MayUnlock HoldsOf v taken given (λ w. w.view ≡ after_call c v.view))
+    → given.view ≡ record { crew = record { script = script; workers = workers }; facts = facts_of p } → IfSome held (λ taken. MayUnlock (λ clock. HoldsOf) v taken given (λ w. w.view ≡ after_call c v.view))
 call_unlocks None v given script workers p c may is = tt
-call_unlocks (Some taken) v given script workers p c may is = λ seats seat holds at.
+call_unlocks (Some taken) v given script workers p c may is = λ clock seats seat holds at.
     let w : PoolTold = record { view = after_call c v.view } in
     let crew : PoolCrew = record { script = script; workers = workers } in
     let was : taken.view ≡ record { crew = crew; facts = may.taken } = ap (λ (i : PoolImage). i.view) (same_Some taken (record { view = record { crew = crew; facts = may.taken } }) may.was) in
     let before : IsPoolCourse (record { crew = crew; facts = may.taken }) seats = subst (λ (i : PoolView). IsPoolCourse i seats) was holds in
-    (w, subst (λ (i : PoolView). IsPoolCourse i (set seats seat w)) (sym is) (call_keeps crew may.taken (facts_of p) c v w may.call may.ends may.few refl seats seat before at), refl)
+    (w, subst (λ (i : PoolView). IsPoolCourse i (set seats seat w)) (sym is) (call_keeps crew may.taken (facts_of p) c v w may.call may.ends may.asks may.few refl seats seat before at), refl)
 
-pub may_split : (v left right : PoolTold) → v.view.owes < v.view.parts → left.view ≡ split_left v.view → right.view ≡ split_new v.view → MaySplit HoldsOf v left right
-may_split v left right less is is' image seats seat holds at = split_keeps image.view v left right less is is' seats seat holds at
+pub may_split : (v left right : PoolTold) → v.view.owes < v.view.parts → left.view ≡ split_left v.view → right.view ≡ split_new v.view → MaySplit (λ clock. HoldsOf) v left right
+may_split v left right less is is' clock image seats seat holds at = split_keeps image.view v left right less is is' seats seat holds at
 
 -- a pool that was just made
 pub new_starts : (script : ScriptView) (workers : ℕ) (boxed p : Pool) → boxed ≡ p → p.tokens.items ≡ [] → p.under_way ≡ 1 → p.halt ≡ None
@@ -102,14 +102,15 @@ ended_puts old mid tokens done ended c is ends put told = λ k. record {
 
 -- What is given back, for what was taken.
 gives : (v : PoolKnown) (crew : PoolCrew) (held : Option PoolImage) (taken : PoolFacts) (script : ScriptView) (workers : ℕ) (given : Pool) (c : PoolCall) → held ≡ Some (record { view = record { crew = crew; facts = taken } }) → script ≡ crew.script → workers ≡ crew.workers
-    → IsCall crew taken c (facts_of given) → c.ends ≤ v.owes → v.owes - c.ends + takes c.next ≤ v.parts → MayGiveBack v held script workers given c
-gives v crew held taken script workers given c was script_is workers_is call ends few =
+    → IsCall crew taken c (facts_of given) → c.ends ≤ v.owes → (c.next ≢ None → c.ends ≡ v.owes) → v.owes - c.ends + takes c.next ≤ v.parts → MayGiveBack v held script workers given c
+gives v crew held taken script workers given c was script_is workers_is call ends asks few =
     let same : crew ≡ record { script = script; workers = workers } = λ k. record { script = sym script_is k; workers = sym workers_is k } in
     record {
       taken = taken;
       was = was ∙ ap (λ (x : PoolCrew). Some (record { view = record { crew = x; facts = taken } })) same;
       call = subst (λ (x : PoolCrew). IsCall x taken c (facts_of given)) same call;
       ends = ends;
+      asks = asks;
       few = few;
     }
 
@@ -134,7 +135,7 @@ turn_gives v crew held script workers old mid new tokens done ended c n was scri
     subst (λ (x : PoolFacts). IsAnswer crew c.worker x c.next (facts_of new)) (sym (ended_puts old mid tokens done ended c is ends put told))
     (subst (λ (o : Option WorkerNext). IsAnswer crew c.worker (facts_of mid) o (facts_of new)) (sym next) answer) in
     gives v.view crew held (facts_of old) script workers new c was script_is workers_is (record { only = (λ none. absurd (omega (arith, none, ends))); answer = at })
-    (omega (arith, ends, owes)) (omega (arith, ends, owes, takes_one c.next, has_part v _ course))
+    (omega (arith, ends, owes)) (λ some_next. omega (arith, ends, owes)) (omega (arith, ends, owes, takes_one c.next, has_part v _ course))
 
 -- the tokens of the roots
 pub first_gives : (v : PoolTold) (crew : PoolCrew) (held : Option PoolImage) (script : ScriptView) (workers : ℕ) (old new : Pool) (tokens : List ExecId) (done : Result (Unit {0}) Halt) (ended : Ended) (c : PoolCall)
@@ -145,7 +146,7 @@ first_gives v crew held script workers old new tokens done ended c was script_is
     let at : IsAnswer crew c.worker (has_put (facts_of old) c) c.next (facts_of new) = subst (λ (o : Option WorkerNext). IsAnswer crew c.worker (has_put (facts_of old) c) o (facts_of new)) (sym next) (sym e) in
     let none_taken : takes c.next ≡ 0 = ap takes next in
     gives v.view crew held (facts_of old) script workers new c was script_is workers_is (record { only = (λ none. absurd (omega (arith, none, ends))); answer = at })
-    (omega (arith, ends, owes)) (omega (arith, ends, owes, none_taken, has_part v _ course))
+    (omega (arith, ends, owes)) (λ some_next. omega (arith, ends, owes)) (omega (arith, ends, owes, none_taken, has_part v _ course))
 
 -- a worker asks that is not under way
 pub look_gives : (v : PoolTold) (crew : PoolCrew) (held : Option PoolImage) (script : ScriptView) (workers worker : ℕ) (old new : Pool) (n : WorkerNext)
@@ -156,7 +157,7 @@ look_gives v crew held script workers worker old new n was script_is workers_is 
     let answer : IsAnswer crew worker (facts_of old) (Some n) (facts_of new) = next_answers crew.script crew.workers worker old new n told_next in
     let same : facts_of old ≡ has_put (facts_of old) c = λ k. record { tokens = sym (append-nil old.tokens.items) k; under_way = none_less old.under_way k; halt = kept old.halt k } in
     gives v.view crew held (facts_of old) script workers new c was script_is workers_is (record { only = (λ none. refl); answer = subst (λ (x : PoolFacts). IsAnswer crew worker x (Some n) (facts_of new)) same answer })
-    (omega arith) (omega (arith, owes, parts, takes_one (Some n)))
+    (omega arith) (λ some_next. omega (arith, owes)) (omega (arith, owes, parts, takes_one (Some n)))
   where
     kept : (h : Option Halt) → h ≡ or_else h None
     kept (Some x) = refl
@@ -169,7 +170,7 @@ pub halt_gives : (v : PoolTold) (crew : PoolCrew) (held : Option PoolImage) (scr
 halt_gives v crew held script workers old new halt was script_is workers_is course tokens under_way halt_is =
     let c : PoolCall = record { worker = 0; ends = 0; put = []; told = Some halt; next = None } in
     let same : facts_of new ≡ has_put (facts_of old) c = λ k. record { tokens = (tokens ∙ sym (append-nil old.tokens.items)) k; under_way = (under_way ∙ none_less old.under_way) k; halt = halt_is k } in
-    gives v.view crew held (facts_of old) script workers new c was script_is workers_is (record { only = (λ none. refl); answer = same }) (omega arith) (omega (arith, has_part v _ course))
+    gives v.view crew held (facts_of old) script workers new c was script_is workers_is (record { only = (λ none. refl); answer = same }) (omega arith) (λ some_next. absurd (some_next refl)) (omega (arith, has_part v _ course))
 
 -- a turn that was refused is followed by none
 pub refused_stops : (script : ScriptView) (workers worker : ℕ) (old mid new : Pool) (tokens : List ExecId) (done : Result (Unit {0}) Halt) (ended : Ended) (n : WorkerNext) → HasEnded old tokens done ended mid → IsNextOrRest script workers worker mid n new
@@ -213,9 +214,9 @@ taken_is p s t shelf is held course =
 
 -- a call that has a name
 pub named_unlocks : (k : PoolCall) (held : Option PoolImage) (v : PoolTold) (given : PoolImage) (script : ScriptView) (workers : ℕ) (p : Pool) (c : PoolCall) → k ≡ c → MayGiveBack v.view held script workers p c
-    → given.view ≡ record { crew = record { script = script; workers = workers }; facts = facts_of p } → IfSome held (λ taken. MayUnlock HoldsOf v taken given (λ w. w.view ≡ after_call k v.view))
+    → given.view ≡ record { crew = record { script = script; workers = workers }; facts = facts_of p } → IfSome held (λ taken. MayUnlock (λ clock. HoldsOf) v taken given (λ w. w.view ≡ after_call k v.view))
 named_unlocks k held v given script workers p c is may same =
-    subst (λ (x : PoolCall). IfSome held (λ taken. MayUnlock HoldsOf v taken given (λ w. w.view ≡ after_call x v.view))) (sym is) (call_unlocks held v given script workers p c may same)
+    subst (λ (x : PoolCall). IfSome held (λ taken. MayUnlock (λ clock. HoldsOf) v taken given (λ w. w.view ≡ after_call x v.view))) (sym is) (call_unlocks held v given script workers p c may same)
 
 pub is_held : (v : PoolKnown) (held : Option PoolImage) (script : ScriptView) (workers : ℕ) (p : Pool) (c : PoolCall) → MayGiveBack v held script workers p c → IsSome held
 is_held v held script workers p c may = subst (λ (o : Option PoolImage). IsSome o) (sym may.was) refl

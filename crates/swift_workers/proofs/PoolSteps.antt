@@ -8,7 +8,7 @@ use Rattle.swift_workers.specs.declared.pool.WorkerNext.{WorkerNext}
 use Rattle.swift_workers.specs.declared.pool.WorkerNext.TheVariants.{Visit, Pause, Rest, Stop}
 use Rattle.swift_workers.specs.declared.fault.Halt.{Halt}
 use Rattle.swift_workers.specs.declared.known.PoolTold.{PoolTold}
-use Rattle.swift_workers.specs.Pools.{IsAnswer, IsAtEnd, IsCall, IsHistory, PoolCall, PoolCrew, PoolFacts, PoolView, PoolKnown, after_call, calls_of, first_known, first_pool, has_put, or_else, split_left, split_new, stops, takes, tells, total}
+use Rattle.swift_workers.specs.Pools.{AreTurns, IsAnswer, IsAtEnd, IsCall, IsHistory, PoolCall, PoolCrew, PoolFacts, PoolView, PoolKnown, after_call, calls_of, first_known, first_pool, has_put, or_else, owed_after, owed_first, split_left, split_new, stops, takes, tells, total}
 use Rattle.swift_workers.specs.PoolRule.{IsKnown, IsInCourse, IsPoolCourse}
 
 -- Totals
@@ -127,10 +127,28 @@ module _ (crew : PoolCrew) where
   told_ends q None told here before e = before e
   told_ends q (Some h) told here before e = here (λ x. cc)
 
+pub at_length : (xs : List PoolTold) (i : ℕ) (u : PoolTold) → get_elem? xs i ≡ some u → i < length xs
+at_length [] i u at = absurd (some-ne-none u (sym at))
+at_length (x ∷ xs) zero u at = omega arith
+at_length (x ∷ xs) (suc i) u at = let h = at_length xs i u at in omega arith
+
+-- What a seat owes, from call to call
+
+none_first : (seat : ℕ) → 0 < seat → owed_first seat ≡ 0
+none_first seat some_seat = ap (λ (b : Bool). cond b 1 0) (ne_eqb seat 0 (λ e. absurd (omega (arith, e, some_seat))))
+
+owed_push : (owes : ℕ) (cs : List PoolCall) (c : PoolCall) → owed_after owes (cs ++ c ∷ []) ≡ owed_after owes cs - c.ends + takes c.next
+owed_push owes [] c = refl
+owed_push owes (d ∷ cs) c = owed_push (owes - d.ends + takes d.next) cs c
+
+turns_push : (owes : ℕ) (cs : List PoolCall) (c : PoolCall) → AreTurns owes cs → c.ends ≤ owed_after owes cs → (c.next ≢ None → c.ends ≡ owed_after owes cs) → AreTurns owes (cs ++ c ∷ [])
+turns_push owes [] c turns ends asks = (ends, asks, tt)
+turns_push owes (d ∷ cs) c turns ends asks = (turns.0, turns.1, turns_push (owes - d.ends + takes d.next) cs c turns.2 ends asks)
+
 -- A call by a seat keeps the rule. It ends a turn only where the seat owes, and owes no more than one.
-pub call_keeps : (crew : PoolCrew) (p q : PoolFacts) (c : PoolCall) (v w : PoolTold) → IsCall crew p c q → c.ends ≤ v.view.owes → v.view.owes - c.ends + takes c.next ≤ v.view.parts → w.view ≡ after_call c v.view
+pub call_keeps : (crew : PoolCrew) (p q : PoolFacts) (c : PoolCall) (v w : PoolTold) → IsCall crew p c q → c.ends ≤ v.view.owes → (c.next ≢ None → c.ends ≡ v.view.owes) → v.view.owes - c.ends + takes c.next ≤ v.view.parts → w.view ≡ after_call c v.view
     → (seats : List PoolTold) (seat : ℕ) → IsPoolCourse (record { crew = crew; facts = p }) seats → get_elem? seats seat ≡ some v → IsPoolCourse (record { crew = crew; facts = q }) (set seats seat w)
-call_keeps crew p q c v w call ends few is seats seat k at =
+call_keeps crew p q c v w call ends asks few is seats seat k at =
     let owes : PoolTold → ℕ = λ s. s.view.owes in
     let parts : PoolTold → ℕ = λ s. s.view.parts in
     let mine = k.known seat v at in
@@ -138,6 +156,7 @@ call_keeps crew p q c v w call ends few is seats seat k at =
     let counted : q.under_way ≡ p.under_way - c.ends + takes c.next = answer_under_way crew c.worker (has_put p c) q c.next call.answer in
     let w_owes : w.view.owes ≡ v.view.owes - c.ends + takes c.next = ap (λ (x : PoolKnown). x.owes) is in
     let w_parts : w.view.parts ≡ v.view.parts = ap (λ (x : PoolKnown). x.parts) is in
+    let w_calls : w.view.calls ≡ v.view.calls ++ c ∷ [] = ap (λ (x : PoolKnown). x.calls) is in
     record {
       history = k.history ++ (seat, c) ∷ [];
       leads = history_push crew k.history first_pool p q seat c k.leads call;
@@ -146,7 +165,9 @@ call_keeps crew p q c v w call ends few is seats seat k at =
           (subst (λ (y : PoolTold). IsKnown (record { crew = crew; facts = q }) (k.history ++ (seat, c) ∷ []) seat y.view) x.1
           (record {
             crew = ap (λ (x : PoolKnown). x.crew) is ∙ mine.crew;
-            calls = ap (λ (x : PoolKnown). x.calls) is ∙ ap (λ (l : List PoolCall). l ++ c ∷ []) mine.calls ∙ sym (calls_own k.history seat c);
+            calls = w_calls ∙ ap (λ (l : List PoolCall). l ++ c ∷ []) mine.calls ∙ sym (calls_own k.history seat c);
+            owed = w_owes ∙ ap (λ (n : ℕ). n - c.ends + takes c.next) mine.owed ∙ sym (owed_push (owed_first seat) v.view.calls c) ∙ ap (owed_after (owed_first seat)) (sym w_calls);
+            turns = subst (AreTurns (owed_first seat)) (sym w_calls) (turns_push (owed_first seat) v.view.calls c mine.turns (omega (arith, ends, mine.owed)) (λ some_next. asks some_next ∙ mine.owed));
             few = omega (arith, w_owes, w_parts, few);
             over = (λ o. stop_ends crew c.worker (has_put p c) q c.next v.view.over call.answer (λ b. end_stays crew p q c call under (mine.over b)) (sym (ap (λ (x : PoolKnown). x.over) is) ∙ o));
             told = (λ o. told_ends crew q c.told v.view.told (call_told crew p q c call) (λ b. call_halt crew p q c call (mine.told b)) (sym (ap (λ (x : PoolKnown). x.told) is) ∙ o));
@@ -154,6 +175,8 @@ call_keeps crew p q c v w call ends few is seats seat k at =
           (λ x. let other = k.known t s x.1 in record {
             crew = other.crew;
             calls = other.calls ∙ sym (calls_else k.history seat t c x.0);
+            owed = other.owed;
+            turns = other.turns;
             few = other.few;
             over = (λ o. end_stays crew p q c call under (other.over o));
             told = (λ o. call_halt crew p q c call (other.told o));
@@ -163,11 +186,6 @@ call_keeps crew p q c v w call ends few is seats seat k at =
       owed = omega (arith, total_set owes seats seat v w at, total_at owes seats seat v at, w_owes, counted, under, ends, k.owed);
       parts = omega (arith, total_set parts seats seat v w at, w_parts, k.parts);
     }
-  where
-    at_length : (xs : List PoolTold) (i : ℕ) (u : PoolTold) → get_elem? xs i ≡ some u → i < length xs
-    at_length [] i u at = absurd (some-ne-none u (sym at))
-    at_length (x ∷ xs) zero u at = omega arith
-    at_length (x ∷ xs) (suc i) u at = let h = at_length xs i u at in omega arith
 
 -- a seat more
 pub at_push : {A : Type 0} (l : List A) (a b : A) (j : ℕ) → get_elem? (l ++ a ∷ []) j ≡ some b → (get_elem? l j ≡ some b) ⊎ ((length l ≡ j) × (a ≡ b))
@@ -186,18 +204,25 @@ split_keeps i v left right less is is' seats seat k at =
     let front = set seats seat left in
     let left_owes : left.view.owes ≡ v.view.owes = ap (λ (x : PoolKnown). x.owes) is in
     let left_parts : left.view.parts ≡ v.view.parts - 1 = ap (λ (x : PoolKnown). x.parts) is in
+    let left_calls : left.view.calls ≡ v.view.calls = ap (λ (x : PoolKnown). x.calls) is in
+    let right_calls : right.view.calls ≡ [] = ap (λ (x : PoolKnown). x.calls) is' in
+    let owes_none : owed_first (length front) ≡ 0 = none_first (length front) (omega (arith, length-set seats seat left, at_length seats seat v at)) in
     let right_owes : right.view.owes ≡ 0 = ap (λ (x : PoolKnown). x.owes) is' in
     let right_parts : right.view.parts ≡ 1 = ap (λ (x : PoolKnown). x.parts) is' in
     let kept : IsKnown i k.history seat left.view = record {
       crew = ap (λ (x : PoolKnown). x.crew) is ∙ mine.crew;
       calls = ap (λ (x : PoolKnown). x.calls) is ∙ mine.calls;
+      owed = left_owes ∙ mine.owed ∙ ap (owed_after (owed_first seat)) (sym left_calls);
+      turns = subst (AreTurns (owed_first seat)) (sym left_calls) mine.turns;
       few = omega (arith, left_owes, left_parts, less);
       over = (λ o. mine.over (sym (ap (λ (x : PoolKnown). x.over) is) ∙ o));
       told = (λ o. mine.told (sym (ap (λ (x : PoolKnown). x.told) is) ∙ o));
     } in
     let new : IsKnown i k.history (length front) right.view = record {
       crew = ap (λ (x : PoolKnown). x.crew) is' ∙ mine.crew;
-      calls = ap (λ (x : PoolKnown). x.calls) is' ∙ sym (k.others (length front) (omega (arith, length-set seats seat left)));
+      calls = right_calls ∙ sym (k.others (length front) (omega (arith, length-set seats seat left)));
+      owed = right_owes ∙ sym owes_none ∙ ap (owed_after (owed_first (length front))) (sym right_calls);
+      turns = subst (AreTurns (owed_first (length front))) (sym right_calls) tt;
       few = omega (arith, right_owes, right_parts);
       over = (λ o. let x : false ≡ true = sym (ap (λ (x : PoolKnown). x.over) is') ∙ o in absurd (cc x));
       told = (λ o. let x : false ≡ true = sym (ap (λ (x : PoolKnown). x.told) is') ∙ o in absurd (cc x));
@@ -222,12 +247,15 @@ pub first_keeps : (i : PoolView) (v : PoolTold) → i.facts ≡ first_pool → v
 first_keeps i v is knows =
     let owes : v.view.owes ≡ 1 = ap (λ (x : PoolKnown). x.owes) knows in
     let parts : v.view.parts ≡ 4294967295 = ap (λ (x : PoolKnown). x.parts) knows in
+    let calls : v.view.calls ≡ [] = ap (λ (x : PoolKnown). x.calls) knows in
     record {
       history = [];
       leads = is;
       known = (λ t s e. subst (λ (z : PoolTold). IsKnown i [] t z.view) (one t s e) (record {
         crew = ap (λ (x : PoolKnown). x.crew) knows;
-        calls = ap (λ (x : PoolKnown). x.calls) knows;
+        calls = calls;
+        owed = owes ∙ ap (λ (n : ℕ). owed_first n) (sym (first_place t s e)) ∙ ap (owed_after (owed_first t)) (sym calls);
+        turns = subst (AreTurns (owed_first t)) (sym calls) tt;
         few = omega (arith, owes, parts);
         over = (λ o. let x : false ≡ true = sym (ap (λ (x : PoolKnown). x.over) knows) ∙ o in absurd (cc x));
         told = (λ o. let x : false ≡ true = sym (ap (λ (x : PoolKnown). x.told) knows) ∙ o in absurd (cc x));
@@ -240,6 +268,10 @@ first_keeps i v is knows =
     one : (t : ℕ) (s : PoolTold) → get_elem? (v ∷ []) t ≡ some s → v ≡ s
     one zero s e = some-injective v s e
     one (suc t) s e = absurd (some-ne-none s (sym e))
+
+    first_place : (t : ℕ) (s : PoolTold) → get_elem? (v ∷ []) t ≡ some s → t ≡ 0
+    first_place zero s e = refl
+    first_place (suc t) s e = absurd (some-ne-none s (sym e))
 
 -- What a seat knows of the pool that it takes.
 

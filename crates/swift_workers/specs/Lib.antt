@@ -3,6 +3,7 @@ pub mod CrewInside
 pub mod Leaves
 pub mod PartsInside
 pub mod PoolCallsInside
+pub mod PoolEnds
 pub mod PoolFactsInside
 pub mod PoolRule
 pub mod PoolSeatsInside

@@ -3,14 +3,17 @@
 use Rattle.std.specs.Prelude.{◌≡◌, ◌≢◌, ℕ, ◌+◌, ◌≤◌, true, None, List, [], ◌∷◌, ◌++◌, length}
 use mathlib.Core.Option.{some}
 use lib.ListN.{get_elem?}
-use Rattle.swift_workers.specs.Pools.{IsAtEnd, IsHistory, PoolCall, PoolCrew, PoolFacts, PoolView, PoolKnown, calls_of, first_pool, total}
+use Rattle.swift_workers.specs.Pools.{AreTurns, IsAtEnd, IsHistory, PoolCall, PoolCrew, PoolFacts, PoolView, PoolKnown, calls_of, first_pool, owed_after, owed_first, total}
 use Rattle.swift_workers.specs.declared.known.PoolImage.{PoolImage}
 use Rattle.swift_workers.specs.declared.known.PoolTold.{PoolTold}
 
--- What one seat knows is true: the run, its calls in the history, and the end where it was told to stop or has told a cause.
+-- What one seat knows is true: the run, its calls in the history, what it owes after these, and the end where it was told to stop or has told
+-- a cause. Its calls are made turn by turn.
 pub record IsKnown (i : PoolView) (history : List (ℕ × PoolCall)) (seat : ℕ) (v : PoolKnown) : Type 0 where
   pub crew : v.crew ≡ i.crew
   pub calls : v.calls ≡ calls_of history seat
+  pub owed : v.owes ≡ owed_after (owed_first seat) v.calls
+  pub turns : AreTurns (owed_first seat) v.calls
   pub few : v.owes ≤ v.parts
   pub over : v.over ≡ true → IsAtEnd i.facts
   pub told : v.told ≡ true → i.facts.halt ≢ None

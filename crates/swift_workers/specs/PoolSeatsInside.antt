@@ -1,5 +1,5 @@
 -- What a call of a pool takes and may give back.
-use Rattle.std.specs.Prelude.{◌≡◌, ◌+◌, ◌-◌, ◌≤◌, ℕ, Option, Some}
+use Rattle.std.specs.Prelude.{◌≡◌, ◌≢◌, ◌+◌, ◌-◌, ◌≤◌, ℕ, Option, Some, None}
 use Rattle.swift_script.specs.Scripts.{ScriptView}
 use Rattle.swift_workers.specs.declared.known.PoolImage.{PoolImage}
 use Rattle.swift_workers.specs.declared.pool.Pool.{Pool}
@@ -19,10 +19,11 @@ pub record HasTaken (p : SharedPoolView) (s t : SeatView) (shelf : PoolShelf) : 
   pub course : IsInCourse s.known (record { crew = p.crew; facts = facts_of shelf.pool.value })
 
 -- A seat that knows v and has taken a pool of a run may give this one back, with which a call was made. The call ends a turn only where the
--- seat owes, and the seat owes no more then than it has parts.
+-- seat owes, and all that it owes where it asks what to do next; and the seat owes no more then than it has parts.
 pub record MayGiveBack (v : PoolKnown) (held : Option PoolImage) (script : ScriptView) (workers : ℕ) (given : Pool) (c : PoolCall) : Type 0 where
   pub taken : PoolFacts
   pub was : held ≡ Some (record { view = record { crew = record { script = script; workers = workers }; facts = taken } })
   pub call : IsCall (record { script = script; workers = workers }) taken c (facts_of given)
   pub ends : c.ends ≤ v.owes
+  pub asks : c.next ≢ None → c.ends ≡ v.owes
   pub few : v.owes - c.ends + takes c.next ≤ v.parts

@@ -1,5 +1,5 @@
 -- The pool of tokens as the workers of a run share it, as callers see it (our own).
-use Rattle.std.specs.Prelude.{◌≡◌, ◌≢◌, ◌⊎◌, ◌==◌, ◌+◌, ◌-◌, ◌<◌, ℕ, Bool, true, false, cond, Option, Some, None, Result, Ok, Err, IsTrue, List, [], ◌∷◌, ◌++◌, All, length, take}
+use Rattle.std.specs.Prelude.{◌≡◌, ◌≢◌, ◌⊎◌, ◌==◌, ◌+◌, ◌-◌, ◌<◌, ◌≤◌, ℕ, Bool, true, false, cond, Option, Some, None, Result, Ok, Err, IsTrue, List, [], ◌∷◌, ◌++◌, All, length, take}
 use Rattle.std.specs.List.{AllByRecursion}
 use Rattle.swift_types.specs.declared.id.ExecId.{ExecId}
 use Rattle.swift_script.specs.Scripts.{ScriptView, executor_kind}
@@ -108,6 +108,17 @@ takes (Some Pause) = 0
 takes (Some Rest) = 0
 takes (Some Stop) = 0
 
+-- what a seat owes once it has made these calls, where it owed this before
+abbrev pub owed_after : ℕ → List PoolCall → ℕ
+owed_after owes [] = owes
+owed_after owes (c ∷ cs) = owed_after (owes - c.ends + takes c.next) cs
+
+-- A seat that owes this makes these calls turn by turn: it ends no turn but one that it owes, and who asks what to do next ends with that call
+-- all that it owes.
+abbrev pub AreTurns : ℕ → List PoolCall → Type 0
+AreTurns owes [] = Unit {0}
+AreTurns owes (c ∷ cs) = (c.ends ≤ owes) × (c.next ≢ None → c.ends ≡ owes) × AreTurns (owes - c.ends + takes c.next) cs
+
 -- whether a worker has been told to stop, once it is told this
 abbrev pub stops : Bool → Option WorkerNext → Bool
 stops over None = over
@@ -134,6 +145,10 @@ pub record PoolKnown : Type 0 where
 -- what a seat knows after a call
 abbrev pub after_call : PoolCall → PoolKnown → PoolKnown
 after_call c v = record { crew = v.crew; parts = v.parts; owes = v.owes - c.ends + takes c.next; over = stops v.over c.next; told = tells v.told c.told; calls = v.calls ++ c ∷ [] }
+
+-- What a seat owes before its first call. The one that a pool is made with owes the tokens of the roots.
+abbrev pub owed_first : ℕ → ℕ
+owed_first seat = cond (seat == 0) 1 0
 
 -- what the seat knows that a pool is made with
 abbrev pub first_known : PoolCrew → PoolKnown
