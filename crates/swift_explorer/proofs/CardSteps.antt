@@ -1,5 +1,5 @@
 -- One more event of a log is read.
-use Rattle.std.proofs.Common.{◌≡◌, ℕ, ◌+◌, ◌<◌, ◌≤◌, ℤ, Bool, true, false, List, [], ◌∷◌, ◌++◌, length, take, get_or, sym, ◌∙◌, ap, subst, arith, if◌then◌else◌}
+use Rattle.std.proofs.Common.{◌≡◌, ℕ, ◌+◌, ◌<◌, ◌≤◌, ℤ, Bool, true, false, List, [], ◌∷◌, ◌++◌, length, take, get_or, refl, sym, ◌∙◌, ap, subst, arith, if◌then◌else◌}
 use Rattle.std.specs.Prelude.{◌==◌, ◌||◌}
 use Rattle.std.specs.List.{cons_option}
 use Rattle.std.proofs.lemmas.List.{take_more}
@@ -8,8 +8,8 @@ use Rattle.swift_events.specs.declared.event.Event.{Event}
 use Rattle.swift_events.specs.declared.life.Life.{Life}
 use Rattle.swift_events.specs.Events.{task_of, is_made}
 use Rattle.swift_events.specs.Lives.{lived, unborn}
-use Rattle.swift_events.specs.Relations.{own_in, waiter_in, names_task, opens, child_in, ending_among, asks, closes, names_group}
-use Rattle.swift_digest.specs.Digests.{Card as CardView, GroupCard as GroupView, Digest, no_digest, digest_of, noted, card_noted, group_noted, one_if, own_link, said}
+use Rattle.swift_events.specs.Relations.{own_in, waiter_in, names_task, opens, child_in, asks, closes, names_group}
+use Rattle.swift_digest.specs.Digests.{Card as CardView, GroupCard as GroupView, Digest, no_digest, digest_of, noted, card_noted, group_noted, one_if, open_ending, own_link, said}
 use Rattle.swift_explorer.specs.Numbers.{some_numbers, task_numbers, link_numbers}
 use Rattle.swift_explorer.specs.DigestNumbers.{ended_numbers, card_numbers, group_numbers, IsWithin, other_of, group_end}
 use Rattle.swift_explorer.specs.CardsInside.{IsCard, IsKeyGroup, card_of_parts, group_of_parts}
@@ -22,6 +22,10 @@ use Rattle.swift_explorer.proofs.Within.{within_none, within_more}
 pub one_at_most : (b : Bool) → one_if b ≤ 1
 one_at_most true = omega arith
 one_at_most false = omega arith
+
+pub fewer_unless : (over : Bool) (n : ℕ) → (if over then 0 else n) ≤ n
+fewer_unless true n = omega arith
+fewer_unless false n = omega arith
 
 -- the digest of one more event
 pub digest_more : (log : List Event) (i : ℕ) (d e : Event) → i < length log → get_or log i d ≡ e → digest_of (take (i + 1) log) ≡ noted (digest_of (take i log)) e
@@ -64,11 +68,15 @@ pub group_none : (c : KeyGroup) (o g : ℕ) → c.children.items ≡ [] → c.ad
 group_none c o g children added ended asked closed named =
     subst (λ (d : Digest). IsKeyGroup c (d.groups o g)) (sym digest_of-none) (record { children = children; added = added; ended = ended; asked = asked; closed = closed; named = named })
 
+unless_append : {A : Type 0} (f : A → List ℤ) (xs ys : List A) (over : Bool) → (if over then [] else some_numbers f xs ++ some_numbers f ys) ≡ some_numbers f (if over then [] else xs ++ ys)
+unless_append f xs ys true = refl
+unless_append f xs ys false = sym (some-append f xs ys)
+
 group_more : (o g : ℕ) (d : GroupView) (e : Event) (c n : KeyGroup) → IsKeyGroup c d
     → n.children.items ≡ c.children.items ++ cons_option (child_in o g e) []
     → n.added.items ≡ c.added.items ++ some_numbers task_numbers (cons_option (child_in o g e) [])
-    → n.ended.items ≡ c.ended.items ++ some_numbers ended_numbers (cons_option (ending_among c.children.items e) [])
-    → n.asked ≡ c.asked + one_if (asks o g e)
+    → n.ended.items ≡ (if closes o g e then [] else c.ended.items ++ some_numbers ended_numbers (cons_option (open_ending c.closed c.children.items e) []))
+    → n.asked ≡ (if closes o g e then 0 else c.asked + one_if (asks o g e))
     → n.closed ≡ (c.closed || closes o g e)
     → n.named ≡ (c.named || names_group o g e)
     → IsKeyGroup n (group_noted o g d e)
@@ -76,10 +84,11 @@ group_more o g d e c n was children added ended asked closed named = record {
   children = children ∙ ap (λ l. l ++ said (child_in o g) e) was.children;
   added = added ∙ ap (λ l. l ++ some_numbers task_numbers (said (child_in o g) e)) was.added ∙ sym (some-append task_numbers d.children (said (child_in o g) e));
   ended = ended
-      ∙ ap (λ (l : List TaskId). c.ended.items ++ some_numbers ended_numbers (said (ending_among l) e)) was.children
-      ∙ ap (λ l. l ++ some_numbers ended_numbers (said (ending_among d.children) e)) was.ended
-      ∙ sym (some-append ended_numbers d.ended (said (ending_among d.children) e));
-  asked = asked ∙ ap (λ k. k + one_if (asks o g e)) was.asked;
+      ∙ ap (λ (b : Bool). if closes o g e then [] else c.ended.items ++ some_numbers ended_numbers (said (open_ending b c.children.items) e)) was.closed
+      ∙ ap (λ (l : List TaskId). if closes o g e then [] else c.ended.items ++ some_numbers ended_numbers (said (open_ending d.closed l) e)) was.children
+      ∙ ap (λ (l : List ℤ). if closes o g e then [] else l ++ some_numbers ended_numbers (said (open_ending d.closed d.children) e)) was.ended
+      ∙ unless_append ended_numbers d.ended (said (open_ending d.closed d.children) e) (closes o g e);
+  asked = asked ∙ ap (λ (k : ℕ). if closes o g e then 0 else k + one_if (asks o g e)) was.asked;
   closed = closed ∙ ap (λ b. b || closes o g e) was.closed;
   named = named ∙ ap (λ b. b || names_group o g e) was.named;
 }
@@ -87,8 +96,8 @@ group_more o g d e c n was children added ended asked closed named = record {
 pub group_step : (o g : ℕ) (log : List Event) (i : ℕ) (d e : Event) (c n : KeyGroup) → i < length log → get_or log i d ≡ e → IsKeyGroup c ((digest_of (take i log)).groups o g)
     → n.children.items ≡ c.children.items ++ cons_option (child_in o g e) []
     → n.added.items ≡ c.added.items ++ some_numbers task_numbers (cons_option (child_in o g e) [])
-    → n.ended.items ≡ c.ended.items ++ some_numbers ended_numbers (cons_option (ending_among c.children.items e) [])
-    → n.asked ≡ c.asked + one_if (asks o g e)
+    → n.ended.items ≡ (if closes o g e then [] else c.ended.items ++ some_numbers ended_numbers (cons_option (open_ending c.closed c.children.items e) []))
+    → n.asked ≡ (if closes o g e then 0 else c.asked + one_if (asks o g e))
     → n.closed ≡ (c.closed || closes o g e)
     → n.named ≡ (c.named || names_group o g e)
     → IsKeyGroup n ((digest_of (take (i + 1) log)).groups o g)

@@ -54,3 +54,7 @@ flag_stays false said is = sym is
 
 pub count_stays : (n : ℕ) (said : Bool) → said ≡ false → n ≡ n + one_if said
 count_stays n said is = sym (add-zero n) ∙ ap (λ (b : Bool). n + one_if b) (sym is)
+
+pub stays_unless : {A : Type 0} (none x y : A) (over : Bool) → over ≡ false → x ≡ y → x ≡ (if over then none else y)
+stays_unless none x y true is same = absurd (cc is)
+stays_unless none x y false is same = same

@@ -4,12 +4,12 @@ use Rattle.std.specs.List.{cons_option}
 use Rattle.swift_types.specs.declared.id.TaskId.{TaskId}
 use Rattle.swift_events.specs.declared.event.Event.{Event}
 use Rattle.swift_events.specs.Events.{task_of}
-use Rattle.swift_events.specs.Relations.{asks, child_in, closes, ending_among, names_group, names_task, opens, own_in, waiter_in}
+use Rattle.swift_events.specs.Relations.{asks, child_in, closes, names_group, names_task, opens, own_in, waiter_in}
 use Rattle.swift_events.specs.declared.life.Life.{Life}
 use Rattle.swift_events.specs.Lives.{lived, unborn}
 use Rattle.swift_explorer.specs.Numbers.{some_numbers, task_numbers, link_numbers, flag_numbers, wide_numbers, life_numbers}
 use Rattle.swift_explorer.specs.DigestNumbers.{ended_numbers}
-use Rattle.swift_digest.specs.Digests.{Card as CardView, Digest, GroupCard as GroupView, one_if, own_link}
+use Rattle.swift_digest.specs.Digests.{Card as CardView, Digest, GroupCard as GroupView, one_if, open_ending, own_link}
 use Rattle.swift_explorer.specs.declared.keys.digest.KeyCard.{KeyCard}
 use Rattle.swift_explorer.specs.declared.keys.digest.KeyGroup.{KeyGroup}
 
@@ -78,10 +78,10 @@ pub record IsPast (t : ℕ) (e : Event) : Type 0 where
   pub named : names_task t e ≡ false
   pub opens : opens t e ≡ false
 
--- an event that says nothing for the card of group `g` of task `o`, which has these children
-pub record IsPastGroup (o g : ℕ) (children : List TaskId) (e : Event) : Type 0 where
+-- an event that says nothing for the card of group `g` of task `o`, which is closed or not and has these children
+pub record IsPastGroup (o g : ℕ) (closed : Bool) (children : List TaskId) (e : Event) : Type 0 where
   pub child : child_in o g e ≡ None
-  pub ended : ending_among children e ≡ None
+  pub ended : open_ending closed children e ≡ None
   pub asks : asks o g e ≡ false
   pub closes : closes o g e ≡ false
   pub named : names_group o g e ≡ false

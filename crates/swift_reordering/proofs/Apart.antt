@@ -42,6 +42,7 @@ use Rattle.swift_digest.proofs.Cards.{digest_of-push}
 use Rattle.swift_reordering.specs.Blurred.{stage_at}
 use Rattle.swift_reordering.specs.Unnamed.{name_spares, EffectSpares, exit_spares, IsApart, IsOther, IsUnnamed, PlaySpares}
 use Rattle.swift_reordering.proofs.Naming.{turns_spare}
+use Rattle.swift_reordering.proofs.Sights.{ChildrenShown, IsShown}
 use Rattle.swift_reordering.proofs.SeenEnds.{EffectShown, EffectsShown, ExitShown, TurnShown}
 
 module _ (t : ℕ) where
@@ -247,6 +248,15 @@ module _ (t : ℕ) where
   exit_apart u log (returning v) step shown apart = end_apart u log step apart
   exit_apart u log (failing f) step shown apart = end_apart u log step apart
 
+  -- it is no child of a group
+
+  others_shown : (us : List TaskId) → AllByRecursion (IsOther t) us → AllByRecursion (IsShown is_it) us
+  others_shown [] all = tt
+  others_shown (u ∷ us) all = (ne_eqb u.0 t all.0, others_shown us all.1)
+
+  children_shown : (log : List Event) → Apart log → ChildrenShown is_it log
+  children_shown log apart o g = others_shown ((digest_of log).groups o g).children (apart.children o g)
+
   -- a turn
 
   module _ (script : ScriptView) (s : Standing) (executor u n : ℕ) (effects : List EffectView) (exit : ExitView) (job : JobFacts) (env : Env) (frame : FrameView) (stands : TurnStands script s executor u n effects exit job env frame)
@@ -261,7 +271,12 @@ module _ (t : ℕ) where
     walked = after_effects script u s.log effects at_start own_priority (counters u s.log env.room) exit low spares leaves stands.fits (ap length (own_tasks-push_none u s.log (Apply (task u) n) refl)) (apart_push s.log (Apply (task u) n) tt apart)
 
     pub turn_shown : TurnShown is_it (root_count script) u n own_priority s.log effects exit
-    turn_shown = record { effects_are = walked.effects; exit_is = walked.exit_is }
+    turn_shown = record {
+      effects_are = walked.effects;
+      exit_is = walked.exit_is;
+      children = children_shown _ walked.apart;
+      after_exit = λ step. children_shown _ (exit_apart u _ exit step walked.exit_is walked.apart);
+    }
 
     pub turn_apart : (after : Option FrameView) → Apart (turn_applied script s u n effects exit after).log
     turn_apart after =

@@ -11,11 +11,10 @@ use Rattle.swift_events.specs.declared.life.JobStage.{JobStage}
 use Rattle.swift_events.specs.declared.life.JobStage.TheVariants.{Given, Begun, Applied, Waits, Asks, Closes}
 use Rattle.swift_events.specs.Events.{task_of, later, is_made}
 use Rattle.swift_events.specs.Lives.{life_of, lived, stage_in, ending_in}
-use Rattle.swift_events.specs.Relations.{ending_among}
 use Rattle.swift_groups.specs.Groups.{is_among}
 use Rattle.swift_types.specs.declared.id.TaskId.{TaskId}
 use Rattle.swift_types.specs.declared.outcome.Ending.{Ending}
-use Rattle.swift_digest.specs.Digests.{Card, GroupCard, Digest, digest_of, noted, card_noted, group_noted, one_if}
+use Rattle.swift_digest.specs.Digests.{Card, GroupCard, Digest, digest_of, noted, card_noted, group_noted, one_if, open_ending}
 use Rattle.swift_digest.proofs.Cards.{digest_of-push}
 use Rattle.swift_digest.proofs.Answers.{life_of_is}
 use Rattle.swift_reordering.specs.Blurred.{stage_at}
@@ -150,8 +149,9 @@ not_among : (t : ℕ) (us : List TaskId) (v : TaskId) → v.0 ≡ t → AllByRec
 not_among t [] v is all = refl
 not_among t (u ∷ us) v is all = ap (λ (b : Bool). b || is_among us v) (ne_eqb u.0 v.0 (λ same. all.0 (same ∙ is))) ∙ not_among t us v is all.1
 
-no_end : (t : ℕ) (us : List TaskId) (v : TaskId) (x : Ending) → v.0 ≡ t → AllByRecursion (IsOther t) us → cons_option (ending_among us (End v x)) [] ≡ []
-no_end t us v x is all = ap (λ (b : Bool). cons_option (if b then Some (v, x) else None) []) (not_among t us v is all)
+no_end : (t : ℕ) (closed : Bool) (us : List TaskId) (v : TaskId) (x : Ending) → v.0 ≡ t → AllByRecursion (IsOther t) us → cons_option (open_ending closed us (End v x)) [] ≡ []
+no_end t true us v x is all = refl
+no_end t false us v x is all = ap (λ (b : Bool). cons_option (if b then Some (v, x) else None) []) (not_among t us v is all)
 
 -- where the task is no child
 group_local : (ends : Bool) (t o g : ℕ) (c : GroupCard) (e : Event) → IsOfJob ends t e → (ends ≡ true → AllByRecursion (IsOther t) c.children) → group_noted o g c e ≡ c
@@ -160,7 +160,7 @@ group_local ends t o g c (Apply v n) is none = λ k. record { children = append-
 group_local ends t o g c (Give v n r) is none = λ k. record { children = append-nil c.children k; ended = append-nil c.ended k; asked = none_more c.asked k; closed = or_none c.closed k; named = or_none c.named k }
 group_local ends t o g c (End v x) is none = λ k. record {
   children = append-nil c.children k;
-  ended = (ap (λ (l : List (TaskId × Ending)). c.ended ++ l) (no_end t c.children v x is.0 (none is.1)) ∙ append-nil c.ended) k;
+  ended = (ap (λ (l : List (TaskId × Ending)). c.ended ++ l) (no_end t c.closed c.children v x is.0 (none is.1)) ∙ append-nil c.ended) k;
   asked = none_more c.asked k;
   closed = or_none c.closed k;
   named = or_none c.named k;

@@ -33,7 +33,7 @@ use Rattle.swift_history.specs.Histories.{Block, added, begun, ran, folded, Stan
 use Rattle.swift_history.specs.Orderly.{IsOrderly, job_executor}
 use Rattle.swift_laws.proofs.HistoriesCounted.{AreCounted, unbegun}
 use Rattle.swift_laws.proofs.HistoriesTurns.{after_push, all_keep, applied_is, first_counted}
-use Rattle.swift_digest.specs.Digests.{ChildrenAreNew, digest_of}
+use Rattle.swift_digest.specs.Digests.{AreInPlace, digest_of}
 use Rattle.swift_digest.specs.Explored.{IsNotFolded}
 use Rattle.swift_digest.specs.Futures.{LeadAlike}
 use Rattle.swift_digest.specs.Plans.{job_plan, held_plans}
@@ -105,7 +105,7 @@ module _ (script : ScriptView) (ends : Bool) (t : ℕ) (s z : Standing) (beside 
 
   -- and leaves the two beside each other, and the job of the task where it is
   turn_leaves : (executor u n : ℕ) (effects : List EffectView) (exit : ExitView) (after : Option FrameView) (job : JobFacts) (env : Env) (frame : FrameView) → u ≢ t → TurnStands script s executor u n effects exit job env frame
-      → TurnShown (besides_sight ends t).hides (root_count script) u n (begun_priority (stage_at z.log u)) z.log effects exit → AreCounted (root_count script) s.log s.held → is_under_way (stage_at s.log t) ≡ true → ChildrenAreNew (turn_applied script z u n effects exit after).log → ChildrenAreNew (turn_applied script s u n effects exit after).log
+      → TurnShown (besides_sight ends t).hides (root_count script) u n (begun_priority (stage_at z.log u)) z.log effects exit → AreCounted (root_count script) s.log s.held → is_under_way (stage_at s.log t) ≡ true → AreInPlace (turn_applied script z u n effects exit after).log → AreInPlace (turn_applied script s u n effects exit after).log
       → AreSeen (besides ends t) (turn_applied script z u n effects exit after).log (turn_applied script s u n effects exit after).log
       × ((turn_applied script z u n effects exit after).held ≡ (turn_applied script s u n effects exit after).held)
       × ((v : ℕ) → v ≢ t → (turn_applied script z u n effects exit after).jobs v ≡ (turn_applied script s u n effects exit after).jobs v)
@@ -123,8 +123,8 @@ module _ (script : ScriptView) (ends : Bool) (t : ℕ) (s z : Standing) (beside 
       let same : end_s z.held ≡ end_s s.held = ap end_s beside.held in
       let x : TurnEnd = turn_end script z.log z.held u n own_z effects exit adv in
       let e : EndSeen (besides ends t) (besides_sight ends t) z.log s.log x (end_s z.held) =
-      seen_end (besides ends t) (besides_sight ends t) z.log s.log beside.near script z.held u n own_z own_s effects exit adv (inl own) shown (subst (λ (a : Standing). ChildrenAreNew a.log) is_z new_z)
-      (subst (λ (a : TurnEnd). ChildrenAreNew a.log) (sym same) (subst (λ (a : Standing). ChildrenAreNew a.log) is_s new_s)) in
+      seen_end (besides ends t) (besides_sight ends t) z.log s.log beside.near script z.held u n own_z own_s effects exit adv (inl own) shown (subst (λ (a : Standing). AreInPlace a.log) is_z new_z)
+      (subst (λ (a : TurnEnd). AreInPlace a.log) (sym same) (subst (λ (a : Standing). AreInPlace a.log) is_s new_s)) in
       let jobs : x.jobs ≡ (end_s s.held).jobs = e.jobs ∙ ap (λ (a : TurnEnd). a.jobs) same in
       let none : AllByRecursion (IsNotOf t) x.jobs = subst (AllByRecursion (IsNotOf t)) (sym jobs) (gives_others script s executor u n effects exit after job env frame stands counted t ne under) in
       let keeps : KeepsJob z (turn_applied script z u n effects exit after) t =
@@ -221,8 +221,8 @@ module _ (script : ScriptView) (cps : List CheckpointView) (ends : Bool) (t : �
         outer = stands.outer;
         lawful = subst (λ (f : List (List ℤ)). IsLawfulRecord script f q) (sym (fields k)) stands.lawful;
       } in
-      let new_z = subst (λ (a : Standing). ChildrenAreNew a.log) (after_push script (at_first script) others (ran k q)) (histories_new script cps (others ++ ran k q ∷ []) (all_push script cps others [] (ran k q) also stands_z)) in
-      let new_s = subst (λ (a : Standing). ChildrenAreNew a.log) (after_push script (at_first script) before (ran k q)) (histories_new script cps (before ++ ran k q ∷ []) (all_push script cps before [] (ran k q) stand stands)) in
+      let new_z = subst (λ (a : Standing). AreInPlace a.log) (after_push script (at_first script) others (ran k q)) (histories_new script cps (others ++ ran k q ∷ []) (all_push script cps others [] (ran k q) also stands_z)) in
+      let new_s = subst (λ (a : Standing). AreInPlace a.log) (after_push script (at_first script) before (ran k q)) (histories_new script cps (before ++ ran k q ∷ []) (all_push script cps before [] (ran k q) stand stands)) in
       leaves (ran k q) stands_z (turn_leaves script ends t s z beside k q.task q.number q.effects q.exit q.after stands.job q.env q.frame of_other stands.stands (shown k q stands.job stands_z turn) counted under new_z new_s)
 
 -- after the silent turn, and before it

@@ -1,7 +1,7 @@
 -- A task that is cancelled stays so as a history goes on, and a turn of it that looks away goes on looking away.
 use Rattle.std.proofs.Common.{◌≡◌, ℕ, List, [], ◌∷◌, ◌++◌, refl, sym, ◌∙◌, ap, subst, Bool, true, false, inl, inr, append_assoc, append-nil, arith}
 use Rattle.std.specs.Prelude.{Option, Some, None, ◌&&◌, ◌||◌, is_some}
-use Rattle.std.proofs.lemmas.Bool.{cases_Bool, false≢true}
+use Rattle.std.proofs.lemmas.Bool.{false≢true}
 use Rattle.swift_types.specs.declared.priority.Priority.{Priority}
 use Rattle.script_code.specs.Tree.{Term, Wanted, Operation, Code}
 use Rattle.script_code.specs.Tree as code
@@ -20,7 +20,7 @@ use Rattle.swift_events.specs.Relations.{is_cancelled}
 use Rattle.swift_events.proofs.Cancels.{cancelled_stays}
 use Rattle.swift_history.specs.TurnEnds.{JobFacts, WaitingTaskView, task, gives, root_job, log_after, turn_end}
 use Rattle.swift_history.specs.Histories.{Block, added, begun, ran, folded, Standing, at_first, begun_priority, left_as, turn_applied, after_block, after_blocks, TurnStands, Stands, AllStand}
-use Rattle.swift_laws.proofs.HistoriesCounted.{AreCounted, Beyond, beyond_push, written_within}
+use Rattle.swift_laws.proofs.HistoriesCounted.{Beyond, beyond_push, written_within}
 use Rattle.swift_laws.proofs.HistoriesTurns.{both, all_keep, applied_is, first_counted, after_push}
 use Rattle.swift_laws.proofs.HistoriesWritten.{IsWritten, keeps_effects, keeps_exit}
 use Rattle.swift_reordering.specs.Away.{term_looks_away, terms_look_away, term_if_looks_away, wanted_looks_away, operation_looks_away, code_looks_away, frames_look_away, job_looks_away, turn_looks_away}

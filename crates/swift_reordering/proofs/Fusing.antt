@@ -31,7 +31,7 @@ use Rattle.swift_laws.proofs.HistoriesBegun.{all_begun}
 use Rattle.swift_laws.proofs.HistoriesGrow.{keeps_block}
 use Rattle.swift_laws.proofs.HistoriesTurns.{after_push, current_is}
 use Rattle.swift_laws.proofs.OpenLogs.{has_origin, origin_stays}
-use Rattle.swift_digest.specs.Digests.{ChildrenAreNew}
+use Rattle.swift_digest.specs.Digests.{AreInPlace}
 use Rattle.swift_digest.specs.Explored.{IsNotFolded}
 use Rattle.swift_digest.proofs.NewChildren.{histories_new}
 use Rattle.swift_digest.proofs.Links.{same_priority}
@@ -332,8 +332,8 @@ module _ (script : ScriptView) (cps : List CheckpointView) (May : ℕ → Type 0
       record_stands_too script s z close (fields_of script cps e others) e r other may has_begun (subst (λ (f : List (List ℤ)). RecordStands script s f e r) (fields e) stands) in
       let now : IsCourse script cps (before ++ ran e r ∷ []) = course_push script cps before (ran e r) course stands tt in
       let now_z : IsCourse script cps (others ++ ran e q ∷ []) = course_push script cps others (ran e q) course_z stands_z tt in
-      let new_s : ChildrenAreNew x.log = subst (λ (a : Standing). ChildrenAreNew a.log) (at_push script cps before (ran e r)) (histories_new script cps (before ++ ran e r ∷ []) now.stand) in
-      let new_z : ChildrenAreNew y.log = subst (λ (a : Standing). ChildrenAreNew a.log) (at_push script cps others (ran e q)) (histories_new script cps (others ++ ran e q ∷ []) now_z.stand) in
+      let new_s : AreInPlace x.log = subst (λ (a : Standing). AreInPlace a.log) (at_push script cps before (ran e r)) (histories_new script cps (before ++ ran e r ∷ []) now.stand) in
+      let new_z : AreInPlace y.log = subst (λ (a : Standing). AreInPlace a.log) (at_push script cps others (ran e q)) (histories_new script cps (others ++ ran e q ∷ []) now_z.stand) in
       let free = takes_none script (fields_of script cps e before) r other may stands.lawful in
       let c : AppliedClose script s z close x y =
       applied_close script s z close e r.task r.number r.effects r.exit r.after stands.job r.env other r.frame has_begun free stands.stands new_s new_z in

@@ -8,7 +8,7 @@ use Rattle.swift_interpreter.specs.Turn.{EffectView, ExitView}
 use Rattle.swift_turn.specs.Body.{Advanced}
 use Rattle.swift_events.specs.declared.event.Event.{Event}
 use Rattle.swift_history.specs.TurnEnds.{WaitingTaskView, TurnEnd, turn_end}
-use Rattle.swift_digest.specs.Digests.{ChildrenAreNew}
+use Rattle.swift_digest.specs.Digests.{AreInPlace}
 use Rattle.swift_reordering.specs.Blurred.{AreNear}
 use Rattle.swift_reordering.proofs.Near.{blurs, blurs_sight}
 use Rattle.swift_reordering.proofs.SeenEnds as seen
@@ -26,7 +26,7 @@ abbrev pub EndNear : List Event → List Event → TurnEnd → TurnEnd → Type 
 EndNear = seen.EndSeen blurs blurs_sight
 
 pub near_end : (a b : List Event) → AreNear a b → (script : ScriptView) (held : List (Option WaitingTaskView)) (t n : ℕ) (own other : Priority) (effects : List EffectView) (exit : ExitView) (adv : Advanced)
-    → (own ≡ other) ⊎ AllByRecursion seen.TakesNone effects → ChildrenAreNew (turn_end script a held t n own effects exit adv).log → ChildrenAreNew (turn_end script b held t n other effects exit adv).log
+    → (own ≡ other) ⊎ AllByRecursion seen.TakesNone effects → AreInPlace (turn_end script a held t n own effects exit adv).log → AreInPlace (turn_end script b held t n other effects exit adv).log
     → EndNear a b (turn_end script a held t n own effects exit adv) (turn_end script b held t n other effects exit adv)
 near_end a b same script held t n own other effects exit adv free =
     seen.seen_end blurs blurs_sight a b same script held t n own other effects exit adv free (seen.all_shown (λ u. false) (λ u. refl) (root_count script) t n own a effects exit)

@@ -6,9 +6,7 @@ use Rattle.swift_types.specs.declared.outcome.Ending.{Ending}
 use Rattle.swift_types.specs.declared.outcome.Resume.{Resume}
 use Rattle.swift_types.specs.declared.priority.Priority.{Priority}
 use Rattle.swift_types.specs.declared.priority.Priority.TheVariants.{Background}
-use Rattle.swift_groups.specs.Groups.{GroupView}
-use Rattle.swift_groups.specs.Next.{next_of}
-use Rattle.swift_groups.specs.Close.{close_of}
+use Rattle.swift_groups.specs.declared.answer.Close.{Close as Closing}
 use Rattle.swift_script.specs.Scripts.{ScriptView, root_count}
 use Rattle.swift_interpreter.specs.declared.effect.TaskName.{TaskName}
 use Rattle.swift_interpreter.specs.declared.effect.TaskName.TheVariants.{Root as RootName, Own}
@@ -28,10 +26,10 @@ use Rattle.std.specs.List.{AllByRecursion}
 use Rattle.std.proofs.lemmas.Bool.{cases_eq, eq-eqb, ne_eqb}
 use Rattle.swift_events.specs.Relations.{waiters_of, parent_of}
 use Rattle.swift_history.specs.TurnEnds.{JobFacts, WaitingTaskView, AfterTurn, TurnEnd, task, first_job, named_task, is_left_out, cancel_events, effect_events, effect_jobs, log_after, jobs_made, next_events, wait_events, exit_events, wait_resume, next_resume, close_resume, exit_resume, gives, wake_each, wake_closing, wake_owner, wake_parent, wake_all, followed, turn_end, resume_of}
-use Rattle.swift_digest.specs.Digests.{ChildrenAreNew}
+use Rattle.swift_digest.specs.Digests.{AreInPlace}
 use Rattle.swift_digest.proofs.SameLogs.{new_prefix}
 use Rattle.swift_reordering.specs.Blurred.{stage_at}
-use Rattle.swift_reordering.proofs.Sights.{waited, IsSight, AreSeen, seen_on, seen_tasks, seen_ending, seen_waits, seen_parent, seen_own, seen_opened, seen_waiters, seen_group, seen_cancelled_group}
+use Rattle.swift_reordering.proofs.Sights.{waited, ChildrenShown, IsShown, IsSight, AreSeen, seen_on, seen_tasks, seen_ending, seen_waits, seen_parent, seen_own, seen_opened, seen_waiters, seen_next, seen_close, seen_cancelled_group}
 
 -- what an owner goes on with depends only on what it waits for
 owner_stage : (o g : ℕ) (e : Ending) (s : Option JobStage) (log : List Event) (f : AfterTurn) → wake_owner o g e s log f ≡ wake_owner o g e (waited s) log f
@@ -130,6 +128,9 @@ ExitShown hides t log _ = Unit {0}
 pub record TurnShown (hides : ℕ → Bool) (roots t n : ℕ) (own : Priority) (log : List Event) (effects : List EffectView) (exit : ExitView) : Type 0 where
   pub effects_are : EffectsShown hides roots t own effects (log ++ Apply (task t) n ∷ [])
   pub exit_is : ExitShown hides t (log_after roots t own (log ++ Apply (task t) n ∷ []) effects) exit
+  -- and so does each child of a group, before the exit and after it
+  pub children : ChildrenShown hides (log_after roots t own (log ++ Apply (task t) n ∷ []) effects)
+  pub after_exit : (step : Step) → ChildrenShown hides (log_after roots t own (log ++ Apply (task t) n ∷ []) effects ++ exit_events t (log_after roots t own (log ++ Apply (task t) n ∷ []) effects) exit step)
 
 -- where nothing is hidden
 module _ (hides : ℕ → Bool) (none : (u : ℕ) → hides u ≡ false) where
@@ -154,8 +155,17 @@ module _ (hides : ℕ → Bool) (none : (u : ℕ) → hides u ≡ false) where
   exit_none t log (returning v) = tt
   exit_none t log (failing f) = tt
 
+  children_none : (us : List TaskId) → AllByRecursion (IsShown hides) us
+  children_none [] = tt
+  children_none (u ∷ us) = (none u.0, children_none us)
+
   pub all_shown : (roots t n : ℕ) (own : Priority) (log : List Event) (effects : List EffectView) (exit : ExitView) → TurnShown hides roots t n own log effects exit
-  all_shown roots t n own log effects exit = record { effects_are = effects_none roots t own effects _; exit_is = exit_none t _ exit }
+  all_shown roots t n own log effects exit = record {
+    effects_are = effects_none roots t own effects _;
+    exit_is = exit_none t _ exit;
+    children = λ o g. children_none _;
+    after_exit = λ step o g. children_none _;
+  }
 
 module _ (sees : ℕ → Life → Life) (sight : IsSight sees) where
   module _ (a b : List Event) (same : AreSeen sees a b) where
@@ -191,55 +201,55 @@ module _ (sees : ℕ → Life → Life) (sight : IsSight sees) where
 
     -- exits
 
-    same_exit : (t : ℕ) (exit : ExitView) (step : Step) → ExitShown sight.hides t a exit → ChildrenAreNew a → ChildrenAreNew b → exit_events t a exit step ≡ exit_events t b exit step
+    same_exit : (t : ℕ) (exit : ExitView) (step : Step) → ExitShown sight.hides t a exit → AreInPlace (a ++ exit_events t a exit step) → AreInPlace (b ++ exit_events t b exit step) → exit_events t a exit step ≡ exit_events t b exit step
     same_exit t (waiting name) step shown new_a new_b =
         ap (λ (o : Option Ending). wait_events t (named_task t name a) o) (seen_ending sees sight a b same (named_task t name a).0 shown)
         ∙ ap (λ (u : TaskId). wait_events t u (life_of u.0 b).ending) (same_named t name)
-    same_exit t (asking_next g) step shown new_a new_b = ap (λ (x : GroupView). next_events t g (next_of x)) (seen_group sees sight a b same t g new_a new_b)
+    same_exit t (asking_next g) step shown new_a new_b = ap (next_events t g) (seen_next sees sight a b same t g new_a new_b)
     same_exit t (closing g f) step shown new_a new_b = refl
     same_exit t (calling i) step shown new_a new_b = refl
     same_exit t yielding step shown new_a new_b = refl
     same_exit t (returning v) step shown new_a new_b = refl
     same_exit t (failing f) step shown new_a new_b = refl
 
-    same_resume : (t : ℕ) (exit : ExitView) (step : Step) → ExitShown sight.hides t a exit → ChildrenAreNew a → ChildrenAreNew b → exit_resume t a exit step ≡ exit_resume t b exit step
-    same_resume t (waiting name) step shown new_a new_b =
+    same_resume : (t : ℕ) (exit : ExitView) (step : Step) → ExitShown sight.hides t a exit → ChildrenShown sight.hides a → AreInPlace (a ++ exit_events t a exit step) → AreInPlace (b ++ exit_events t b exit step) → exit_resume t a exit step ≡ exit_resume t b exit step
+    same_resume t (waiting name) step shown children new_a new_b =
         ap (λ (o : Option Ending). wait_resume o) (seen_ending sees sight a b same (named_task t name a).0 shown)
         ∙ ap (λ (u : TaskId). wait_resume (life_of u.0 b).ending) (same_named t name)
-    same_resume t (asking_next g) step shown new_a new_b = ap (λ (x : GroupView). next_resume (next_of x)) (seen_group sees sight a b same t g new_a new_b)
-    same_resume t (closing g f) step shown new_a new_b = ap (λ (x : GroupView). close_resume (close_of x)) (seen_group sees sight a b same t g new_a new_b)
-    same_resume t (calling i) step shown new_a new_b = refl
-    same_resume t yielding step shown new_a new_b = refl
-    same_resume t (returning v) step shown new_a new_b = refl
-    same_resume t (failing f) step shown new_a new_b = refl
+    same_resume t (asking_next g) step shown children new_a new_b = ap next_resume (seen_next sees sight a b same t g new_a new_b)
+    same_resume t (closing g f) step shown children new_a new_b = ap close_resume (seen_close sees sight a b same t g children)
+    same_resume t (calling i) step shown children new_a new_b = refl
+    same_resume t yielding step shown children new_a new_b = refl
+    same_resume t (returning v) step shown children new_a new_b = refl
+    same_resume t (failing f) step shown children new_a new_b = refl
 
     -- what follows
 
-    same_owner : (o g : ℕ) (e : Ending) (s : Option JobStage) (f : AfterTurn) → ChildrenAreNew a → ChildrenAreNew b → wake_owner o g e s a f ≡ wake_owner o g e s b f
-    same_owner o g e (Some (Closes closed)) f new_a new_b = ap (λ (x : GroupView). if closed == g then wake_closing o (close_of x) f else f) (seen_group sees sight a b same o g new_a new_b)
-    same_owner o g e (Some (Asks asked)) f new_a new_b = refl
-    same_owner o g e (Some (Waits u)) f new_a new_b = refl
-    same_owner o g e (Some Given) f new_a new_b = refl
-    same_owner o g e (Some Applied) f new_a new_b = refl
-    same_owner o g e (Some (Begun env)) f new_a new_b = refl
-    same_owner o g e None f new_a new_b = refl
+    same_owner : (o g : ℕ) (e : Ending) (s : Option JobStage) (f : AfterTurn) → ChildrenShown sight.hides a → wake_owner o g e s a f ≡ wake_owner o g e s b f
+    same_owner o g e (Some (Closes closed)) f children = ap (λ (x : Closing). if closed == g then wake_closing o x f else f) (seen_close sees sight a b same o g children)
+    same_owner o g e (Some (Asks asked)) f children = refl
+    same_owner o g e (Some (Waits u)) f children = refl
+    same_owner o g e (Some Given) f children = refl
+    same_owner o g e (Some Applied) f children = refl
+    same_owner o g e (Some (Begun env)) f children = refl
+    same_owner o g e None f children = refl
 
-    same_wake : (p : Option (ℕ × ℕ)) (e : Ending) (f : AfterTurn) → ChildrenAreNew a → ChildrenAreNew b → wake_parent p e a f ≡ wake_parent p e b f
-    same_wake None e f new_a new_b = refl
-    same_wake (Some x) e f new_a new_b =
+    same_wake : (p : Option (ℕ × ℕ)) (e : Ending) (f : AfterTurn) → ChildrenShown sight.hides a → wake_parent p e a f ≡ wake_parent p e b f
+    same_wake None e f children = refl
+    same_wake (Some x) e f children =
         owner_stage x.0 x.1 e (life_of x.0 a).stage a f ∙ ap (λ (s : Option JobStage). wake_owner x.0 x.1 e s a f) (seen_waits sees sight a b same x.0)
-        ∙ sym (owner_stage x.0 x.1 e (life_of x.0 b).stage a f) ∙ same_owner x.0 x.1 e (life_of x.0 b).stage f new_a new_b
+        ∙ sym (owner_stage x.0 x.1 e (life_of x.0 b).stage a f) ∙ same_owner x.0 x.1 e (life_of x.0 b).stage f children
 
-    same_all : (t : ℕ) (e : Ending) (f : AfterTurn) → ChildrenAreNew a → ChildrenAreNew b → wake_all t e a f ≡ wake_all t e b f
-    same_all t e f new_a new_b =
+    same_all : (t : ℕ) (e : Ending) (f : AfterTurn) → ChildrenShown sight.hides a → wake_all t e a f ≡ wake_all t e b f
+    same_all t e f children =
         ap₂ (λ (p : Option (ℕ × ℕ)) (us : List TaskId). wake_parent p e a (wake_each us (resume_of e) f)) (seen_parent sees sight a b same t) (seen_waiters sees sight a b same t)
-        ∙ same_wake (parent_of t b) e (wake_each (waiters_of t b) (resume_of e) f) new_a new_b
+        ∙ same_wake (parent_of t b) e (wake_each (waiters_of t b) (resume_of e) f) children
 
-    same_followed : (t n : ℕ) (frames : TaskView) (r : Option Resume) (step : Step) (f : AfterTurn) → ChildrenAreNew a → ChildrenAreNew b → followed t n frames r step a f ≡ followed t n frames r step b f
-    same_followed t n frames (Some resume) step f new_a new_b = refl
-    same_followed t n frames None (Ended e) f new_a new_b = same_all t e f new_a new_b
-    same_followed t n frames None (Run actor resume) f new_a new_b = refl
-    same_followed t n frames None Await f new_a new_b = refl
+    same_followed : (t n : ℕ) (frames : TaskView) (r : Option Resume) (step : Step) (f : AfterTurn) → ChildrenShown sight.hides a → followed t n frames r step a f ≡ followed t n frames r step b f
+    same_followed t n frames (Some resume) step f children = refl
+    same_followed t n frames None (Ended e) f children = same_all t e f children
+    same_followed t n frames None (Run actor resume) f children = refl
+    same_followed t n frames None Await f children = refl
 
   -- effects, in order
 
@@ -275,7 +285,7 @@ module _ (sees : ℕ → Life → Life) (sight : IsSight sees) where
     pub jobs : x.jobs ≡ y.jobs
 
   one_end : (a b : List Event) → AreSeen sees a b → (script : ScriptView) (held : List (Option WaitingTaskView)) (t n : ℕ) (own : Priority) (effects : List EffectView) (exit : ExitView) (adv : Advanced)
-      → TurnShown sight.hides (root_count script) t n own a effects exit → ChildrenAreNew (turn_end script a held t n own effects exit adv).log → ChildrenAreNew (turn_end script b held t n own effects exit adv).log
+      → TurnShown sight.hides (root_count script) t n own a effects exit → AreInPlace (turn_end script a held t n own effects exit adv).log → AreInPlace (turn_end script b held t n own effects exit adv).log
       → EndSeen a b (turn_end script a held t n own effects exit adv) (turn_end script b held t n own effects exit adv)
   one_end a b same script held t n own effects exit adv shown new_a new_b =
       let roots : ℕ = root_count script in
@@ -287,19 +297,17 @@ module _ (sees : ℕ → Life → Life) (sight : IsSight sees) where
       let done : AreJoint a b done_a done_b = joint_after roots t own effects a b first_a first_b first shown.effects_are in
       let end_a : List Event = done_a ++ exit_events t done_a exit adv.step in
       let end_b : List Event = done_b ++ exit_events t done_b exit adv.step in
-      let new_end_a : ChildrenAreNew end_a = new_prefix end_a _ new_a in
-      let new_end_b : ChildrenAreNew end_b = new_prefix end_b _ new_b in
-      let new_done_a : ChildrenAreNew done_a = new_prefix done_a _ new_end_a in
-      let new_done_b : ChildrenAreNew done_b = new_prefix done_b _ new_end_b in
-      let ended : AreJoint a b end_a end_b = joint_on a b done_a done_b _ _ done (same_exit done_a done_b done.near t exit adv.step shown.exit_is new_done_a new_done_b) in
+      let new_end_a : AreInPlace end_a = new_prefix end_a _ new_a in
+      let new_end_b : AreInPlace end_b = new_prefix end_b _ new_b in
+      let ended : AreJoint a b end_a end_b = joint_on a b done_a done_b _ _ done (same_exit done_a done_b done.near t exit adv.step shown.exit_is new_end_a new_end_b) in
       let made : jobs_made script t own first_a effects ≡ jobs_made script t own first_b effects = same_made script t own effects first_a first_b first.near shown.effects_are in
-      let resume = same_resume done_a done_b done.near t exit adv.step shown.exit_is new_done_a new_done_b in
+      let resume = same_resume done_a done_b done.near t exit adv.step shown.exit_is shown.children new_end_a new_end_b in
       let start : List JobFacts → AfterTurn = λ js. record { held = held ++ replicate (length js) None; jobs = js } in
       let f_a : AfterTurn = followed t (n + 1) adv.task (exit_resume t done_a exit adv.step) adv.step end_a (start (jobs_made script t own first_a effects)) in
       let f_b : AfterTurn = followed t (n + 1) adv.task (exit_resume t done_b exit adv.step) adv.step end_b (start (jobs_made script t own first_b effects)) in
       let f : f_a ≡ f_b =
       ap₂ (λ (r : Option Resume) (js : List JobFacts). followed t (n + 1) adv.task r adv.step end_a (start js)) resume made
-      ∙ same_followed end_a end_b ended.near t (n + 1) adv.task (exit_resume t done_b exit adv.step) adv.step (start (jobs_made script t own first_b effects)) new_end_a new_end_b in
+      ∙ same_followed end_a end_b ended.near t (n + 1) adv.task (exit_resume t done_b exit adv.step) adv.step (start (jobs_made script t own first_b effects)) (shown.after_exit adv.step) in
       record {
         joint = joint_on a b end_a end_b (gives f_a.jobs) (gives f_b.jobs) ended (ap (λ (x : AfterTurn). gives x.jobs) f);
         held = ap (λ (x : AfterTurn). x.held) f;
@@ -307,9 +315,9 @@ module _ (sees : ℕ → Life → Life) (sight : IsSight sees) where
       }
 
   pub seen_end : (a b : List Event) → AreSeen sees a b → (script : ScriptView) (held : List (Option WaitingTaskView)) (t n : ℕ) (own other : Priority) (effects : List EffectView) (exit : ExitView) (adv : Advanced)
-      → (own ≡ other) ⊎ AllByRecursion TakesNone effects → TurnShown sight.hides (root_count script) t n own a effects exit → ChildrenAreNew (turn_end script a held t n own effects exit adv).log → ChildrenAreNew (turn_end script b held t n other effects exit adv).log
+      → (own ≡ other) ⊎ AllByRecursion TakesNone effects → TurnShown sight.hides (root_count script) t n own a effects exit → AreInPlace (turn_end script a held t n own effects exit adv).log → AreInPlace (turn_end script b held t n other effects exit adv).log
       → EndSeen a b (turn_end script a held t n own effects exit adv) (turn_end script b held t n other effects exit adv)
   seen_end a b same script held t n own other effects exit adv free shown new_a new_b =
       let is = own_end script b held t n own other effects exit adv free in
       subst (EndSeen a b (turn_end script a held t n own effects exit adv)) is
-      (one_end a b same script held t n own effects exit adv shown new_a (subst (λ (e : TurnEnd). ChildrenAreNew e.log) (sym is) new_b))
+      (one_end a b same script held t n own effects exit adv shown new_a (subst (λ (e : TurnEnd). AreInPlace e.log) (sym is) new_b))

@@ -1,6 +1,12 @@
 -- Digests that are one as far as one looks at lives: which parts of a life count may depend on the task.
-use Rattle.std.proofs.Common.{◌≡◌, ℕ, zero, suc, ◌+◌, List, [], ◌∷◌, ◌++◌, refl, sym, ◌∙◌, ap, subst, Bool, true, false}
-use Rattle.std.specs.Prelude.{Option, Some, None, ◌==◌, ◌||◌, if◌then◌else◌}
+use Rattle.std.proofs.Common.{◌≡◌, inl, inr, ℕ, zero, suc, ◌+◌, List, [], ◌∷◌, ◌++◌, refl, sym, ◌∙◌, ap, ap₂, subst, Bool, true, false}
+use Rattle.std.specs.Prelude.{Option, Some, None, ◌==◌, ◌||◌, is_some, not, if◌then◌else◌}
+use Rattle.std.specs.List.{AllByRecursion, filter}
+use Rattle.swift_types.specs.declared.id.TaskId.{TaskId}
+use Rattle.swift_types.specs.declared.outcome.Ending.{Ending}
+use Rattle.swift_groups.specs.Groups.{GroupView}
+use Rattle.swift_groups.specs.Next.{next_of}
+use Rattle.swift_groups.specs.Close.{close_among, close_of}
 use Rattle.swift_events.specs.declared.event.Event.{Event}
 use Rattle.swift_events.specs.declared.life.Life.{Life}
 use Rattle.swift_events.specs.declared.life.JobStage.{JobStage}
@@ -9,10 +15,12 @@ use Rattle.swift_events.specs.Events.{task_of, tasks_of, is_made}
 use Rattle.swift_events.specs.Lives.{life_of, lived}
 use Rattle.swift_events.specs.Relations.{own_tasks, waiters_of, opened_by, is_closed, group_of, parent_by, parent_of, of_parent, is_cancelled, is_cancelled_group, links_of}
 use Rattle.swift_events.proofs.Cancels.{of_parent_same}
-use Rattle.swift_digest.specs.Digests.{Digest, digest_of, all_noted, noted, card_noted, group_noted, one_if, ChildrenAreNew, HasLink, parent_in, group_in, cancelled_in, is_cancelled_in, is_cancelled_group_in}
+use Rattle.swift_history.specs.TurnEnds.{next_events}
+use Rattle.swift_digest.specs.Digests.{Digest, digest_of, all_noted, noted, card_noted, group_noted, one_if, AreInPlace, HasLink, parent_in, group_in, close_in, cancelled_in, is_cancelled_in, is_cancelled_group_in}
 use Rattle.swift_digest.proofs.Cards.{digest_of-append}
-use Rattle.swift_digest.proofs.Answers.{tasks_of_is, life_of_is, own_tasks_is, opened_by_is, waiters_of_is, is_closed_is, group_of_is, is_cancelled_is, is_cancelled_group_is}
+use Rattle.swift_digest.proofs.Answers.{tasks_of_is, life_of_is, own_tasks_is, opened_by_is, waiters_of_is, is_closed_is, group_of_is, close_of_is, is_cancelled_is, is_cancelled_group_is}
 use Rattle.swift_digest.proofs.Links.{AreWithin, link_in_digest, link_in_log}
+use Rattle.swift_digest.proofs.SameLogs.{asked_open, new_prefix}
 
 -- of how far a job is, only what its task waits for
 abbrev pub waited : Option JobStage → Option JobStage
@@ -36,6 +44,14 @@ seen sees d = record d { cards = λ t. record (d.cards t) { life = sees t (d.car
 
 abbrev pub AreSeen : (ℕ → Life → Life) → List Event → List Event → Type 0
 AreSeen sees a b = seen sees (digest_of a) ≡ seen sees (digest_of b)
+
+-- each child of a group shows how it has ended
+
+abbrev pub IsShown : (ℕ → Bool) → TaskId → Type 0
+IsShown hides u = hides u.0 ≡ false
+
+abbrev pub ChildrenShown : (ℕ → Bool) → List Event → Type 0
+ChildrenShown hides log = (o g : ℕ) → AllByRecursion (IsShown hides) ((digest_of log).groups o g).children
 
 module _ (sees : ℕ → Life → Life) (sight : IsSight sees) where
   life_seen : (u : ℕ) (b : Bool) (l : Life) (e : Event) → sees u (if b then lived l e else l) ≡ sees u (if b then lived (sees u l) e else sees u l)
@@ -74,6 +90,15 @@ module _ (sees : ℕ → Life → Life) (sight : IsSight sees) where
       (λ x _. ap (λ (b : Bool). (d.groups x.0 x.1).named || b) (cancelled_seen n d x.0))
       ∙ ap (λ (p : Option (ℕ × ℕ)). of_parent p (λ o g. (d.groups o g).named || cancelled_in (seen sees d) n o)) (parent_seen d t))
 
+  filter_seen : (d : Digest) (us : List TaskId) → AllByRecursion (IsShown sight.hides) us
+      → filter (λ (u : TaskId). not (is_some (d.cards u.0).life.ending)) us ≡ filter (λ (u : TaskId). not (is_some ((seen sees d).cards u.0).life.ending)) us
+  filter_seen d [] all = refl
+  filter_seen d (u ∷ us) all =
+      ap₂ (λ (b : Bool) (l : List TaskId). if b then u ∷ l else l) (ap (λ (x : Option Ending). not (is_some x)) (sym (sight.ending u.0 (d.cards u.0).life all.0))) (filter_seen d us all.1)
+
+  close_seen : (d : Digest) (o g : ℕ) → AllByRecursion (IsShown sight.hides) (d.groups o g).children → close_in d o g ≡ close_in (seen sees d) o g
+  close_seen d o g all = ap close_among (filter_seen d (d.groups o g).children all)
+
   module _ (a b : List Event) (same : AreSeen sees a b) where
     pub seen_tasks : (roots : ℕ) → tasks_of roots a ≡ tasks_of roots b
     seen_tasks roots = tasks_of_is roots a ∙ ap (λ (d : Digest). roots + d.made) same ∙ sym (tasks_of_is roots b)
@@ -105,8 +130,26 @@ module _ (sees : ℕ → Life → Life) (sight : IsSight sees) where
     pub seen_closed : (o g : ℕ) → is_closed o g a ≡ is_closed o g b
     seen_closed o g = is_closed_is o g a ∙ ap (λ (d : Digest). (d.groups o g).closed) same ∙ sym (is_closed_is o g b)
 
-    pub seen_group : (o g : ℕ) → ChildrenAreNew a → ChildrenAreNew b → group_of o g a ≡ group_of o g b
-    seen_group o g new_a new_b = group_of_is o g a new_a ∙ ap (λ (d : Digest). group_in d o g) same ∙ sym (group_of_is o g b new_b)
+    seen_group : (o g : ℕ) → AreInPlace a → AreInPlace b → is_closed o g a ≡ false → group_of o g a ≡ group_of o g b
+    seen_group o g new_a new_b open_a =
+        group_of_is o g a new_a open_a ∙ ap (λ (d : Digest). group_in d o g) same ∙ sym (group_of_is o g b new_b (sym (seen_closed o g) ∙ open_a))
+
+    pub seen_next : (o g : ℕ) → AreInPlace (a ++ next_events o g (next_of (group_of o g a))) → AreInPlace (b ++ next_events o g (next_of (group_of o g b))) → next_of (group_of o g a) ≡ next_of (group_of o g b)
+    seen_next o g new_a new_b =
+        let here_a = new_prefix a _ new_a in
+        let here_b = new_prefix b _ new_b in
+        elim (asked_open a o g (next_of (group_of o g a)) new_a) [
+          | inl open_a ↦ ap (λ (x : GroupView). next_of x) (seen_group o g here_a here_b open_a)
+          | inr empty_a ↦ elim (asked_open b o g (next_of (group_of o g b)) new_b) [
+            | inl open_b ↦ ap (λ (x : GroupView). next_of x) (seen_group o g here_a here_b (seen_closed o g ∙ open_b))
+            | inr empty_b ↦ empty_a ∙ sym empty_b
+          ]
+        ]
+
+    pub seen_close : (o g : ℕ) → ChildrenShown sight.hides a → close_of (group_of o g a) ≡ close_of (group_of o g b)
+    seen_close o g shown =
+        let also : AllByRecursion (IsShown sight.hides) ((digest_of b).groups o g).children = subst (AllByRecursion (IsShown sight.hides)) (ap (λ (d : Digest). (d.groups o g).children) same) (shown o g) in
+        close_of_is o g a ∙ close_seen (digest_of a) o g (shown o g) ∙ ap (λ (d : Digest). close_in d o g) same ∙ sym (close_seen (digest_of b) o g also) ∙ sym (close_of_is o g b)
 
     pub seen_cancelled : (t : ℕ) → is_cancelled t a ≡ is_cancelled t b
     seen_cancelled t =

@@ -1,6 +1,6 @@
 -- A silent turn plays the same on all fields and with any room, and leaves the fields.
-use Rattle.std.proofs.Common.{◌≡◌, ℕ, zero, suc, ℤ, List, [], ◌∷◌, refl, sym, ◌∙◌, ap, ap₂, subst, subst₂, Bool, true, false}
-use Rattle.std.specs.Prelude.{Option, Some, None, ◌&&◌, ◌||◌, is_some, pos, if◌then◌else◌, neg_ℤ, slice_set}
+use Rattle.std.proofs.Common.{◌≡◌, ℕ, zero, suc, ℤ, List, [], ◌∷◌, refl, sym, ap, ap₂, subst, subst₂, Bool, true, false}
+use Rattle.std.specs.Prelude.{Option, Some, None, ◌||◌, is_some, pos, if◌then◌else◌, neg_ℤ, slice_set}
 use Rattle.std.proofs.lemmas.Bool.{false≢true}
 use Rattle.swift_types.specs.declared.outcome.Fault.{Fault}
 use Rattle.swift_types.specs.declared.outcome.Fault.TheVariants.{Turns, Steps}

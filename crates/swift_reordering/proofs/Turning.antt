@@ -16,7 +16,7 @@ use Rattle.swift_history.specs.Checks.{Counters, counters, fits_turn}
 use Rattle.swift_history.specs.TurnEnds.{JobFacts, WaitingTaskView, TurnEnd, turn_end}
 use Rattle.swift_history.specs.Histories.{Standing, with_jobs, taken, begun_priority, left_as, turn_applied, TurnStands, RecordStands}
 use Rattle.swift_laws.proofs.HistoriesTurns.{applied_is}
-use Rattle.swift_digest.specs.Digests.{ChildrenAreNew}
+use Rattle.swift_digest.specs.Digests.{AreInPlace}
 use Rattle.swift_reordering.specs.Away.{frame_looks_away}
 use Rattle.swift_reordering.specs.Blurred.{AreClose, stage_at}
 use Rattle.swift_reordering.proofs.Near.{blurs, blurs_sight, near_current}
@@ -67,7 +67,7 @@ module _ (script : ScriptView) (s z : Standing) (close : AreClose s z) where
 
   pub applied_close : (executor t n : ℕ) (effects : List EffectView) (exit : ExitView) (after : Option FrameView) (job : JobFacts) (env other : Env) (frame : FrameView) → stage_at z.log t ≡ Some (Begun other)
       → (env ≡ other) ⊎ AllByRecursion TakesNone effects → TurnStands script s executor t n effects exit job env frame
-      → ChildrenAreNew (turn_applied script s t n effects exit after).log → ChildrenAreNew (turn_applied script z t n effects exit after).log
+      → AreInPlace (turn_applied script s t n effects exit after).log → AreInPlace (turn_applied script z t n effects exit after).log
       → AppliedClose (turn_applied script s t n effects exit after) (turn_applied script z t n effects exit after)
   applied_close executor t n effects exit after job env other frame has_begun free stands new_s new_z =
       let callers : List FrameView = stands.runs.0 in
@@ -79,8 +79,8 @@ module _ (script : ScriptView) (s z : Standing) (close : AreClose s z) where
       let owns : (own_s ≡ own_z) ⊎ AllByRecursion TakesNone effects = owns_are (stage_at s.log t) (stage_at z.log t) env other effects stands.has_begun has_begun free in
       let end_z : List (Option WaitingTaskView) → TurnEnd = λ held. turn_end script z.log held t n own_z effects exit adv in
       let same : end_z s.held ≡ end_z z.held = ap end_z close.held in
-      let e = near_end s.log z.log close.near script s.held t n own_s own_z effects exit adv owns (subst (λ (x : Standing). ChildrenAreNew x.log) is_s new_s)
-      (subst (λ (x : TurnEnd). ChildrenAreNew x.log) (sym same) (subst (λ (x : Standing). ChildrenAreNew x.log) is_z new_z)) in
+      let e = near_end s.log z.log close.near script s.held t n own_s own_z effects exit adv owns (subst (λ (x : Standing). AreInPlace x.log) is_s new_s)
+      (subst (λ (x : TurnEnd). AreInPlace x.log) (sym same) (subst (λ (x : Standing). AreInPlace x.log) is_z new_z)) in
       subst₂ AppliedClose (sym is_s) (sym is_z) (record {
         joint = subst (λ (x : TurnEnd). AreJoint s.log z.log (turn_end script s.log s.held t n own_s effects exit adv).log x.log) same e.joint;
         held = e.held ∙ ap (λ (x : TurnEnd). x.held) same;

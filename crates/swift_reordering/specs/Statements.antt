@@ -1,5 +1,5 @@
 -- What holds of each statement of a method, and of each one of the turn that comes next (our own).
-use Rattle.std.specs.Prelude.{ℕ, Bool, true, false, ◌&&◌, ◌||◌}
+use Rattle.std.specs.Prelude.{Bool, true, false, ◌&&◌, ◌||◌}
 use Rattle.script_code.specs.Tree.{Term, Operation, Code}
 use Rattle.script_code.specs.Tree as code
 use Rattle.script_code.specs.Instructions.{NextAction, ends, does, tests, first_by}

@@ -1,6 +1,6 @@
 //! What a log says of tasks and groups, as numbers.
 
-ghost use Rattle.std.specs.Prelude.{◌≡◌, ◌+◌, ◌-◌, ◌<◌, ◌≤◌, ◌^◌, ◌==◌, ◌||◌, if◌then◌else◌, false, ℕ, List, [], ◌∷◌, ◌++◌, length, pos, IfOk, OnOk};
+ghost use Rattle.std.specs.Prelude.{Bool, ◌≡◌, ◌+◌, ◌-◌, ◌<◌, ◌≤◌, ◌^◌, ◌==◌, ◌||◌, if◌then◌else◌, false, ℕ, List, [], ◌∷◌, ◌++◌, length, pos, IfOk, OnOk};
 ghost use Rattle.std.specs.List.{cons_option};
 ghost use Rattle.swift_types.specs.declared.id.TaskId.{TaskId};
 ghost use Rattle.swift_events.specs.Events.{is_made, task_of};
@@ -9,7 +9,7 @@ ghost use Rattle.swift_events.specs.Relations.{asks, child_in, closes, ending_am
 ghost use Rattle.swift_groups.specs.Groups.{is_among};
 ghost use Rattle.swift_explorer.specs.CardsInside.{AreCards, AreNoted, IsBlank, IsKeyGroup, IsNotedAt, IsPastGroup, OpenAtMost, card_of_parts, group_of_parts};
 ghost use Rattle.swift_explorer.specs.DigestNumbers.{IsWithin, IsWritten, card_numbers, ended_numbers, group_end, groups_numbers, head_numbers, other_of};
-ghost use Rattle.swift_digest.specs.Digests.{digest_of, one_if, own_link};
+ghost use Rattle.swift_digest.specs.Digests.{digest_of, one_if, open_ending, own_link};
 ghost use Rattle.swift_explorer.specs.Numbers.{each_numbers, link_numbers, some_numbers, task_numbers};
 
 use crate::keys::values::{
@@ -182,6 +182,21 @@ fn ending_among(children: &[TaskId], event: Event) -> Option<(TaskId, Ending)>
     }
 }
 
+fn open_ending(closed: bool, children: &[TaskId], event: Event) -> Option<(TaskId, Ending)>
+    ensures { result ≡ open_ending closed children.now event }
+{
+    match event {
+        Event::End(_, _) => {
+            if closed {
+                None
+            } else {
+                ending_among(children, event)
+            }
+        }
+        _ => None,
+    }
+}
+
 fn other_of(event: Event) -> TaskId
     ensures { result.0 ≡ other_of event }
 {
@@ -207,7 +222,7 @@ fn group_end(event: Event) -> u64
 
 // Whether an event may say something for a group's card.
 fn may_change_groups(event: Event) -> bool
-    ensures { result ≡ false → (o g : ℕ) (children : List TaskId) → IsPastGroup o g children event }
+    ensures { result ≡ false → (o g : ℕ) (closed : Bool) (children : List TaskId) → IsPastGroup o g closed children event }
 {
     match event {
         Event::Child { .. }
@@ -244,6 +259,23 @@ fn counted(count: u64, one: bool) -> u64
     ensures { result ≡ count + one_if one }
 {
     if one { count + 1 } else { count }
+}
+
+// The same, or 0 where that is over.
+fn counted_unless(over: bool, count: u64, one: bool) -> u64
+    requires { count < 2 ^ 63 }
+    ensures { result ≡ (if over then 0 else count + one_if one) }
+{
+    if over { 0 } else { counted(count, one) }
+}
+
+// These numbers, or none where that is over.
+fn clear_if(over: bool, numbers: &mut Vec<i64>)
+    ensures { numbers.new.items ≡ (if over then [] else numbers.old.items) }
+{
+    if over {
+        numbers.clear();
+    }
 }
 
 fn put_some_link(numbers: &mut Vec<i64>, link: Option<Link>) -> Result<(), AllocError>
@@ -321,20 +353,25 @@ impl KeyGroup {
         requires { self.old.asked < 2 ^ 63 }
         ensures children { OnOk result (self.new.children.items ≡ self.old.children.items ++ cons_option (child_in owner.0 group event) []) }
         ensures added { OnOk result (self.new.added.items ≡ self.old.added.items ++ some_numbers task_numbers (cons_option (child_in owner.0 group event) [])) }
-        ensures ended { OnOk result (self.new.ended.items ≡ self.old.ended.items ++ some_numbers ended_numbers (cons_option (ending_among self.old.children.items event) [])) }
-        ensures asked { OnOk result (self.new.asked ≡ self.old.asked + one_if (asks owner.0 group event)) }
+        ensures ended { OnOk result (self.new.ended.items ≡ (if closes owner.0 group event then [] else self.old.ended.items ++ some_numbers ended_numbers (cons_option (open_ending self.old.closed self.old.children.items event) []))) }
+        ensures asked { OnOk result (self.new.asked ≡ (if closes owner.0 group event then 0 else self.old.asked + one_if (asks owner.0 group event))) }
         ensures closed { OnOk result (self.new.closed ≡ (self.old.closed || closes owner.0 group event)) }
         ensures named { OnOk result (self.new.named ≡ (self.old.named || names_group owner.0 group event)) }
     {
         if !may_change_groups(event) {
             return Ok(());
         }
-        put_some_end(&mut self.ended, ending_among(&self.children, event))?;
+        let over = closes(owner, group, event);
+        put_some_end(
+            &mut self.ended,
+            open_ending(self.closed, &self.children, event),
+        )?;
+        clear_if(over, &mut self.ended);
         let child = child_in(owner, group, event);
         push_some(&mut self.children, child)?;
         put_some_task(&mut self.added, child)?;
-        self.asked = counted(self.asked, asks(owner, group, event));
-        self.closed = self.closed || closes(owner, group, event);
+        self.asked = counted_unless(over, self.asked, asks(owner, group, event));
+        self.closed = self.closed || over;
         self.named = self.named || names_group(owner, group, event);
         Ok(())
     }

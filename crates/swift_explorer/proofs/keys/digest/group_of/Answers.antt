@@ -3,7 +3,7 @@ use Rattle.std.proofs.lemmas.List.{take_all}
 use Rattle.swift_events.specs.declared.event.Event.{Event}
 use Rattle.swift_digest.specs.Digests.{digest_of}
 use Rattle.swift_explorer.specs.CardsInside.{IsKeyGroup}
-use Rattle.swift_explorer.proofs.CardSteps.{group_none, group_step, one_at_most}
+use Rattle.swift_explorer.proofs.CardSteps.{fewer_unless, group_none, group_step, one_at_most}
 use Rattle.swift_explorer.proofs.keys.digest.group_of.Goals as goal
 
 pub loop-event-init : goal.loop-event-init
@@ -17,7 +17,7 @@ loop-event-preserved c =
     let e = c.in_ok-note.ensures in
     record {
       card = group_step c.args.owner.0 c.args.group c.args.log.now c.loop-event.event-index _ _ _ _ (omega arith) refl c.loop-event.invariant.card e.children e.added e.ended e.asked e.closed e.named;
-      asked = omega (arith, c.loop-event.invariant.asked, e.asked, one_at_most);
+      asked = omega (arith, c.loop-event.invariant.asked, e.asked, one_at_most, fewer_unless);
     }
 
 pub returns : goal.returns
