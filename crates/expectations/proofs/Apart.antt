@@ -1,17 +1,10 @@
 -- In a script that is accepted no two actors have one name, no two fields of an actor, and no two roots; and no name has a dot.
-use Rattle.std.proofs.Common.{◌≡◌, ◌<◌, ◌+◌, ℕ, zero, suc, Bool, true, false, ◌&&◌, List, [], ◌∷◌, ◌++◌, length, map, Option, Some, None, refl, sym, ap, subst, ◌∙◌, arith}
-use Rattle.std.specs.Prelude.{slice_get, unwrap_or, nat_le}
-use Rattle.std.specs.List.{list_any, list_all}
+use Rattle.expectations.proofs.Prelude.{◌≡◌, ◌<◌, ◌+◌, ℕ, zero, suc, Bool, true, false, ◌&&◌, List, [], ◌∷◌, ◌++◌, length, map, Option, Some, None, refl, sym, ap, subst, ◌∙◌, arith, slice_get, unwrap_or, nat_le, list_any, list_all, or_parts, or_right, list_any-append, is_name_byte, TokenView, FieldTree, ActorTree, RootTree, DeclTree, Executes, Binds, Acts, Roots, Each, one_more, IsDecl, an_executor, a_local, an_actor, IsScript, IsAccepted, no_actor, no_root, no_field, actor_at, root_at, actor_count, actor_name, actor_fields, field_name, root_count, root_name}
 use Rattle.std.specs.Str.{bytes_eq}
-use Rattle.std.proofs.lemmas.Bool.{or_parts, or_right}
-use Rattle.std.proofs.lemmas.List.Folds.{list_any-append}
 use Rattle.std.proofs.lemmas.Slice.Eq.{bytes_eq-Decides}
 use Rattle.swift_types.specs.declared.limits.TheConstants.{ACTORS, TASKS}
 use Rattle.script_tokens.specs.declared.keyword.Keyword.TheVariants as key
-use Rattle.script_tokens.specs.Bytes.{is_name_byte}
-use Rattle.script_tokens.specs.Pieces.{TokenView}
-use Rattle.script_grammar.specs.Tree.{FieldTree, ActorTree, RootTree, DeclTree, Executes, Binds, Acts, Roots}
-use Rattle.script_grammar.specs.Grammar.{Each, no_more, one_more, IsDecl, an_executor, a_local, an_actor, a_root, IsScript}
+use Rattle.script_grammar.specs.Grammar.{no_more, a_root}
 use Rattle.script_names.specs.declared.error.NameErrorKind.TheVariants.{Twice, TooMany}
 use Rattle.script_names.specs.Texts.{is_among}
 use Rattle.script_names.specs.Directory.{DirectoryView, directory_of}
@@ -23,8 +16,7 @@ use Rattle.script_compiler.specs.Compiled.{ActorView, RootView, actor_of, actors
 use Rattle.script_printing.specs.Readable.{IsWord}
 use Rattle.script_printing.specs.Script.{ScriptView, script_in}
 use Rattle.script_printing.proofs.WordsLexAgain.{AreFound, lexes_found}
-use Rattle.swift_script.specs.Accepted.{IsAccepted}
-use Rattle.swift_script.specs.Scripts.{parts_of, no_actor, no_root, no_field, actor_at, root_at, actor_count, actor_name, actor_fields, field_name, root_count, root_name}
+use Rattle.swift_script.specs.Scripts.{parts_of}
 
 -- Names that are seen.
 

@@ -1,10 +1,7 @@
 -- Expectations of texts, one after the other.
-use Rattle.std.proofs.Common.{◌≡◌, ℕ, ◌+◌, ◌<◌, List, [], ◌∷◌, ◌++◌, length, map, take, sym, subst, ap, ◌∙◌, append_assoc}
-use Rattle.std.specs.Prelude.{get_or}
-use Rattle.std.proofs.lemmas.List.{map-append, take_more}
-use Rattle.swift_script.specs.Scripts.{ScriptView}
+use Rattle.expectations.proofs.Prelude.{◌≡◌, ℕ, ◌+◌, ◌<◌, List, [], ◌∷◌, ◌++◌, length, map, take, sym, subst, ap, ◌∙◌, append_assoc, get_or, map-append, take_more, ScriptView, AreExpected, IsExpected, no_more}
 use Rattle.expectations.specs.declared.expectation.Expectation.{Expectation}
-use Rattle.expectations.specs.Questions.{AreExpected, IsExpected, no_more, one_more}
+use Rattle.expectations.specs.Questions.{one_more}
 
 pub expected_more : (p : ScriptView) (texts : List (List ℕ)) (es : List Expectation) (text : List ℕ) (e : Expectation) → AreExpected p texts es → IsExpected p text e → AreExpected p (texts ++ text ∷ []) (es ++ e ∷ [])
 expected_more p [] [] text e no_more is = one_more is no_more

@@ -1,8 +1,5 @@
 -- Expectations of lines, one after the other.
-use Rattle.std.proofs.Common.{◌≡◌, ℕ, ◌+◌, ◌<◌, ◌==◌, Bool, List, ◌++◌, length, drop, sym, ap, ap₂, ◌∙◌, append_assoc}
-use Rattle.std.specs.Prelude.{get_or, option_to_list}
-use Rattle.std.proofs.lemmas.List.{at_drop_more}
-use Rattle.expectations.specs.Comments.{expected_from, expected_here}
+use Rattle.expectations.proofs.Prelude.{◌≡◌, ℕ, ◌+◌, ◌<◌, ◌==◌, Bool, List, ◌++◌, length, drop, sym, ap, ap₂, ◌∙◌, append_assoc, get_or, option_to_list, at_drop_more, expected_from, expected_here}
 
 -- one byte further: what was found, with the expectation of the line that begins there
 pub expected_more : (text : List ℕ) (k : ℕ) (begins next : Bool) (old new all : List (List ℕ)) → k < length text → next ≡ (get_or text k 0 == 10)

@@ -1,7 +1,5 @@
 -- Where an answer is that all holds, each verdict says so.
-use Rattle.std.proofs.Common.{◌≡◌, zero, suc, Bool, true, false, List, [], ◌∷◌, map, refl, sym, ap, ◌∙◌, arith}
-use Rattle.std.specs.Prelude.{All, Contains, ◌&&◌, not, if◌then◌else◌}
-use Rattle.std.specs.List.{list_all}
+use Rattle.expectations.proofs.Prelude.{◌≡◌, zero, suc, Bool, true, false, List, [], ◌∷◌, map, refl, sym, ap, ◌∙◌, arith, All, Contains, ◌&&◌, not, if◌then◌else◌, list_all}
 use Rattle.std.specs.declared.vec.Vec.{Vec}
 use Rattle.std.specs.declared.alloc.Global.{Global}
 use Rattle.std.proofs.lemmas.List.Elements.{All-nil, All-cons}

@@ -1,11 +1,7 @@
 -- Tokens that are joined one after the other.
-use Rattle.std.proofs.Common.{◌≡◌, ℕ, ◌<◌, Option, Some, None, List, [], ◌∷◌, ◌++◌, length, map, refl, sym, subst, append_assoc, arith}
-use Rattle.std.proofs.lemmas.List.{append-nil, length-map}
+use Rattle.expectations.proofs.Prelude.{◌≡◌, ℕ, ◌<◌, Option, Some, None, List, [], ◌∷◌, ◌++◌, length, map, refl, sym, subst, append_assoc, arith, append-nil, length-map, Token, TokenView, piece, Num, Huge, Name, Key, Sign, Stray, Joins, none, dotted, kept}
 use Rattle.script_tokens.specs.declared.mark.Mark.TheVariants as mark
-use Rattle.script_tokens.specs.declared.token.Token.{Token}
-use Rattle.script_tokens.specs.Pieces.{TokenView, piece, Num, Huge, Name, Key, Sign, Stray}
 use Rattle.expectations.specs.FirstInside.{field_first, first_of, named_with}
-use Rattle.expectations.specs.Texts.{Joins, none, dotted, kept}
 
 -- `rest` is what is left of `all`, where these names were found before
 abbrev pub GoesOn : List TokenView → List TokenView → List TokenView → Type 0

@@ -1,3 +1,4 @@
+pub mod Prelude
 pub mod Holding
 pub mod NamesOf
 pub mod Asking

@@ -1,8 +1,5 @@
 -- What names stand for.
-use Rattle.std.proofs.Common.{◌≡◌, ℕ, ◌<◌, List, ◌∷◌, ◌++◌, length, subst, sym, ap₂, ◌∙◌}
-use Rattle.script_code.specs.Tree.{field, variable}
-use Rattle.swift_script.specs.Scripts.{ScriptView, actor_count, actor_fields, actor_name, field_name, root_count, root_name}
-use Rattle.expectations.specs.Texts.{Names, a_field, a_root}
+use Rattle.expectations.proofs.Prelude.{◌≡◌, ℕ, ◌<◌, List, ◌∷◌, ◌++◌, length, subst, sym, ap₂, ◌∙◌, field, variable, ScriptView, actor_count, actor_fields, actor_name, field_name, root_count, root_name, Names, a_field, a_root}
 
 pub names_field : (p : ScriptView) (n a f : List ℕ) (k i : ℕ) → n ≡ a ++ 46 ∷ f → k < actor_count p → actor_name p k ≡ a → i < length (actor_fields p k) → field_name p k i ≡ f → Names p n (field (record { actor = k; field = i }))
 names_field p n a f k i is there named within called =

@@ -1,27 +1,14 @@
 -- A text spells one expression, and in a script that is accepted it is one expectation.
-use Rattle.std.proofs.Common.{◌≡◌, ◌<◌, ◌⊎◌, inl, inr, ℕ, Bool, true, false, ◌&&◌, List, [], ◌∷◌, ◌++◌, length, Option, Some, None, refl, sym, ap, ap₂, subst, ◌∙◌, append_assoc}
-use Rattle.std.specs.Prelude.{unwrap_or}
-use Rattle.std.specs.List.{list_any, list_all}
-use Rattle.std.proofs.lemmas.Bool.{and_parts, or_from, or_parts}
-use Rattle.std.proofs.lemmas.List.{append-nil, append_cancel_left, append_cancel_right}
-use Rattle.std.proofs.lemmas.List.Folds.{list_any-append}
-use Rattle.swift_types.specs.declared.operator.Operator.{Operator}
+use Rattle.expectations.proofs.Prelude.{◌≡◌, ◌<◌, ◌⊎◌, inl, inr, ℕ, Bool, true, false, ◌&&◌, List, [], ◌∷◌, ◌++◌, length, Option, Some, None, refl, sym, ap, ap₂, subst, ◌∙◌, append_assoc, unwrap_or, list_any, list_all, and_parts, or_from, or_parts, append-nil, append_cancel_left, append_cancel_right, list_any-append, Operator, is_name_byte, TokenView, Num, Name, Key, Sign, ExprTree, ActorTree, DeclTree, Acts, mark_of, SpellsExpr, name, local, own_priority, is_cancelled, parenthesis, negated, inverted, alone, chained, compared, IsExpression, Each, one_more, IsField, IsOn, on_its_own, on_shared, IsInvariant, no_invariant, an_invariant, IsMethodDecl, IsActor, IsDecl, an_actor, IsScript, Term, variable, field, opposite, denial, binary, WasAccepted, ScriptView, actor_count, actor_fields, actor_name, field_name, root_count, root_name, Joins, none, dotted, kept, actor_with, as_invariant, SpellsTest, Names, a_field, a_root, IsRead, a_number, a_name, a_minus, a_not, both, SpellsExpression, IsTest}
 use Rattle.swift_types.specs.declared.operator.Operator.TheVariants as op
 use Rattle.script_tokens.specs.declared.mark.Mark.TheVariants as mark
 use Rattle.script_tokens.specs.declared.keyword.Keyword.TheVariants as key
-use Rattle.script_tokens.specs.Bytes.{is_name_byte}
-use Rattle.script_tokens.specs.Pieces.{TokenView, Num, Name, Key, Sign}
 use Rattle.script_tokens.proofs.Unique.{unique}
 use Rattle.script_grammar.specs.declared.region.Atoms.{Atoms}
 use Rattle.script_grammar.specs.declared.region.Atoms.TheVariants.{Plain}
-use Rattle.script_grammar.specs.Tree.{ExprTree, ActorTree, DeclTree, Acts}
-use Rattle.script_grammar.specs.Grammar.{mark_of, SpellsExpr, number, name, local, own_priority, is_cancelled, parenthesis, negated, inverted, alone, chained, compared, IsExpression, Each, no_more, one_more, IsField, IsOn, on_its_own, on_shared, IsInvariant, no_invariant, an_invariant, IsMethodDecl, IsActor, IsDecl, an_actor, IsScript}
+use Rattle.script_grammar.specs.Grammar.{number, no_more}
 use Rattle.script_parser.specs.declared.limits.TheConstants.{NESTING}
 use Rattle.script_parser.proofs.Whole.{one}
-use Rattle.script_code.specs.Tree.{Term, variable, field, opposite, denial, binary}
-use Rattle.swift_script.specs.Accepted.{WasAccepted}
-use Rattle.swift_script.specs.Scripts.{ScriptView, actor_count, actor_fields, actor_name, field_name, root_count, root_name}
-use Rattle.expectations.specs.Texts.{Joins, none, dotted, kept, actor_with, as_invariant, SpellsTest, Names, a_field, a_root, IsRead, a_number, a_name, a_minus, a_not, both, SpellsExpression, IsTest}
 use Rattle.expectations.proofs.Apart.{AreApart, accepted_apart}
 
 -- No dot is left.

@@ -1,10 +1,5 @@
 -- Expressions, with what their names stand for.
-use Rattle.std.proofs.Common.{◌≡◌, ℤ, List, ℕ, sym, subst, ap, ap₂}
-use Rattle.swift_types.specs.declared.operator.Operator.{Operator}
-use Rattle.script_code.specs.Tree.{Term, number, opposite, denial, binary}
-use Rattle.script_grammar.specs.Tree.{ExprTree, Number, Named, Negated, Inverted, Both}
-use Rattle.swift_script.specs.Scripts.{ScriptView}
-use Rattle.expectations.specs.Texts.{IsRead, Names, a_number, a_name, a_minus, a_not, both}
+use Rattle.expectations.proofs.Prelude.{◌≡◌, ℤ, List, ℕ, sym, subst, ap, ap₂, Operator, Term, number, opposite, denial, binary, ExprTree, Number, Named, Negated, Inverted, Both, ScriptView, IsRead, Names, a_number, a_name, a_minus, a_not, both}
 
 read_as : (p : ScriptView) (d e : ExprTree) (s t : Term) → d ≡ e → s ≡ t → IsRead p e t → IsRead p d s
 read_as p d e s t is same read = subst (λ (x : ExprTree). IsRead p x s) (sym is) (subst (λ (x : Term). IsRead p e x) (sym same) read)

@@ -1,13 +1,7 @@
 -- The first outcome in which an expectation fails.
-use Rattle.std.proofs.Common.{◌≡◌, ℕ, ◌+◌, ◌<◌, Bool, true, false, List, [], ◌∷◌, length, drop, refl, sym, ap, ◌∙◌, arith}
-use Rattle.std.specs.Prelude.{get_or, if◌then◌else◌}
-use Rattle.std.proofs.lemmas.List.{at_drop_more}
-use Rattle.swift_script.specs.Scripts.{ScriptView}
+use Rattle.explorer_answers.proofs.Prelude.{◌≡◌, ℕ, ◌+◌, ◌<◌, Bool, true, false, List, [], ◌∷◌, length, drop, refl, sym, ap, ◌∙◌, arith, get_or, if◌then◌else◌, at_drop_more, ScriptView, is_so, fails_text, first_text, or_else, verdict_at, fails, swift_first_text}
 use Rattle.swift_explorer.specs.declared.outcome.RunOutcome.{RunOutcome}
 use Rattle.expectations.specs.declared.expectation.Expectation.{Expectation}
-use Rattle.expectations.specs.Answers.{is_so}
-use Rattle.explorer_answers.specs.AnswerText.{fails_text, first_text, or_else, verdict_at}
-use Rattle.explorer_answers.specs.SwiftText.{fails, swift_first_text}
 
 -- it does not fail in this one
 pub first_later : (p : ScriptView) (e : Expectation) (os : List RunOutcome) (k : ℕ) (d : RunOutcome) → k < length os → is_so (verdict_at p e (get_or os k d)) ≡ true

@@ -1,15 +1,11 @@
 -- The tasks and the fields of an outcome.
-use Rattle.std.proofs.Common.{◌≡◌, ℕ, ℤ, zero, suc, ◌+◌, Vec, List, [], ◌∷◌, ◌++◌, map, refl, sym, ap, ◌∙◌}
-use Rattle.std.specs.Prelude.{◌==◌, if◌then◌else◌, Option, Some, None, codes, slice_get}
+use Rattle.explorer_json.proofs.Prelude.{◌≡◌, ℕ, ℤ, zero, suc, ◌+◌, Vec, List, [], ◌∷◌, ◌++◌, map, refl, sym, ap, ◌∙◌, ◌==◌, if◌then◌else◌, Option, Some, None, codes, slice_get, Global, rows_of, actor_json, fields_json, tasks_json}
 use Rattle.std.specs.Option.{option_map}
-use Rattle.std.specs.declared.alloc.Global.{Global}
 use Rattle.std.proofs.lemmas.Option.{slice_get-map}
-use Rattle.script_code.specs.Seen.{rows_of}
 use Rattle.swift_events.specs.declared.life.Origin.{Origin}
 use Rattle.swift_types.specs.declared.outcome.Ending.{Ending}
 use Rattle.swift_script.specs.Scripts.{ScriptView, actor_count, actor_executor, executor_actors}
 use Rattle.swift_report.specs.Text.{row_among, row_in, row_of}
-use Rattle.swift_tool.specs.ReportJson.{actor_json, fields_json, tasks_json}
 
 -- the fields of the actors of each executor, without addresses
 abbrev pub views : List (Vec (Vec ℤ Global) Global) → List (List (List ℤ))

@@ -1,3 +1,4 @@
+pub mod Prelude
 mod Records
 pub mod OfRuns
 pub mod Meeting

@@ -1,23 +1,12 @@
 -- All that is asked, text by text.
-use Rattle.std.proofs.Common.{◌≡◌, ◌<◌, ℕ, zero, suc, Bool, true, false, List, [], ◌∷◌, ◌++◌, map, refl, ap, subst, ◌∙◌, inl, inr, arith}
-use Rattle.std.specs.Prelude.{All, ◌&&◌, if◌then◌else◌}
-use Rattle.std.specs.List.{list_all}
+use Rattle.explorer_laws.proofs.Prelude.{◌≡◌, ◌<◌, ℕ, zero, suc, Bool, true, false, List, [], ◌∷◌, ◌++◌, map, refl, ap, subst, ◌∙◌, inl, inr, arith, All, ◌&&◌, if◌then◌else◌, list_all, Origin, Ending, ReportView, ScriptView, root_count, Verdict, is_so, first_have_values, has_value, verdict_of, AreExpected, IsAsked, IsExpected, no_fault, no_more, one_more, HasEachValue, HoldsAtEnd, MeetsAll}
 use Rattle.std.proofs.lemmas.Bool.{cases_eq}
 use Rattle.std.proofs.lemmas.List.Elements.{All-nil, All-cons}
 use Rattle.script_code.specs.Tree.{term_of}
-use Rattle.swift_events.specs.declared.life.Origin.{Origin}
-use Rattle.swift_types.specs.declared.outcome.Ending.{Ending}
-use Rattle.swift_history.specs.Histories.{ReportView}
-use Rattle.swift_script.specs.Scripts.{ScriptView, root_count}
 use Rattle.expectations.specs.declared.expectation.Expectation.{Expectation}
 use Rattle.expectations.specs.declared.expectation.Expectation.TheVariants as expect
-use Rattle.expectations.specs.declared.expectation.Verdict.{Verdict}
 use Rattle.expectations.specs.declared.expectation.Verdict.TheVariants as verdict
-use Rattle.expectations.specs.Answers.{is_so}
 use Rattle.expectations.specs.Comments.{expected}
-use Rattle.expectations.specs.Meaning.{first_have_values, has_value, verdict_of}
-use Rattle.expectations.specs.Questions.{AreExpected, IsAsked, IsExpected, no_fault, no_more, one_more}
-use Rattle.explorer_laws.specs.Runs.{HasEachValue, HoldsAtEnd, MeetsAll}
 
 both_true : (a b : Bool) → (a && b) ≡ true → (a ≡ true) × (b ≡ true)
 both_true true true is = (refl, refl)

@@ -1,14 +1,9 @@
 -- What a search that came to its end says of each run.
-use Rattle.std.proofs.Common.{◌≡◌, ℕ, false, Option, Some, None, List, refl, subst, ◌∙◌}
-use Rattle.std.specs.Prelude.{Contains, is_some}
+use Rattle.explorer_laws.proofs.Prelude.{◌≡◌, ℕ, false, Option, Some, None, List, refl, subst, ◌∙◌, Contains, is_some, RecordView, ran, ScriptView, EachRunIsListed, NoRunBreaks}
 use Rattle.script_parser.specs.declared.limits.TheConstants.{NESTING}
-use Rattle.swift_journal.specs.Records.{RecordView}
-use Rattle.swift_history.specs.Histories.{ran}
 use Rattle.swift_script.specs.Accepted.{IsAccepted}
-use Rattle.swift_script.specs.Scripts.{ScriptView}
 use Rattle.swift_script.proofs.Accepting.{same_spelled}
 use Rattle.swift_laws.proofs.OpenExecutors.{runs_on_executor}
-use Rattle.explorer_laws.specs.Runs.{EachRunIsListed, NoRunBreaks}
 use Rattle.explorer_laws.proofs.Records.{folds_none, in_blocks}
 
 pub listed : EachRunIsListed

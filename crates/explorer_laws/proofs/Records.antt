@@ -1,12 +1,7 @@
 -- Records of a history's blocks, and a report that has all of them.
-use Rattle.std.proofs.Common.{◌≡◌, ℕ, zero, suc, ◌==◌, Bool, true, false, List, [], ◌∷◌, refl, sym, ap, ap₂, ◌∙◌, arith}
+use Rattle.explorer_laws.proofs.Prelude.{◌≡◌, ℕ, zero, suc, ◌==◌, Bool, true, false, List, [], ◌∷◌, refl, sym, ap, ap₂, ◌∙◌, arith, Option, Some, None, if◌then◌else◌, slice_get, Contains, cons_option, RecordView, Block, ReportView, added, begun, ran, folded, record_in, records_of, ScriptView}
 use Rattle.std.proofs.lemmas.Bool.Decides.{nat_tests}
-use Rattle.std.specs.Prelude.{Option, Some, None, if◌then◌else◌, slice_get, Contains}
-use Rattle.std.specs.List.{cons_option}
-use Rattle.swift_journal.specs.Records.{RecordView}
-use Rattle.swift_history.specs.Histories.{Block, ReportView, added, begun, ran, folded, record_in, records_of}
 use Rattle.swift_journal.specs.Checkpoints.{CheckpointView}
-use Rattle.swift_script.specs.Scripts.{ScriptView}
 use Rattle.swift_course.specs.Course.{starts}
 use Rattle.swift_course.proofs.Starts.{none_folded_at}
 use Rattle.swift_digest.specs.Explored.{FoldsNone}

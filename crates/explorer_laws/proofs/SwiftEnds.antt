@@ -1,9 +1,6 @@
 -- What the ends of tasks say of Swift.
-use Rattle.std.proofs.Common.{◌≡◌, zero, suc, Bool, true, false, List, [], ◌∷◌, refl, sym, ap, ◌∙◌, arith}
-use Rattle.std.specs.Prelude.{Contains, not, ◌&&◌, ◌||◌, if◌then◌else◌}
-use Rattle.std.specs.List.{list_all}
+use Rattle.explorer_laws.proofs.Prelude.{◌≡◌, zero, suc, Bool, true, false, List, [], ◌∷◌, refl, sym, ap, ◌∙◌, arith, Contains, not, ◌&&◌, ◌||◌, if◌then◌else◌, list_all, same}
 use Rattle.explorer_answers.specs.declared.meaning.SwiftMeaning.TheVariants as swift
-use Rattle.explorer_answers.specs.SwiftMeanings.{same}
 
 both_true : (a b : Bool) → (a && b) ≡ true → (a ≡ true) × (b ≡ true)
 both_true true true is = (refl, refl)

@@ -1,14 +1,10 @@
 -- Runs by the schedule that was asked for.
-use Rattle.std.proofs.Common.{◌≡◌, ◌∙◌, ℕ, List, ◌++◌, length, take, sym, subst, ap}
+use Rattle.nuchapay.proofs.Prelude.{◌≡◌, ◌∙◌, ℕ, List, ◌++◌, length, take, sym, subst, ap, Result, Ok, Err, IfOk, ScriptView, Move, IsChoice, IsCompleted, IsRunOrNone}
 use Rattle.std.proofs.lemmas.List.{take_at}
-use Rattle.std.specs.Prelude.{Result, Ok, Err, IfOk}
-use Rattle.swift_script.specs.Scripts.{ScriptView}
-use Rattle.swift_explorer.specs.declared.moves.Move.{Move}
 use Rattle.swift_tool.specs.declared.fault.ToolFault.{ToolFault}
 use Rattle.nuchapay_tool.specs.declared.requests.ScheduleChoice.{ScheduleChoice}
 use Rattle.nuchapay.specs.declared.scheduled.ChosenRun.{ChosenRun}
 use Rattle.nuchapay.specs.declared.scheduled.ChosenRun.TheVariants as chosen
-use Rattle.nuchapay.specs.Scheduled.{IsChoice, IsCompleted, IsRunOrNone}
 
 -- a schedule that was asked for, and was led to its end
 pub completed : (script : ScriptView) (choice : ScheduleChoice) (schedule : List Move) (r : ChosenRun) → IsChoice script choice schedule → IsCompleted script schedule r → IsRunOrNone script choice r

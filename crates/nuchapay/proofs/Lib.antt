@@ -1,2 +1,3 @@
+pub mod Prelude
 mod OfRun
 mod Chosen

@@ -1,9 +1,6 @@
 -- The text of a report that is of a run.
-use Rattle.std.proofs.Common.{◌≡◌, ℕ, Bool, List, refl}
-use Rattle.swift_script.specs.Scripts.{ScriptView}
+use Rattle.nuchapay.proofs.Prelude.{◌≡◌, ℕ, Bool, List, refl, ScriptView, report_text, IsRunOf, end_well}
 use Rattle.swift_report.specs.declared.report.Report.{Report}
-use Rattle.swift_report.specs.Text.{report_text}
-use Rattle.swift_tool.specs.Run.{IsRunOf, end_well}
 use Rattle.nuchapay.specs.Runs.{IsReportOf}
 
 pub run_of : (bytes : List ℕ) (script : ScriptView) (report : Report) (quiet well : Bool) → IsReportOf bytes script report → well ≡ end_well report.endings.items → IsRunOf bytes quiet (report_text script report quiet) well

@@ -1,17 +1,6 @@
 -- A report with what is said of each turn is the report, with lines of notes in it.
-use Rattle.std.proofs.Common.{◌≡◌, ℕ, ◌+◌, ℤ, List, [], ◌∷◌, ◌++◌, length, refl, sym, ap, ap₂, subst, ◌∙◌, append_assoc, append-nil}
-use Rattle.std.specs.Prelude.{codes, false, true, slice_get}
-use Rattle.swift_types.specs.declared.outcome.Ending.{Ending}
-use Rattle.swift_events.specs.declared.life.Origin.{Origin}
-use Rattle.swift_script.specs.Scripts.{ScriptView, actor_count}
-use Rattle.swift_journal.specs.Checkpoints.{CheckpointRoomView}
-use Rattle.swift_journal.specs.Records.{RecordView}
-use Rattle.swift_journal.specs.Replay.{fields_after}
-use Rattle.swift_report.specs.Text.{executor_text, executors_text, fields_text, folded_count, folded_text, heading_text, line_of, report_text, tasks_text, turn_text, turns_text}
-use Rattle.swift_report.specs.declared.report.Report.{Report}
-use Rattle.nuchapay_runs.specs.Noted.{broken_lines, fields_before, first_lines, front_of, noted_executor, noted_executors, noted_text, noted_turn, noted_turns, notes_text}
-use Rattle.nuchapay_runs.specs.Notes.{IsAnnotated, NotedPart, change_lines, note_line, note_lines, with_notes, without_notes}
-use Rattle.run_pictures.specs.Values.{ValuesView, turn_values}
+use Rattle.nuchapay_runs.proofs.Prelude.{◌≡◌, ℕ, ◌+◌, ℤ, List, [], ◌∷◌, ◌++◌, length, refl, sym, ap, ap₂, subst, ◌∙◌, append_assoc, append-nil, codes, false, true, slice_get, Ending, Origin, ScriptView, actor_count, CheckpointRoomView, RecordView, fields_after, executor_text, executors_text, folded_count, folded_text, heading_text, line_of, report_text, tasks_text, turn_text, turns_text, Report, broken_lines, fields_before, first_lines, front_of, noted_executor, noted_executors, noted_text, noted_turn, noted_turns, notes_text, IsAnnotated, NotedPart, change_lines, note_line, note_lines, with_notes, without_notes, ValuesView, turn_values}
+use Rattle.swift_report.specs.Text.{fields_text}
 
 without_append : (ps qs : List NotedPart) → without_notes (ps ++ qs) ≡ without_notes ps ++ without_notes qs
 without_append [] qs = refl

@@ -1,12 +1,5 @@
 -- Bindings that stood, the outermost first.
-use Rattle.std.proofs.Common.{◌≡◌, ℕ, ◌+◌, ◌<◌, ℤ, List, [], ◌∷◌, ◌++◌, length, drop, get_or, map, reverse, refl, sym, ap, ◌∙◌}
-use Rattle.std.proofs.lemmas.List.{at_drop_more, map-append, reverse-append, reverse-reverse}
-use Rattle.script_code.specs.Seen.{pair_of, pairs_of}
-use Rattle.script_code.specs.declared.sight.Binding.{Binding}
-use Rattle.swift_script.specs.Scripts.{ScriptView}
-use Rattle.nuchapay_runs.specs.SaysInside.{Says}
-use Rattle.nuchapay_runs.specs.Why.{binding_text, bindings_text}
-use Rattle.nuchapay_runs.specs.declared.text.Text.{Text}
+use Rattle.nuchapay_runs.proofs.Prelude.{◌≡◌, ℕ, ◌+◌, ◌<◌, ℤ, List, [], ◌∷◌, ◌++◌, length, drop, get_or, map, reverse, refl, sym, ap, ◌∙◌, at_drop_more, map-append, reverse-append, reverse-reverse, pair_of, pairs_of, Binding, ScriptView, Says, binding_text, bindings_text, Text}
 use Rattle.nuchapay_runs.proofs.Joined.{UpTo, more}
 
 map_reverse : {A B : Type 0} (f : A → B) (xs : List A) → map f (reverse xs) ≡ reverse (map f xs)

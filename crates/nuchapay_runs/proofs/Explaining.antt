@@ -1,22 +1,10 @@
 -- The text that explains a turn.
-use Rattle.std.proofs.Common.{◌≡◌, ℕ, ◌<◌, false, List, [], subst, ◌∙◌}
-use Rattle.std.specs.Prelude.{Contains, IfNone, IfOk, IfSome, None, Ok, Err, Option, Result, Some, slice_get}
-use Rattle.std.proofs.lemmas.List.Elements.{Contains-get_or}
+use Rattle.nuchapay_runs.proofs.Prelude.{◌≡◌, ℕ, ◌<◌, false, List, [], subst, ◌∙◌, Contains, IfNone, IfOk, IfSome, None, Ok, Err, Option, Result, Some, slice_get, Contains-get_or, Ending, Origin, ScriptView, CheckpointRoomView, RecordView, Report, Explains, IsInJournalOf, IsKnown, IsLast, IsNotFolded, IsWhyAt, Says, KnownTurn, why_text, Text}
 use Rattle.std.proofs.lemmas.Option.{get_or_from_slice_get, slice_get_within}
 use Rattle.std.specs.Global.{Vec}
-use Rattle.swift_types.specs.declared.outcome.Ending.{Ending}
-use Rattle.swift_events.specs.declared.life.Origin.{Origin}
-use Rattle.swift_script.specs.Scripts.{ScriptView}
-use Rattle.swift_journal.specs.Checkpoints.{CheckpointRoomView}
-use Rattle.swift_journal.specs.Records.{RecordView}
-use Rattle.swift_report.specs.declared.report.Report.{Report}
 use Rattle.run_pictures.specs.LastTurns.{IsLastTurn, IsOfOther}
-use Rattle.nuchapay_runs.specs.Explains.{Explains, IsInJournalOf, IsKnown, IsLast, IsNotFolded, IsWhyAt}
-use Rattle.nuchapay_runs.specs.SaysInside.{Says}
-use Rattle.nuchapay_runs.specs.Why.{KnownTurn, why_text}
 use Rattle.nuchapay_runs.specs.declared.explained.Explained.{Explained}
 use Rattle.nuchapay_runs.specs.declared.explained.Explained.TheVariants as said
-use Rattle.nuchapay_runs.specs.declared.text.Text.{Text}
 use Rattle.nuchapay_runs.proofs.Joined.{whole}
 use Rattle.nuchapay_runs.proofs.Standing.{turn_at}
 

@@ -1,5 +1,5 @@
 -- What follows where there is a value.
-use Rattle.std.specs.Prelude.{IfSome, Option, Some, None}
+use Rattle.nuchapay_runs.proofs.Prelude.{IfSome, Option, Some, None}
 
 pub if_some : {A : Type 0} {P Q : A → Type 0} (o : Option A) → ((v : A) → P v → Q v) → IfSome o P → IfSome o Q
 if_some (Some v) then given = then v given

@@ -1,8 +1,5 @@
 -- Texts that are written piece by piece.
-use Rattle.std.proofs.Common.{◌≡◌, ℕ, false, List, [], ◌∷◌, ◌++◌, append_assoc, append-nil, refl, sym, ap, ◌∙◌}
-use Rattle.nuchapay_runs.specs.declared.text.Text.{Text}
-use Rattle.nuchapay_runs.specs.Notes.{note_line, note_lines}
-use Rattle.nuchapay_runs.specs.SaysInside.{Says}
+use Rattle.nuchapay_runs.proofs.Prelude.{◌≡◌, ℕ, false, List, [], ◌∷◌, ◌++◌, append_assoc, append-nil, refl, sym, ap, ◌∙◌, Text, note_line, note_lines, Says}
 
 -- one after the other
 pub both : {a b c : Text} {v w : List ℕ} → Says a b v → Says b c w → Says a c (v ++ w)

@@ -1,3 +1,4 @@
+pub mod Prelude
 mod Annotated
 mod Bound
 mod Explaining

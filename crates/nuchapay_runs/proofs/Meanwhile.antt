@@ -1,15 +1,5 @@
 -- Turns between two places of a journal.
-use Rattle.std.proofs.Common.{◌≡◌, ℕ, ◌+◌, ◌<◌, List, ◌++◌, length, get_or, sym, ap, ap₂, ◌∙◌}
-use Rattle.std.specs.Prelude.{flat_map, slice_range}
-use Rattle.swift_types.specs.declared.outcome.Ending.{Ending}
-use Rattle.swift_events.specs.declared.life.Origin.{Origin}
-use Rattle.swift_script.specs.Scripts.{ScriptView}
-use Rattle.swift_journal.specs.Records.{RecordView}
-use Rattle.run_pictures.specs.Values.{ValuesView}
-use Rattle.run_pictures.proofs.Ranges.{first_of, range_more}
-use Rattle.nuchapay_runs.specs.SaysInside.{Says}
-use Rattle.nuchapay_runs.specs.Why.{blamed_text, kept_changes, meanwhile_text}
-use Rattle.nuchapay_runs.specs.declared.text.Text.{Text}
+use Rattle.nuchapay_runs.proofs.Prelude.{◌≡◌, ℕ, ◌+◌, ◌<◌, List, ◌++◌, length, get_or, sym, ap, ap₂, ◌∙◌, flat_map, slice_range, Ending, Origin, ScriptView, RecordView, ValuesView, first_of, range_more, Says, blamed_text, kept_changes, meanwhile_text, Text}
 use Rattle.nuchapay_runs.proofs.Joined.{UpTo, more}
 
 -- the changes of one turn more

@@ -1,23 +1,11 @@
 -- What is said of turns, one after the other.
-use Rattle.std.proofs.Common.{◌≡◌, ℕ, ◌+◌, ◌<◌, ℤ, List, [], ◌++◌, length, drop, get_or, refl, sym, ap, ap₂, ◌∙◌, arith}
-use Rattle.std.proofs.lemmas.List.{at_drop_more}
-use Rattle.swift_types.specs.declared.outcome.Ending.{Ending}
-use Rattle.swift_events.specs.declared.life.Origin.{Origin}
-use Rattle.swift_script.specs.Scripts.{ScriptView}
+use Rattle.nuchapay_runs.proofs.Prelude.{◌≡◌, ℕ, ◌+◌, ◌<◌, ℤ, List, [], ◌++◌, length, drop, get_or, refl, sym, ap, ap₂, ◌∙◌, arith, at_drop_more, Ending, Origin, ScriptView, RecordView, fields_after, noted_turn, noted_turns, notes_text, differences, outcome_of, played_turn, turn_values, Text, Change, Says, first_of}
 use Rattle.swift_turn.specs.Body.{invariants_at, state_at}
-use Rattle.swift_journal.specs.Records.{RecordView}
-use Rattle.swift_journal.specs.Replay.{fields_after}
 use Rattle.run_pictures.specs.KeepingInside.{fields_of}
-use Rattle.nuchapay_runs.specs.Noted.{noted_turn, noted_turns, notes_text}
-use Rattle.run_pictures.specs.Values.{differences, outcome_of, played_turn, turn_values}
-use Rattle.nuchapay_runs.specs.declared.text.Text.{Text}
-use Rattle.run_pictures.specs.declared.values.change.Change.{Change}
 use Rattle.run_pictures.specs.declared.values.change.Outcome.{Outcome}
 use Rattle.run_pictures.specs.declared.values.change.Outcome.TheVariants.{Kept, Undone, Broke}
-use Rattle.nuchapay_runs.specs.SaysInside.{Says}
 use Rattle.nuchapay_runs.proofs.Joined.{UpTo, more}
 use Rattle.run_pictures.proofs.Keeping.{kept_fields}
-use Rattle.run_pictures.proofs.Ranges.{first_of}
 
 by_outcome : (p : ScriptView) (e : ℕ) (before left : List (List ℤ)) (changes : List Change) (o : Outcome)
     → notes_text p e (fields_of o before left) (record { outcome = o; changes = changes }) ≡ notes_text p e before (record { outcome = o; changes = changes })

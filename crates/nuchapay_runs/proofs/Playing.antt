@@ -1,11 +1,5 @@
 -- What the turns of a journal did, one by one.
-use Rattle.std.proofs.Common.{◌≡◌, ℕ, zero, suc, ◌<◌, ℤ, List, [], ◌∷◌, length, take, get_or, refl, sym, ap, ap₂, ◌∙◌, arith}
-use Rattle.std.proofs.lemmas.List.{get_or-map, length-map}
-use Rattle.swift_script.specs.Scripts.{ScriptView}
-use Rattle.swift_journal.specs.Records.{RecordView}
-use Rattle.swift_journal.specs.Replay.{fields_after, replay}
-use Rattle.run_pictures.specs.Values.{ValuesView, turn_values, values_from, values_view, values_views}
-use Rattle.run_pictures.specs.declared.values.change.TurnValues.{TurnValues}
+use Rattle.nuchapay_runs.proofs.Prelude.{◌≡◌, ℕ, zero, suc, ◌<◌, ℤ, List, [], ◌∷◌, length, take, get_or, refl, sym, ap, ap₂, ◌∙◌, arith, get_or-map, length-map, ScriptView, RecordView, fields_after, replay, ValuesView, turn_values, values_from, values_view, values_views, TurnValues}
 
 values_length : (p : ScriptView) (before : List (List ℤ)) (j : List RecordView) → length (values_from p before j) ≡ length j
 values_length p before [] = refl

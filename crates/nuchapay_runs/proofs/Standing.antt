@@ -1,10 +1,5 @@
 -- A turn stands at a place.
-use Rattle.std.proofs.Common.{◌≡◌, ◌<◌, ℕ, List, length, get_or}
-use Rattle.std.proofs.lemmas.List.Elements.{Contains-get_or}
-use Rattle.swift_journal.specs.Records.{RecordView}
-use Rattle.swift_journal.specs.Checkpoints.{FoldedView}
-use Rattle.nuchapay_runs.specs.Explains.{HasFolded, HasTurn}
-use Rattle.run_pictures.proofs.Ranges.{first_of}
+use Rattle.nuchapay_runs.proofs.Prelude.{◌≡◌, ◌<◌, ℕ, List, length, get_or, Contains-get_or, RecordView, FoldedView, HasFolded, HasTurn, first_of}
 
 pub turn_at : (rs : List RecordView) (k task number : ℕ) → k < length rs → ((d : RecordView) → ((get_or rs k d).task ≡ task) × ((get_or rs k d).number ≡ number)) → HasTurn rs task number
 turn_at rs k task number lt is = (let d = first_of rs k lt in (get_or rs k d, Contains-get_or rs k d lt, (is d).0, (is d).1))

@@ -1,11 +1,5 @@
 -- The turns that events apply.
-use Rattle.std.proofs.Common.{◌≡◌, ℕ, ◌+◌, ◌-◌, ◌<◌, ◌≤◌, Bool, if◌then◌else◌, List, [], ◌∷◌, ◌++◌, length, drop, take, get_or, sym, ap, refl, ◌∙◌, arith}
-use Rattle.std.specs.Prelude.{Option, Some, None, is_some}
-use Rattle.std.proofs.lemmas.List.{length-append, take-append-drop}
-use Rattle.swift_types.specs.declared.id.TaskId.{TaskId}
-use Rattle.swift_events.specs.declared.event.Event.{Event}
-use Rattle.run_page.specs.RunJson.{applied_turn, applied_turns, before_others, last_turns}
-use Rattle.run_page.specs.declared.explanations.TheConstants.{EXPLAINED}
+use Rattle.run_page.proofs.Prelude.{◌≡◌, ℕ, ◌+◌, ◌-◌, ◌<◌, ◌≤◌, Bool, if◌then◌else◌, List, [], ◌∷◌, ◌++◌, length, drop, take, get_or, sym, ap, refl, ◌∙◌, arith, Option, Some, None, is_some, length-append, take-append-drop, TaskId, Event, applied_turn, applied_turns, before_others, last_turns, EXPLAINED}
 use Rattle.run_page.proofs.Events.{from_place}
 
 -- the turns from one event on

@@ -1,8 +1,5 @@
 -- The events of a log, one more at a time.
-use Rattle.std.proofs.Common.{◌≡◌, ℕ, ◌+◌, ◌<◌, List, [], ◌∷◌, ◌++◌, length, drop, get_or, sym, ap, ◌∙◌, arith, append_assoc}
-use Rattle.std.proofs.lemmas.List.{drop_more}
-use Rattle.swift_events.specs.declared.event.Event.{Event}
-use Rattle.run_page.specs.RunJson.{event_json, events_json}
+use Rattle.run_page.proofs.Prelude.{◌≡◌, ℕ, ◌+◌, ◌<◌, List, [], ◌∷◌, ◌++◌, length, drop, get_or, sym, ap, ◌∙◌, arith, append_assoc, drop_more, Event, event_json, events_json}
 
 -- an element of a list that has one
 first_of : {X : Type 0} (xs : List X) (k : ℕ) → k < length xs → X

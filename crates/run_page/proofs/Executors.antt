@@ -1,8 +1,5 @@
 -- What the turns of executors did, one executor more at a time.
-use Rattle.std.proofs.Common.{◌≡◌, ℕ, suc, ◌+◌, ◌-◌, ◌<◌, ◌++◌, arith, ap}
-use Rattle.swift_script.specs.Scripts.{ScriptView}
-use Rattle.swift_report.specs.declared.report.Report.{Report}
-use Rattle.run_page.specs.RunJson.{all_values_json, listed_json}
+use Rattle.run_page.proofs.Prelude.{◌≡◌, ℕ, suc, ◌+◌, ◌-◌, ◌<◌, ◌++◌, arith, ap, ScriptView, Report, all_values_json, listed_json}
 
 -- the first executor, and then the others
 pub values_of : (p : ScriptView) (r : Report) (k n : ℕ) → k < n → all_values_json p r k (n - k) ≡ listed_json p r k ++ all_values_json p r (k + 1) (n - (k + 1))

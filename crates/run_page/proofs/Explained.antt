@@ -1,16 +1,9 @@
 -- What is told of turns, one more at a time.
-use Rattle.std.proofs.Common.{◌≡◌, ℕ, ◌+◌, ◌<◌, List, ◌++◌, length, drop, get_or, sym, ap, refl, subst, ◌∙◌, append_assoc, append-nil}
-use Rattle.std.specs.Prelude.{Option, Some, None, Result, Ok, Err, OnOk}
+use Rattle.run_page.proofs.Prelude.{◌≡◌, ℕ, ◌+◌, ◌<◌, List, ◌++◌, length, drop, get_or, sym, ap, refl, subst, ◌∙◌, append_assoc, append-nil, Option, Some, None, Result, Ok, Err, OnOk, ScriptView, TaskId, Event, Report, Explains, Tells, AppendsTold, AreTold, ExplainedTurn, IsTold, IsToldOfOne, all_explained_json, applied_turn, applied_turns, before_others, explained_json, told_of}
 use Rattle.std.specs.declared.vec.Vec.{Vec}
 use Rattle.std.specs.declared.alloc.Global.{Global}
 use Rattle.std.proofs.lemmas.Grind.{flat_map-append}
-use Rattle.swift_script.specs.Scripts.{ScriptView}
-use Rattle.swift_types.specs.declared.id.TaskId.{TaskId}
-use Rattle.swift_events.specs.declared.event.Event.{Event}
-use Rattle.swift_report.specs.declared.report.Report.{Report}
-use Rattle.nuchapay_runs.specs.Explains.{Explains, Tells}
 use Rattle.nuchapay_runs.specs.declared.explained.Explained.TheVariants as said
-use Rattle.run_page.specs.RunJson.{AppendsTold, AreTold, ExplainedTurn, IsTold, IsToldOfOne, all_explained_json, applied_turn, applied_turns, before_others, explained_json, told_of}
 use Rattle.run_page.proofs.Applied.{applied_from}
 
 -- what explains a turn is told

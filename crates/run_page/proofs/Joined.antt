@@ -1,7 +1,5 @@
 -- Texts that grow piece by piece.
-use Rattle.std.proofs.Common.{◌≡◌, ℕ, List, ◌++◌, ap, ◌∙◌, append_assoc}
-use Rattle.std.specs.Prelude.{Result, Ok, Err, OnOk}
-use Rattle.run_page.specs.RunJson.{AppendsTold, ExplainedTurn}
+use Rattle.run_page.proofs.Prelude.{◌≡◌, ℕ, List, ◌++◌, ap, ◌∙◌, append_assoc, Result, Ok, Err, OnOk, AppendsTold, ExplainedTurn}
 
 -- after a text stands one more piece
 pub onto : (x0 x1 x2 text piece : List ℕ) → x1 ≡ x0 ++ text → x2 ≡ x1 ++ piece → x2 ≡ x0 ++ (text ++ piece)

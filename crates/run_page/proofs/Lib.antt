@@ -1,3 +1,4 @@
+pub mod Prelude
 mod Applied
 mod Events
 mod Executors

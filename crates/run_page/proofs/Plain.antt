@@ -1,7 +1,6 @@
 -- What is escaped has no byte that could begin or end markup.
-use Rattle.std.proofs.Common.{◌≡◌, ◌∙◌, ℕ, ◌==◌, Bool, true, false, ◌&&◌, ◌||◌, not, List, [], ◌∷◌, ap, ap₂, codes, refl, if◌then◌else◌}
+use Rattle.run_page.proofs.Prelude.{◌≡◌, ◌∙◌, ℕ, ◌==◌, Bool, true, false, ◌&&◌, ◌||◌, not, List, [], ◌∷◌, ap, ap₂, codes, refl, if◌then◌else◌, IsPlain, escaped, escaped_byte, is_plain}
 use Rattle.std.proofs.lemmas.List.Folds.{list_all-append}
-use Rattle.run_page.specs.Escapes.{IsPlain, escaped, escaped_byte, is_plain}
 
 -- the spelling of a byte, by whether it is each of the three
 by_byte : (b : ℕ) (less more and : Bool) → (b == 60) ≡ less → (b == 62) ≡ more → (b == 38) ≡ and →

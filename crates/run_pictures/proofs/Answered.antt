@@ -1,5 +1,5 @@
 -- What follows where an answer is Ok.
-use Rattle.std.specs.Prelude.{IfOk, OnOk, Result, Ok, Err}
+use Rattle.run_pictures.proofs.Prelude.{IfOk, OnOk, Result, Ok, Err}
 
 pub on_ok : {A B P Q : Type 0} (r : Result A B) → (P → Q) → OnOk r P → OnOk r Q
 on_ok (Ok v) then given = then given

@@ -1,8 +1,6 @@
 -- Events of a log, up to the next block.
-use Rattle.std.proofs.Common.{◌≡◌, ℕ, ◌+◌, ◌<◌, true, false, if◌then◌else◌, List, ◌∷◌, length, drop, get_or, sym, ap, ◌∙◌}
-use Rattle.std.proofs.lemmas.List.{at_drop_more}
+use Rattle.run_pictures.proofs.Prelude.{◌≡◌, ℕ, ◌+◌, ◌<◌, true, false, if◌then◌else◌, List, ◌∷◌, length, drop, get_or, sym, ap, ◌∙◌, at_drop_more, begins_block, goes_on, only_goes_on}
 use Rattle.swift_events.specs.declared.event.Event.{Event}
-use Rattle.run_pictures.specs.GivingWay.{begins_block, goes_on, only_goes_on}
 
 -- the event at a place, and then those after it
 pub block_more : (t : ℕ) (log : List Event) (i : ℕ) (e : Event) → i < length log → ((d : Event) → e ≡ get_or log i d)

@@ -1,14 +1,7 @@
 -- Turns of a journal, and journals, of which one is asked after the other.
-use Rattle.std.proofs.Common.{◌≡◌, ℕ, ◌+◌, ◌<◌, ◌≤◌, Bool, true, false, if◌then◌else◌, List, [], ◌∷◌, length, drop, get_or, refl, sym, ap, ◌∙◌, inl, inr, arith}
+use Rattle.run_pictures.proofs.Prelude.{◌≡◌, ℕ, ◌+◌, ◌<◌, ◌≤◌, Bool, true, false, if◌then◌else◌, List, [], ◌∷◌, length, drop, get_or, refl, sym, ap, ◌∙◌, inl, inr, arith, cases_lt, at_drop_all, at_drop_more, ScriptView, RecordView, TurnValues, breaks_at, breaks_in, is_broke, is_turn, values_from, values_views}
 use Prim.Native.Nat.{min}
-use Rattle.std.proofs.lemmas.Bool.{cases_lt}
-use Rattle.std.proofs.lemmas.List.{at_drop_all, at_drop_more}
-use Rattle.swift_script.specs.Scripts.{ScriptView}
 use Rattle.swift_journal.specs.Checkpoints.{CheckpointRoomView}
-use Rattle.swift_journal.specs.Records.{RecordView}
-use Rattle.run_pictures.specs.declared.values.change.TurnValues.{TurnValues}
-use Rattle.run_pictures.specs.Breaking.{breaks_at, breaks_in, is_broke, is_turn}
-use Rattle.run_pictures.specs.Values.{values_from, values_views}
 
 pub turn_more : (t n i : ℕ) (rs : List RecordView) (vs : List TurnValues) (r : RecordView) (v : TurnValues) (here : Bool) → i < length rs → i < length vs → ((d : RecordView) → here ≡ is_turn t n (get_or rs i d))
     → breaks_in t n (drop i rs) (values_views (drop i vs)) ≡ (if here then is_broke (get_or vs i v).outcome else breaks_in t n (drop (i + 1) rs) (values_views (drop (i + 1) vs)))

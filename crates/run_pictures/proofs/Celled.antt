@@ -1,12 +1,8 @@
 -- Each turn is in one cell, in order, and a cell of several has turns that only give way.
-use Rattle.std.proofs.Common.{◌≡◌, ℕ, zero, suc, ◌+◌, ◌-◌, ◌≤◌, Bool, true, false, List, [], ◌∷◌, ◌++◌, length, take, drop, refl, sym, ap, ◌∙◌, inl, inr, arith, subst, append_assoc}
-use Rattle.std.specs.Prelude.{All, nat_lt, replicate}
-use Rattle.std.proofs.lemmas.Bool.{cond_both, ltb-false}
-use Rattle.std.proofs.lemmas.List.{append-nil, drop-drop, length-replicate, replicate_more}
+use Rattle.run_pictures.proofs.Prelude.{◌≡◌, ℕ, zero, suc, ◌+◌, ◌-◌, ◌≤◌, Bool, true, false, List, [], ◌∷◌, ◌++◌, length, take, drop, refl, sym, ap, ◌∙◌, inl, inr, arith, subst, append_assoc, All, nat_lt, replicate, cond_both, ltb-false, drop-drop, length-replicate, replicate_more, Cell, AreOf, IsQuiet, cell, cells_from, cells_of, run_cells, single_cells}
+use Rattle.std.proofs.lemmas.List.{append-nil}
 use Rattle.std.proofs.lemmas.List.Elements.{All-append, All-cons, All-nil}
 use Rattle.std.proofs.Math.Seq.{drop-append-add}
-use Rattle.run_pictures.specs.declared.picture.cells.Cell.{Cell}
-use Rattle.run_pictures.specs.Cells.{AreOf, IsQuiet, cell, cells_from, cells_of, run_cells, single_cells}
 
 -- a cell for each of n turns, and then those after them
 singles_are : (at n to : ℕ) (cs : List Cell) → AreOf (at + n) cs to → AreOf at (single_cells at n ++ cs) to

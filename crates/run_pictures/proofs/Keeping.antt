@@ -1,16 +1,11 @@
 -- What is kept of a turn, by what becomes of it.
-use Rattle.std.proofs.Common.{◌≡◌, ℕ, ◌+◌, ℤ, Bool, true, false, if◌then◌else◌, Some, List, [], ◌∷◌, refl, sym, ap, ◌∙◌}
-use Rattle.script_code.specs.Tree.{Term}
+use Rattle.run_pictures.proofs.Prelude.{◌≡◌, ℕ, ◌+◌, ℤ, Bool, true, false, if◌then◌else◌, Some, List, [], ◌∷◌, refl, sym, ap, ◌∙◌, Term, ScriptView, RecordView, fields_after, broken, first_false, outcome_of, played_turn}
 use Rattle.script_code.specs.Value.{holds}
 use Rattle.swift_interpreter.specs.Turn.{TurnStateView, ExitView, failing, Played, undoes, all_hold, exits, left_by, kept_of}
 use Rattle.run_pictures.specs.declared.values.change.Outcome.{Outcome}
 use Rattle.run_pictures.specs.declared.values.change.Outcome.TheVariants.{Undone}
-use Rattle.swift_script.specs.Scripts.{ScriptView}
 use Rattle.swift_turn.specs.Body.{invariants_at, state_at}
-use Rattle.swift_journal.specs.Records.{RecordView}
-use Rattle.swift_journal.specs.Replay.{fields_after}
 use Rattle.run_pictures.specs.KeepingInside.{fields_of}
-use Rattle.run_pictures.specs.Values.{broken, first_false, outcome_of, played_turn}
 use Rattle.swift_types.specs.declared.outcome.Fault.{Fault}
 use Rattle.swift_types.specs.declared.outcome.Fault.TheVariants.{Invariant}
 

@@ -1,3 +1,4 @@
+pub mod Prelude
 pub mod Answered
 mod Blocks
 mod Breaks

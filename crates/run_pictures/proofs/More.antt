@@ -1,9 +1,6 @@
 -- One more turn has its box.
-use Rattle.std.proofs.Common.{◌≡◌, ℕ, ◌+◌, ◌<◌, List, [], ◌∷◌, ◌++◌, length, drop, map, get_or, sym, ap, ◌∙◌, append_assoc}
-use Rattle.std.proofs.lemmas.List.{drop_more}
-use Rattle.swift_journal.specs.Records.{RecordView}
+use Rattle.run_pictures.proofs.Prelude.{◌≡◌, ℕ, ◌+◌, ◌<◌, List, [], ◌∷◌, ◌++◌, length, drop, map, get_or, sym, ap, ◌∙◌, append_assoc, drop_more, RecordView, box_of}
 use Rattle.run_pictures.specs.declared.picture.boxes.TurnBox.{TurnBox}
-use Rattle.run_pictures.specs.Boxes.{box_of}
 use Rattle.run_pictures.proofs.Ranges.{first_of}
 
 boxes_from : (e place : ℕ) (j : List RecordView) (b : TurnBox) → place < length j → ((d : RecordView) → b ≡ box_of e (get_or j place d))

@@ -1,12 +1,10 @@
 -- A method that a script lacks has no statements, and is of the first actor.
-use Rattle.std.proofs.Common.{◌≡◌, ℕ, ◌≤◌, zero, suc, Option, List, [], ◌∷◌, length, refl, sym, ap, subst}
-use Rattle.std.specs.Prelude.{slice_get, unwrap_or}
+use Rattle.run_pictures.proofs.Prelude.{◌≡◌, ℕ, ◌≤◌, zero, suc, Option, List, [], ◌∷◌, length, refl, sym, ap, subst, slice_get, Code, end, ScriptView, parts_of, no_method, method_actor, method_code, method_count}
+use Rattle.std.specs.Prelude.{unwrap_or}
 use Rattle.std.proofs.lemmas.Option.{slice_get_past}
 use Rattle.script_code.specs.Instructions.{FollowsCode, first}
 use Rattle.script_code.specs.Layout.{code_at}
-use Rattle.script_code.specs.Tree.{Code, end}
 use Rattle.script_compiler.specs.Compiled.{MethodView}
-use Rattle.swift_script.specs.Scripts.{ScriptView, parts_of, no_method, method_actor, method_code, method_count}
 
 -- an element past the last
 pub past : {X : Type 0} (xs : List X) (none : X) (k : ℕ) → length xs ≤ k → unwrap_or (slice_get xs k) none ≡ none

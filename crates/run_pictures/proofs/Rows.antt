@@ -1,12 +1,9 @@
 -- Rows of fields, of which those that differ were saved.
-use Rattle.std.proofs.Common.{◌≡◌, ℕ, ℤ, ◌+◌, ◌<◌, Bool, true, false, if◌then◌else◌, List, [], ◌∷◌, ◌++◌, ◌==◌, ◌≤◌, pos, length, take, drop, set, get_or, refl, sym, ap, ap₂, ◌∙◌, inl, inr, arith}
+use Rattle.run_pictures.proofs.Prelude.{◌≡◌, ℕ, ℤ, ◌+◌, ◌<◌, Bool, true, false, if◌then◌else◌, List, [], ◌∷◌, ◌++◌, ◌==◌, ◌≤◌, pos, length, take, drop, set, get_or, refl, sym, ap, ap₂, ◌∙◌, inl, inr, arith, cases_eq, cases_lt, cond-false, ne_eqb, eq-eqb, get_or-set_other, get_or-drop, at_drop_more, at_drop_all, drop-drop, drop-set-lt, take_more, take_more_set, Change, difference, differences, row_differences}
 use Prim.Native.Nat.{min}
-use Rattle.std.proofs.lemmas.Bool.{cases_eq, cases_lt, cond-false, ne_eqb, eq-eqb}
 use Rattle.std.proofs.lemmas.Bool.Decides.{Decides-int_eq}
-use Rattle.std.proofs.lemmas.List.{get_or-set_other, get_or-drop, length-set, append-nil, at_drop_more, at_drop_all, drop-drop, drop-set-lt, take_more, take_more_set}
+use Rattle.std.proofs.lemmas.List.{length-set, append-nil}
 use Rattle.swift_interpreter.specs.Saved.{restored, is_saved}
-use Rattle.run_pictures.specs.declared.values.change.Change.{Change}
-use Rattle.run_pictures.specs.Values.{difference, differences, row_differences}
 
 -- a row that was not saved is as before
 pub row_stays : (saved : List (ℕ × List ℤ)) (fields : List (List ℤ)) (row : ℕ) → is_saved saved row ≡ false → get_or (restored saved fields) row [] ≡ get_or fields row []

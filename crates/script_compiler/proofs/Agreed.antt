@@ -1,19 +1,7 @@
 -- What handles hold agrees with the names that stand.
-use Rattle.std.proofs.Common.{◌≡◌, ◌<◌, ◌≤◌, ℕ, zero, suc, true, false, List, [], ◌∷◌, ◌++◌, take, length, Some, ap, refl, sym, ◌∙◌, arith, ◌⊎◌, inl, inr}
-use Rattle.std.specs.Prelude.{count_by, slice_get, ◌==◌}
-use Rattle.std.proofs.Math.Seq.{take-append_seam}
-use Rattle.std.proofs.lemmas.List.{take-append-le}
-use Rattle.std.proofs.lemmas.Bool.{cases_lt, ne_eqb, eq-eqb, cond-true, cond-false}
-use Rattle.std.proofs.lemmas.Option.{slice_get_within}
-use Rattle.script_grammar.specs.Tree.{Let, LetTask, StmtTree, Do}
-use Rattle.script_names.specs.declared.scope.NameKind.{NameKind}
+use Rattle.script_compiler.proofs.Prelude.{◌≡◌, ◌<◌, ◌≤◌, ℕ, zero, suc, true, false, List, [], ◌∷◌, ◌++◌, take, length, Some, ap, refl, sym, ◌∙◌, arith, ◌⊎◌, inl, inr, count_by, slice_get, ◌==◌, take-append_seam, take-append-le, cases_lt, ne_eqb, eq-eqb, cond-true, cond-false, slice_get_within, Let, LetTask, StmtTree, Do, NameKind, is_among, place_of, fields_at, ScopeView, with_standing, scope_after, with_parameters, is_handle, handle_place, Held, none_held, held_at}
 use Rattle.script_names.specs.declared.scope.NameKind.TheVariants as kind
-use Rattle.script_names.specs.Texts.{is_among, place_of}
-use Rattle.script_names.specs.Directory.{fields_at}
-use Rattle.script_names.specs.Scope.{ScopeView, with_standing, meaning_of}
-use Rattle.script_names.specs.Rules.{scope_after, with_parameters}
-use Rattle.script_compiler.specs.Lowered.{is_handle, handle_place}
-use Rattle.script_compiler.specs.Handles.{Held, none_held, held_at}
+use Rattle.script_names.specs.Scope.{meaning_of}
 use Rattle.script_compiler.proofs.Named.{before_all, own_meaning}
 
 -- The handle of each task and of each group that stands holds it.

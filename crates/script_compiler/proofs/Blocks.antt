@@ -1,15 +1,5 @@
 -- Blocks, statement by statement.
-use Rattle.std.proofs.Common.{◌≡◌, ℕ, suc, ◌+◌, ◌<◌, List, [], ◌∷◌, ◌++◌, length, map, refl, sym, ap, subst, ◌∙◌, get_or, take, drop, add-one, drop-cons}
-use Rattle.std.proofs.Math.Seq.{take-suc}
-use Rattle.std.proofs.lemmas.List.{map_push}
-use Rattle.script_grammar.specs.Tree.{StmtTree, BlockTree, first_then, block_tree, view_stmt}
-use Rattle.script_grammar.specs.declared.statement.Stmt.{Stmt}
-use Rattle.script_names.specs.Scope.{ScopeView}
-use Rattle.script_names.specs.Rules.{scope_after}
-use Rattle.script_code.specs.declared.instruction.Instruction.{Instruction}
-use Rattle.script_compiler.specs.Plan.{PlanView}
-use Rattle.script_compiler.specs.Lowered.{stmt_code, block_code}
-use Rattle.script_compiler.specs.StandingInside.{scope_through}
+use Rattle.script_compiler.proofs.Prelude.{◌≡◌, ℕ, suc, ◌+◌, ◌<◌, List, [], ◌∷◌, ◌++◌, length, map, refl, sym, ap, subst, ◌∙◌, get_or, take, drop, add-one, drop-cons, take-suc, map_push, StmtTree, BlockTree, first_then, block_tree, view_stmt, Stmt, ScopeView, scope_after, Instruction, PlanView, stmt_code, block_code, scope_through}
 use Rattle.script_compiler.proofs.Lines.{IsWritten, both_written}
 
 -- the statements that are left, at one of them

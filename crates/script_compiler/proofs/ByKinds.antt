@@ -1,16 +1,7 @@
 -- The plan of a script is that of its declarations by kinds.
-use Rattle.std.proofs.Common.{◌≡◌, ℕ, ◌+◌, ℤ, Bool, true, false, Option, Some, None, List, [], ◌∷◌, length, map, refl, sym, ap, ◌∙◌}
-use Rattle.std.specs.Prelude.{if◌then◌else◌}
-use Rattle.script_grammar.specs.Tree.{MethodTree, ActorTree, DeclTree, Executes, Binds, Acts, Roots}
-use Rattle.script_names.specs.Texts.{is_among, place_of}
-use Rattle.script_names.specs.Methods.{method_key}
-use Rattle.script_names.specs.Directory.{DirectoryView, with_method, with_methods, with_actor, with_names, with_decl, with_decls, nothing_declared, directory_of, executors_in}
-use Rattle.script_compiler.specs.Plan.{PlanView, plan_of, defaults_in, executors_from, on_executor}
-use Rattle.script_printing.specs.Script.{ScriptView, declarations_of, script_in}
+use Rattle.script_compiler.proofs.Prelude.{◌≡◌, ℕ, ◌+◌, ℤ, Bool, true, false, Option, Some, None, List, [], ◌∷◌, length, map, refl, sym, ap, ◌∙◌, if◌then◌else◌, MethodTree, ActorTree, DeclTree, Executes, Binds, Acts, Roots, is_among, place_of, method_key, DirectoryView, with_method, with_methods, with_actor, with_names, with_decl, with_decls, nothing_declared, directory_of, executors_in, PlanView, plan_of, defaults_in, on_executor, ScriptView, declarations_of, script_in, plan_in, IsChecked, executors_on, plan_from}
+use Rattle.script_compiler.specs.Plan.{executors_from}
 use Rattle.script_printing.proofs.ByKind.{script_again}
-use Rattle.script_compiler.specs.Compiled.{plan_in}
-use Rattle.script_compiler.specs.Checked.{IsChecked}
-use Rattle.script_compiler.specs.PlanInside.{executors_on, plan_from}
 use Rattle.script_compiler.proofs.LoweredInOrder.{same_executors}
 
 -- what a directory has beside actors

@@ -1,14 +1,7 @@
 -- A call whose names are in order is of a method that is there.
-use Rattle.std.proofs.Common.{◌≡◌, ◌<◌, ℕ, suc, ◌+◌, Bool, true, false, cond, List, [], ◌∷◌, length, Some, None, ap, refl, sym, ◌∙◌, arith}
-use Rattle.std.specs.Prelude.{◌||◌, not, ◌==◌, if◌then◌else◌, slice_get}
+use Rattle.script_compiler.proofs.Prelude.{◌≡◌, ◌<◌, ℕ, suc, ◌+◌, Bool, true, false, cond, List, [], ◌∷◌, length, Some, None, ap, refl, sym, ◌∙◌, arith, ◌||◌, not, ◌==◌, if◌then◌else◌, slice_get, and_parts, eqb-true, Unknown, Arguments, is_among, place_of, DirectoryView, key_of, has_method, method_place, arity_of, at_name, target_error, IsDeclaredCall}
 use Rattle.std.specs.Str.{bytes_eq}
-use Rattle.std.proofs.lemmas.Bool.{and_parts, eqb-true}
 use Rattle.std.proofs.lemmas.Slice.Eq.{bytes_eq-Decides}
-use Rattle.script_names.specs.declared.error.NameErrorKind.TheVariants.{Unknown, Arguments}
-use Rattle.script_names.specs.Texts.{is_among, place_of}
-use Rattle.script_names.specs.Directory.{DirectoryView, key_of, has_method, method_place, arity_of}
-use Rattle.script_names.specs.Rules.{at_name, target_error}
-use Rattle.script_compiler.specs.Targets.{IsDeclaredCall}
 use Rattle.script_compiler.proofs.Clear.{at_name_none}
 
 place_first : (b : Bool) (k : ℕ) (l : ℕ) → (b ≡ false → k < l) → cond (not b) (1 + k) 0 < suc l

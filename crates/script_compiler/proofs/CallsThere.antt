@@ -1,21 +1,7 @@
 -- A method that is called or that a root runs is there.
-use Rattle.std.proofs.Common.{◌≡◌, ℕ, ◌+◌, suc, inl, inr, Option, Some, None, List, [], ◌∷◌, ◌++◌, length, map, refl, sym, ap, ◌∙◌, subst, add-one}
-use Rattle.std.specs.Prelude.{slice_get, unwrap_or, option_map}
-use Rattle.std.proofs.lemmas.List.{map-append}
-use Rattle.std.proofs.lemmas.Option.{none-some, same_Some, slice_get-map}
-use Rattle.script_grammar.specs.Tree.{MethodTree, DeclTree, Executes, Binds, Acts, Roots}
-use Rattle.script_names.specs.Methods.{method_key}
+use Rattle.script_compiler.proofs.Prelude.{◌≡◌, ℕ, ◌+◌, suc, inl, inr, Option, Some, None, List, [], ◌∷◌, ◌++◌, length, map, refl, sym, ap, ◌∙◌, subst, add-one, slice_get, unwrap_or, option_map, map-append, none-some, same_Some, slice_get-map, MethodTree, DeclTree, Executes, Binds, Acts, Roots, method_key, DirectoryView, params_in, declared_in, directory_of, names_error, nothing_left_out, CallTarget, Wanted, Operation, Code, end, act, choice, loop, PlanView, plan_of, script_in, MethodView, method_of, methods_from, compiled_by, IsDeclaredCall, TargetFits, WantedFits, OperationFits, TargetsFit, operations_in}
 use Rattle.script_names.specs.Directory as directory
-use Rattle.script_names.specs.Directory.{DirectoryView, params_in, declared_in, directory_of}
-use Rattle.script_names.specs.Rules.{names_error}
-use Rattle.script_names.proofs.LeftOut.{nothing_left_out}
 use Rattle.script_code.specs.Tree as code
-use Rattle.script_code.specs.Tree.{CallTarget, Wanted, Operation, Code, end, act, choice, loop}
-use Rattle.script_compiler.specs.Plan.{PlanView, plan_of}
-use Rattle.script_printing.specs.Script.{script_in}
-use Rattle.script_compiler.specs.Compiled.{MethodView, method_of, methods_from, compiled_by}
-use Rattle.script_compiler.specs.Targets.{IsDeclaredCall, TargetFits, WantedFits, OperationFits, TargetsFit}
-use Rattle.script_compiler.specs.Waiting.{operations_in}
 use Rattle.script_compiler.specs.Calls.{target_wanted, target_in, CallsAreThere, RootsAreThere, CheckedCalls, CheckedRoots}
 use Rattle.script_compiler.proofs.Membership.{Has, has_cases, has_contained}
 use Rattle.script_compiler.proofs.ByKinds.{same_plan}

@@ -1,13 +1,6 @@
 -- Chains of entries after a push.
-use Rattle.std.proofs.Common.{◌≡◌, ◌≢◌, ℕ, zero, suc, ◌≤◌, ◌<◌, ◌⊎◌, List, Option, None, Some, [], ◌∷◌, ◌++◌, length, get_or, set, replicate, refl, ap, sym, subst, ◌∙◌, inl, inr, arith}
-use Rattle.std.proofs.lemmas.List.{get_or-set_same, get_or-set_other, length_push, length-set}
-use Rattle.std.proofs.lemmas.Option.{none-some, same_Some, slice_get_within}
-use Rattle.std.proofs.lemmas.Bool.{cases_eq, cases_lt}
+use Rattle.script_compiler.proofs.Prelude.{◌≡◌, ◌≢◌, ℕ, zero, suc, ◌≤◌, ◌<◌, ◌⊎◌, List, Option, None, Some, [], ◌∷◌, ◌++◌, length, get_or, set, replicate, refl, ap, sym, subst, ◌∙◌, inl, inr, arith, get_or-set_same, get_or-set_other, length_push, length-set, none-some, same_Some, slice_get_within, cases_eq, cases_lt, InChain, last_of, end_of, AreOrderly, Pushes, AreEmpty, at, after, ListEntry, MethodLists}
 use Rattle.std.specs.List.{slice_get}
-use Rattle.script_compiler.specs.ListsInside.{InChain, last_of, end_of, AreOrderly, Pushes, AreEmpty}
-use Rattle.script_compiler.specs.ListsInside.InChain.{at, after}
-use Rattle.script_compiler.specs.declared.waits.lists.ListEntry.{ListEntry}
-use Rattle.script_compiler.specs.declared.waits.lists.MethodLists.{MethodLists}
 
 slice_get-push_old : {X : Type 0} (xs : List X) (y x : X) (k : ℕ) → slice_get xs k ≡ Some x → slice_get (xs ++ y ∷ []) k ≡ Some x
 slice_get-push_old [] y x k h = absurd (none-some x h)

@@ -1,10 +1,7 @@
 -- What follows where no error was found: none in each part.
-use Rattle.std.proofs.Common.{◌≡◌, ℕ, Option, Some, None, refl}
+use Rattle.script_compiler.proofs.Prelude.{◌≡◌, ℕ, Option, Some, None, refl, NameErrorKind, NameKind, earlier, at_name, or_else, group_fault}
 use Rattle.script_names.specs.declared.error.NameError.{NameError}
-use Rattle.script_names.specs.declared.error.NameErrorKind.{NameErrorKind}
-use Rattle.script_names.specs.declared.scope.NameKind.{NameKind}
 use Rattle.script_names.specs.declared.scope.NameKind.TheVariants as kind
-use Rattle.script_names.specs.Rules.{earlier, at_name, or_else, group_fault}
 
 pub earlier_none : (f g : Option NameError) → earlier f g ≡ None → (f ≡ None) × (g ≡ None)
 earlier_none None g e = (refl, e)

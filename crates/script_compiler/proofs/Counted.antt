@@ -1,15 +1,6 @@
 -- Counts only grow along a block.
-use Rattle.std.proofs.Common.{◌≡◌, ◌≤◌, List, [], ◌∷◌, ◌++◌, refl, ◌∙◌, arith, add-zero}
-use Rattle.std.specs.Prelude.{cond}
-use Rattle.std.proofs.lemmas.List.Sums.{sum_by_push}
-use Rattle.script_grammar.specs.Tree.{Let, LetTask, HeadTree, If, While, Bind, Group, Assume, StmtTree, Do, Headed, IfElse, BlockTree, nothing, first_then}
-use Rattle.script_names.specs.declared.scope.NameKind.{NameKind}
+use Rattle.script_compiler.proofs.Prelude.{◌≡◌, ◌≤◌, List, [], ◌∷◌, ◌++◌, refl, ◌∙◌, arith, add-zero, cond, sum_by_push, Let, LetTask, HeadTree, If, While, Bind, Group, Assume, StmtTree, Do, Headed, IfElse, BlockTree, nothing, first_then, NameKind, ScopeView, scope_after, scope_within, PlaceCounts, is_number, is_handle, counts_of, counted, greater, counts_after, counts_within, most_in, most_of}
 use Rattle.script_names.specs.declared.scope.NameKind.TheVariants as kind
-use Rattle.script_names.specs.Scope.{ScopeView}
-use Rattle.script_names.specs.Rules.{scope_after, scope_within}
-use Rattle.script_compiler.specs.declared.lowering.counts.PlaceCounts.{PlaceCounts}
-use Rattle.script_compiler.specs.Lowered.{is_number, is_handle}
-use Rattle.script_compiler.specs.Counts.{counts_of, counted, greater, counts_after, counts_within, most_in, most_of}
 
 -- no more numbers and no more handles
 pub record AtMost (a b : PlaceCounts) : Type 0 where

@@ -1,10 +1,5 @@
 -- The counts after the last name.
-use Rattle.std.proofs.Common.{◌≡◌, ◌≤◌, List, length, sym, ap, ◌∙◌, arith}
-use Rattle.std.proofs.lemmas.List.{get_or_past}
-use Rattle.std.proofs.Math.Seq.{take-length}
-use Rattle.script_names.specs.declared.scope.NameKind.{NameKind}
-use Rattle.script_compiler.specs.declared.lowering.counts.PlaceCounts.{PlaceCounts}
-use Rattle.script_compiler.specs.Counts.{counts_of, AreCounts}
+use Rattle.script_compiler.proofs.Prelude.{◌≡◌, ◌≤◌, List, length, sym, ap, ◌∙◌, arith, get_or_past, take-length, NameKind, PlaceCounts, counts_of, AreCounts}
 
 pub here_is : (ks : List NameKind) (cs : List PlaceCounts) (here : PlaceCounts) → AreCounts ks cs here → here ≡ counts_of ks
 here_is ks cs here h =

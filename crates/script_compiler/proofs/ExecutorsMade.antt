@@ -1,18 +1,6 @@
 -- Executors, by how many actors there are and by the actors.
-use Rattle.std.proofs.Common.{◌≡◌, ℕ, suc, ◌+◌, Option, Some, List, [], ◌∷◌, ◌++◌, length, map, refl, sym, ap, subst, ◌∙◌, add-zero, arith}
-use Rattle.std.specs.Prelude.{◌==◌, if◌then◌else◌, All}
-use Rattle.std.proofs.lemmas.List.{length-map}
-use Rattle.script_grammar.specs.Tree.{ExecutorTree, ActorTree}
-use Rattle.script_compiler.specs.Plan.{PlanView, executor_at}
+use Rattle.script_compiler.proofs.Prelude.{◌≡◌, ℕ, suc, ◌+◌, Option, Some, List, [], ◌∷◌, ◌++◌, length, map, refl, sym, ap, subst, ◌∙◌, add-zero, arith, ◌==◌, if◌then◌else◌, All, length-map, ExecutorTree, ActorTree, PlanView, executor_at, Formula, Term, term_of, terms_of, term_if_lent, CompiledActor, CompiledExecutor, ActorView, ExecutorView, members_from, executors_from, actors_from, term_list, actor_view, executor_view, HasInvariants, members_below, executors_by}
 use denote.Bor.{Bor}
-use Rattle.script_code.specs.declared.formula.Formula.{Formula}
-use Rattle.script_code.specs.Tree.{Term, term_of, terms_of}
-use Rattle.script_code.specs.Seen.{term_if_lent}
-use Rattle.script_compiler.specs.declared.compiled.CompiledActor.{CompiledActor}
-use Rattle.script_compiler.specs.declared.compiled.CompiledExecutor.{CompiledExecutor}
-use Rattle.script_compiler.specs.Compiled.{ActorView, ExecutorView, members_from, executors_from, actors_from, term_list}
-use Rattle.script_compiler.specs.IsCompiled.{actor_view, executor_view, HasInvariants}
-use Rattle.script_compiler.specs.MembersInside.{members_below, executors_by}
 
 same_members : (p : PlanView) (e k : ℕ) (ts : List ActorTree) → members_below p e k (length ts) ≡ members_from p e k ts
 same_members p e k [] = refl

@@ -1,20 +1,6 @@
 -- Blocks with their heads.
-use Rattle.std.proofs.Common.{◌≡◌, ℕ, Bool, true, false, List, [], ◌∷◌, ◌++◌, length, map, refl, sym, ap, subst, ◌∙◌}
-use Rattle.std.specs.Prelude.{if◌then◌else◌, not, ◌==◌}
-use Rattle.std.proofs.lemmas.List.{append-nil}
-use Rattle.script_code.specs.Tree.{Code, followed, end, act}
+use Rattle.script_compiler.proofs.Prelude.{◌≡◌, ℕ, Bool, true, false, List, [], ◌∷◌, ◌++◌, length, map, refl, sym, ap, subst, ◌∙◌, if◌then◌else◌, not, ◌==◌, append-nil, Code, followed, end, act, first_by, does, entry, meaning_of, written, Act, Instruction, then_end, place_of, ScopeView, ExprTree, HeadTree, If, While, Bind, Group, Assume, PlanView, executor_at, lowered, headed_code, foot, HeadsAs, is_isolated, is_loop}
 use Rattle.script_code.specs.Tree as code
-use Rattle.script_code.specs.Instructions.{first_by, does}
-use Rattle.script_code.specs.Layout.{entry, meaning_of, written}
-use Rattle.script_code.specs.declared.instruction.Act.{Act}
-use Rattle.script_code.specs.declared.instruction.Instruction.{Instruction}
-use Rattle.script_code.proofs.Layouts.{then_end}
-use Rattle.script_names.specs.Texts.{place_of}
-use Rattle.script_names.specs.Scope.{ScopeView}
-use Rattle.script_grammar.specs.Tree.{ExprTree, HeadTree, If, While, Bind, Group, Assume}
-use Rattle.script_compiler.specs.Plan.{PlanView, executor_at}
-use Rattle.script_compiler.specs.Lowered.{lowered, headed_code}
-use Rattle.script_compiler.specs.HeadsInside.{foot, HeadsAs, is_isolated, is_loop}
 use Rattle.script_compiler.proofs.Lines.{IsWritten, lines_then, start_then, operation_lines, operation_start, choice_lines, choice_start}
 
 -- What a block with its head becomes, where it is no loop and is run: its foot, its block, and an instruction of its head.

@@ -1,5 +1,5 @@
 -- What holds of each part of two lists of statements holds of each part of both together.
-use Rattle.script_code.specs.Tree.{Term, Operation, Code, followed, end, act, choice, loop}
+use Rattle.script_compiler.proofs.Prelude.{Term, Operation, Code, followed, end, act, choice, loop}
 use Rattle.script_compiler.specs.Parts.{EachPart}
 
 pub each_then : (Does : Operation → Type 0) (Tests : Term → Type 0) (a b : Code) → EachPart Does Tests a → EachPart Does Tests b → EachPart Does Tests (followed a b)

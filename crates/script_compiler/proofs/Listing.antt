@@ -1,12 +1,5 @@
 -- Lists of the edges and of the waits that were looked at.
-use Rattle.std.proofs.Common.{◌≡◌, ℕ, ◌+◌, ◌<◌, ◌⊎◌, List, [], ◌∷◌, ◌++◌, length, get_or, take, min, ap, sym, subst, ◌∙◌, inl, inr}
-use Rattle.std.proofs.lemmas.List.{take_more}
-use Rattle.std.proofs.lemmas.List.Elements.{Contains-push, Contains-push_cases, Contains-append_left}
-use Rattle.script_compiler.specs.ListsInside.{Has, Pushes, AreListsOf}
-use Rattle.script_compiler.specs.FirstInside.{Calls, WaitsInPlace}
-use Rattle.script_compiler.specs.declared.waits.first.CallEdge.{CallEdge}
-use Rattle.script_compiler.specs.declared.waits.first.RootWait.{RootWait}
-use Rattle.script_compiler.specs.declared.waits.lists.MethodLists.{MethodLists}
+use Rattle.script_compiler.proofs.Prelude.{◌≡◌, ℕ, ◌+◌, ◌<◌, ◌⊎◌, List, [], ◌∷◌, ◌++◌, length, get_or, take, min, ap, sym, subst, ◌∙◌, inl, inr, take_more, Contains-push, Contains-push_cases, Contains-append_left, Has, Pushes, AreListsOf, Calls, WaitsInPlace, CallEdge, RootWait, MethodLists}
 
 one_more : (is_in was_in : ℕ → ℕ → Type 0) (count a m : ℕ) (old new : MethodLists) → AreListsOf was_in count old → Pushes a m old new
     → ((b n : ℕ) → was_in b n → is_in b n) → is_in a m → ((b n : ℕ) → is_in b n → was_in b n ⊎ ((b ≡ a) × (n ≡ m)))

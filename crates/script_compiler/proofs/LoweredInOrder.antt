@@ -1,13 +1,5 @@
 -- Where the names of a script are in order, few executors and actors are declared.
-use Rattle.std.proofs.Common.{◌≡◌, ◌<◌, ◌≤◌, ◌+◌, ℕ, suc, Bool, true, false, nat_le, List, [], ◌∷◌, length, None, ap, refl, ◌∙◌, arith}
-use Rattle.std.proofs.lemmas.Bool.{leb-false}
-use Rattle.swift_types.specs.declared.limits.TheConstants.{ACTORS, EXECUTORS}
-use Rattle.script_grammar.specs.Tree.{DeclTree, Executes, Binds, Acts, Roots}
-use Rattle.script_names.specs.declared.error.NameErrorKind.{NameErrorKind}
-use Rattle.script_names.specs.declared.error.NameErrorKind.TheVariants.{TooMany}
-use Rattle.script_names.specs.Directory.{DirectoryView, directory_of, executors_in, actors_in}
-use Rattle.script_names.specs.Rules.{SeenView, at_name, where_so, repeat_error, executor_error, actor_error, decl_error, past_decl, seen_after, declarations_error, names_error}
-use Rattle.script_names.proofs.LeftOut.{nothing_left_out}
+use Rattle.script_compiler.proofs.Prelude.{◌≡◌, ◌<◌, ◌≤◌, ◌+◌, ℕ, suc, Bool, true, false, nat_le, List, [], ◌∷◌, length, None, ap, refl, ◌∙◌, arith, leb-false, ACTORS, EXECUTORS, DeclTree, Executes, Binds, Acts, Roots, NameErrorKind, TooMany, DirectoryView, directory_of, executors_in, actors_in, SeenView, at_name, where_so, repeat_error, executor_error, actor_error, decl_error, past_decl, seen_after, declarations_error, names_error, nothing_left_out}
 use Rattle.script_compiler.proofs.Clear.{earlier_none, at_name_none}
 
 not_so : (b : Bool) (k : NameErrorKind) → where_so b k ≡ None → b ≡ false

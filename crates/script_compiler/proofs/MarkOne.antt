@@ -1,12 +1,6 @@
 -- Marks after one method was marked, and after two steps.
-use Rattle.std.proofs.Common.{◌≡◌, ℕ, ◌+◌, ◌≤◌, ◌<◌, ◌⊎◌, List, [], ◌∷◌, ◌++◌, Bool, true, false, not, cond, length, get_or, set, refl, ap, sym, subst, ◌∙◌, inl, inr, arith}
-use Rattle.std.proofs.lemmas.List.{get_or-set_same, get_or-set_other, length_push, length-set}
-use Rattle.std.proofs.lemmas.List.Sums.{sum_by-set}
-use Rattle.std.proofs.lemmas.List.Elements.{Contains-push, Contains-push_cases, Contains-append_left}
-use Rattle.std.proofs.lemmas.Bool.{cases_eq}
-use Rattle.std.specs.List.{Contains, count_by}
-use Rattle.script_compiler.specs.MarksInside.{count_of, Marking, MarkingAll}
-use Rattle.script_compiler.specs.declared.waits.marks.Marks.{Marks}
+use Rattle.script_compiler.proofs.Prelude.{◌≡◌, ℕ, ◌+◌, ◌≤◌, ◌<◌, ◌⊎◌, List, [], ◌∷◌, ◌++◌, Bool, true, false, not, cond, length, get_or, set, refl, ap, sym, subst, ◌∙◌, inl, inr, arith, get_or-set_same, get_or-set_other, length_push, length-set, sum_by-set, Contains-push, Contains-push_cases, Contains-append_left, cases_eq, Contains, count_of, Marking, MarkingAll, Marks}
+use Rattle.std.specs.List.{count_by}
 
 pub marking_none : (is_in : ℕ → Type 0) (s : Marks) → Marking is_in s s
 marking_none is_in s = record {

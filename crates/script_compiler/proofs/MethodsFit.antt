@@ -1,16 +1,6 @@
 -- The methods of a checked script fit their code, and its roots what they run.
-use Rattle.std.proofs.Common.{◌≡◌, ℕ, suc, None, inl, inr, List, [], ◌∷◌, length, map, subst}
-use Rattle.std.specs.List.{AllByRecursion}
-use Rattle.script_grammar.specs.Tree.{MethodTree, DeclTree, Executes, Binds, Acts, Roots}
-use Rattle.script_names.specs.Texts.{place_of}
-use Rattle.script_names.specs.Directory.{DirectoryView}
-use Rattle.script_names.specs.Rules.{names_error}
-use Rattle.script_printing.specs.Script.{script_in}
-use Rattle.script_compiler.specs.Plan.{PlanView, plan_of}
-use Rattle.script_compiler.specs.Targets.{IsDeclaredCall, TargetsFit}
-use Rattle.script_compiler.specs.Methods.{CodeFits, ScriptFits}
+use Rattle.script_compiler.proofs.Prelude.{◌≡◌, ℕ, suc, None, inl, inr, List, [], ◌∷◌, length, map, subst, AllByRecursion, MethodTree, DeclTree, Executes, Binds, Acts, Roots, place_of, DirectoryView, names_error, script_in, PlanView, plan_of, IsDeclaredCall, TargetsFit, CodeFits, ScriptFits, MethodView, RootView, method_of, methods_from, root_of, compiled_by}
 use Rattle.script_compiler.proofs.WholeScripts.{script_fits}
-use Rattle.script_compiler.specs.Compiled.{MethodView, RootView, method_of, methods_from, root_of, compiled_by}
 use Rattle.script_compiler.specs.Fits.{IsFitting, MethodsFit, CheckedMethods}
 use Rattle.script_compiler.proofs.Membership.{Has, has_cases, has_contained}
 use Rattle.script_compiler.proofs.ByKinds.{same_plan}

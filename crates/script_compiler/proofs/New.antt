@@ -1,15 +1,7 @@
 -- Where names are in order, each that a statement makes is new.
-use Rattle.std.proofs.Common.{◌≡◌, ◌+◌, ◌<◌, ℕ, zero, suc, Bool, true, false, ◌&&◌, List, [], ◌∷◌, length, map, take, get_or, Option, Some, None, ap, refl, subst, sym, ◌∙◌, arith}
-use Rattle.std.proofs.lemmas.Bool.{and_parts}
-use Rattle.std.specs.Prelude.{is_none}
-use Rattle.script_grammar.specs.declared.statement.Stmt.{Stmt}
-use Rattle.script_grammar.specs.Tree.{view_stmt, block_tree, ActionTree, Let, LetTask, HeadTree, Group, StmtTree, Do, Headed, IfElse, BlockTree, nothing, first_then}
-use Rattle.script_names.specs.declared.scope.NameKind.{NameKind}
+use Rattle.script_compiler.proofs.Prelude.{◌≡◌, ◌+◌, ◌<◌, ℕ, zero, suc, Bool, true, false, ◌&&◌, List, [], ◌∷◌, length, map, take, get_or, Option, Some, None, ap, refl, subst, sym, ◌∙◌, arith, and_parts, is_none, Stmt, view_stmt, block_tree, ActionTree, Let, LetTask, HeadTree, Group, StmtTree, Do, Headed, IfElse, BlockTree, nothing, first_then, NameKind, ScopeView, with_standing, past, past_head, past_stmt, past_block, at_name, new_fault, expression_error, value_error, make_error, action_error, head_error, stmt_error, block_error, parameters_error, scope_after, scope_within, scope_through, makes_new, opens_new, stmt_new, block_new, parameters_new}
 use Rattle.script_names.specs.declared.scope.NameKind.TheVariants as kind
-use Rattle.script_names.specs.Scope.{ScopeView, with_standing, meaning_of}
-use Rattle.script_names.specs.Rules.{past, past_head, past_stmt, past_block, at_name, new_fault, expression_error, value_error, make_error, action_error, head_error, stmt_error, block_error, parameters_error, scope_after, scope_within}
-use Rattle.script_compiler.specs.StandingInside.{scope_through}
-use Rattle.script_compiler.specs.New.{makes_new, opens_new, stmt_new, block_new, parameters_new}
+use Rattle.script_names.specs.Scope.{meaning_of}
 use Rattle.script_compiler.proofs.Clear.{earlier_none, at_name_none}
 use Rattle.script_compiler.proofs.Blocks.{through_more}
 

@@ -1,16 +1,8 @@
 -- The operations of a method's instructions are those of its code.
-use Rattle.std.proofs.Common.{◌≡◌, ℕ, zero, suc, inl, inr, Option, Some, None, List, [], ◌∷◌, ◌++◌, refl, sym, ap, ◌∙◌, subst, arith}
-use Rattle.std.specs.Prelude.{slice_get, unwrap_or}
+use Rattle.script_compiler.proofs.Prelude.{◌≡◌, ℕ, zero, suc, inl, inr, Option, Some, None, List, [], ◌∷◌, ◌++◌, refl, sym, ap, ◌∙◌, subst, arith, slice_get, unwrap_or, none-some, same_Some, Term, Operation, Code, followed, end, act, choice, loop, Act, Instruction, ends, does, tests, first, first_by, first_if, FollowsCode, entry, stands_for, code_written, exchanged, operations_in, operation_of}
 use Rattle.std.proofs.lemmas.Bool.Decides.{nat_tests}
-use Rattle.std.proofs.lemmas.Option.{none-some, same_Some}
-use Rattle.script_code.specs.Tree.{Term, Operation, Code, followed, end, act, choice, loop}
-use Rattle.script_code.specs.declared.instruction.Act.{Act}
 use Rattle.script_code.specs.declared.instruction.Act.TheVariants as acts
-use Rattle.script_code.specs.declared.instruction.Instruction.{Instruction}
-use Rattle.script_code.specs.Instructions.{ends, does, tests, first, first_by, first_if, FollowsCode}
-use Rattle.script_code.specs.Layout.{entry, stands_for, code_written, exchanged, code_at}
-use Rattle.script_compiler.specs.Waiting.{operations_in}
-use Rattle.script_compiler.specs.ActsInside.{operation_of}
+use Rattle.script_code.specs.Layout.{code_at}
 use Rattle.script_compiler.proofs.Membership.{Has, has_left, has_right, has_cases}
 
 same_act : (d e : Operation) (a b : Code) → act d a ≡ act e b → d ≡ e

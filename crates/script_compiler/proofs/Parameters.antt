@@ -1,10 +1,5 @@
 -- A script's directory has as many numbers of parameters as methods.
-use Rattle.std.proofs.Common.{◌≡◌, ℕ, List, [], ◌∷◌, ◌++◌, length, refl, arith, length-append}
-use Rattle.std.proofs.lemmas.Bool.{cond_both}
-use Rattle.script_grammar.specs.Tree.{MethodTree, ActorTree, DeclTree, Executes, Binds, Acts, Roots}
-use Rattle.script_names.specs.Texts.{is_among}
-use Rattle.script_names.specs.Methods.{method_key}
-use Rattle.script_names.specs.Directory.{DirectoryView, field_names, with_names, with_method, with_methods, with_actor, with_decls, directory_of, nothing_declared}
+use Rattle.script_compiler.proofs.Prelude.{◌≡◌, ℕ, List, [], ◌∷◌, ◌++◌, length, refl, arith, length-append, cond_both, MethodTree, ActorTree, DeclTree, Executes, Binds, Acts, Roots, is_among, method_key, DirectoryView, field_names, with_names, with_method, with_methods, with_actor, with_decls, directory_of, nothing_declared}
 
 abbrev AsMany : DirectoryView → Type 0
 AsMany d = length d.params ≡ length d.methods

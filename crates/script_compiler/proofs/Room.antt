@@ -1,26 +1,8 @@
 -- How much a script that is no larger than its text declares, and how many names stand and how many instructions are written in it.
-use Rattle.std.proofs.Common.{◌≡◌, ◌≤◌, ◌<◌, ◌+◌, ◌*◌, ℕ, zero, suc, List, [], ◌∷◌, ◌++◌, length, map, take, drop, get_or, ap, subst, sym, ◌∙◌, arith, length-append}
-use Rattle.std.specs.Prelude.{Bool, true, false, cond, if◌then◌else◌, count_by, slice_get, unwrap_or, None}
-use Rattle.std.proofs.lemmas.List.{length-map}
-use Rattle.std.proofs.lemmas.List.Sums.{sum_by-cons}
-use Rattle.swift_types.specs.declared.limits.TheConstants.{BYTES}
-use Rattle.script_grammar.specs.declared.statement.Stmt.{Stmt}
-use Rattle.script_grammar.specs.Tree.{Computed, Waited, ActionTree, Let, LetTask, Assign, HeadTree, If, While, Bind, Group, Assume, StmtTree, Do, Headed, IfElse, BlockTree, nothing, first_then, block_tree, view_stmt, MethodTree, DeclTree, Executes, Binds, Acts, Roots}
-use Rattle.script_grammar.specs.Size.{stmt_size, block_size, methods_size, script_size}
-use Rattle.script_names.specs.declared.scope.NameKind.{NameKind}
+use Rattle.script_compiler.proofs.Prelude.{◌≡◌, ◌≤◌, ◌<◌, ◌+◌, ◌*◌, ℕ, zero, suc, List, [], ◌∷◌, ◌++◌, length, map, take, drop, get_or, ap, subst, sym, ◌∙◌, arith, length-append, Bool, true, false, cond, if◌then◌else◌, count_by, slice_get, unwrap_or, None, length-map, sum_by-cons, BYTES, Stmt, Computed, Waited, ActionTree, Let, LetTask, Assign, HeadTree, If, While, Bind, Group, Assume, StmtTree, Do, Headed, IfElse, BlockTree, nothing, first_then, block_tree, view_stmt, MethodTree, DeclTree, Executes, Binds, Acts, Roots, stmt_size, block_size, methods_size, script_size, NameKind, DirectoryView, directory_of, declared_in, locals_in, roots_in, actors_in, fields_in, ScopeView, with_standing, names_error, scope_after, scope_within, with_parameters, nothing_left_out, Code, act, end, assume, isolated, count, count_then, PlanView, is_number, is_handle, action_code, headed_code, stmt_code, block_code, foot, scope_through}
 use Rattle.script_names.specs.declared.scope.NameKind.TheVariants as kind
-use Rattle.script_names.specs.Directory.{DirectoryView, directory_of, declared_in, locals_in, roots_in, actors_in, fields_in, methods_from}
-use Rattle.script_names.specs.Scope.{ScopeView, with_standing}
-use Rattle.script_names.specs.Rules.{names_error, scope_after, scope_within, with_parameters}
-use Rattle.script_names.proofs.LeftOut.{nothing_left_out}
-use Rattle.script_code.specs.Tree.{Code, act, end, assume, isolated}
-use Rattle.script_code.specs.Layout.{count}
-use Rattle.script_code.proofs.Layouts.{count_then}
-use Rattle.script_compiler.specs.Plan.{PlanView}
-use Rattle.script_compiler.specs.Lowered.{is_number, is_handle, action_code, headed_code, stmt_code, block_code}
+use Rattle.script_names.specs.Directory.{methods_from}
 use Rattle.script_compiler.specs.Few.{HasFewNames}
-use Rattle.script_compiler.specs.HeadsInside.{foot}
-use Rattle.script_compiler.specs.StandingInside.{scope_through}
 use Rattle.script_compiler.proofs.Blocks.{at_item, through_more}
 
 -- no more task locals, roots, actors and methods than the script is large

@@ -1,9 +1,5 @@
 -- A root as it is compiled.
-use Rattle.std.proofs.Common.{◌≡◌, ℕ, ℤ, List, ap, ◌∙◌}
-use Rattle.script_grammar.specs.Tree.{RootTree}
-use Rattle.script_names.specs.Directory.{DirectoryView, method_place}
-use Rattle.script_compiler.specs.Plan.{PlanView}
-use Rattle.script_compiler.specs.Compiled.{RootView, root_of}
+use Rattle.script_compiler.proofs.Prelude.{◌≡◌, ℕ, ℤ, List, ap, ◌∙◌, RootTree, DirectoryView, method_place, PlanView, RootView, root_of}
 
 pub root_made : (p : PlanView) (r : RootTree) (d : DirectoryView) (actor method name : List ℕ) (args : List ℤ) (k : ℕ)
     → d ≡ p.directory → actor ≡ r.actor → method ≡ r.method → k ≡ method_place d actor method → name ≡ r.name → args ≡ r.args

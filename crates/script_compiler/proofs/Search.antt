@@ -1,19 +1,7 @@
 -- What is marked after each root, and the first root so far.
-use Rattle.std.proofs.Common.{◌≡◌, ℕ, ◌+◌, ◌≤◌, ◌<◌, ◌⊎◌, List, Option, None, Some, length, sym, subst, ◌∙◌, inl, inr, arith}
-use Rattle.std.proofs.lemmas.Bool.{cases_eq}
-use Rattle.std.proofs.lemmas.Option.{slice_get_within, same_Some}
-use Rattle.std.specs.List.{Contains, slice_get}
+use Rattle.script_compiler.proofs.Prelude.{◌≡◌, ℕ, ◌+◌, ◌≤◌, ◌<◌, ◌⊎◌, List, Option, None, Some, length, sym, subst, ◌∙◌, inl, inr, arith, cases_eq, slice_get_within, same_Some, Contains, Leads, WaitsForLater, NoneBefore, NoneWaits, here, on, Has, AreListsOf, IsMarked, count_of, CallsTo, IsClosed, Reaching, AreNone, itself, by, Calls, WaitsInPlace, LeadsToWait, AreMarks, IsFirstFrom, CallEdge, RootWait, MethodLists, Marks}
+use Rattle.std.specs.List.{slice_get}
 use Rattle.std.specs.Option.{IfSome, IfNone}
-use Rattle.script_compiler.specs.Waits.{Leads, WaitsForLater, NoneBefore, NoneWaits}
-use Rattle.script_compiler.specs.Waits.Leads.{here, on}
-use Rattle.script_compiler.specs.ListsInside.{Has, AreListsOf}
-use Rattle.script_compiler.specs.MarksInside.{IsMarked, count_of, CallsTo, IsClosed, Reaching, AreNone}
-use Rattle.script_compiler.specs.MarksInside.CallsTo.{itself, by}
-use Rattle.script_compiler.specs.FirstInside.{Calls, WaitsInPlace, LeadsToWait, AreMarks, IsFirstFrom}
-use Rattle.script_compiler.specs.declared.waits.first.CallEdge.{CallEdge}
-use Rattle.script_compiler.specs.declared.waits.first.RootWait.{RootWait}
-use Rattle.script_compiler.specs.declared.waits.lists.MethodLists.{MethodLists}
-use Rattle.script_compiler.specs.declared.waits.marks.Marks.{Marks}
 
 sooner : (edges : List CallEdge) (waits : List RootWait) (p q m : ℕ) → p ≤ q → LeadsToWait edges waits q m → LeadsToWait edges waits p m
 sooner edges waits p q m l w = record { at = w.at; leads = w.leads; later = w.later; wait = w.wait; not_before = let n = w.not_before in omega (arith, l, n) }

@@ -1,21 +1,6 @@
 -- Sizes, one thing after the other; and a script that is no larger than its text has few methods.
-use Rattle.std.proofs.Common.{◌≡◌, ◌≤◌, ◌<◌, ◌+◌, ℕ, suc, List, [], ◌∷◌, length, map, drop, get_or, ap, arith, length-append}
-use Rattle.std.specs.List.{AllZip}
-use Rattle.std.proofs.lemmas.List.{length-map}
-use Rattle.swift_types.specs.declared.limits.TheConstants.{BYTES}
-use Rattle.script_grammar.specs.declared.declaration.Method.{Method}
-use Rattle.script_grammar.specs.declared.declaration.Actor.{Actor}
-use Rattle.script_grammar.specs.Tree.{view_method, view_actor, DeclTree, Executes, Binds, Acts, Roots}
-use Rattle.script_grammar.specs.Size.{method_size, methods_size, script_size}
-use Rattle.script_names.specs.Directory.{DirectoryView}
-use Rattle.script_printing.specs.Script.{ScriptView, script_in}
-use Rattle.script_compiler.specs.Checked.{IsChecked}
-use Rattle.script_compiler.specs.Plan.{PlanView}
-use Rattle.script_compiler.specs.MembersInside.{actors_size}
+use Rattle.script_compiler.proofs.Prelude.{◌≡◌, ◌≤◌, ◌<◌, ◌+◌, ℕ, suc, List, [], ◌∷◌, length, map, drop, get_or, ap, arith, length-append, AllZip, length-map, BYTES, Method, Actor, view_method, view_actor, DeclTree, Executes, Binds, Acts, Roots, method_size, methods_size, script_size, DirectoryView, ScriptView, script_in, IsChecked, PlanView, actors_size, Compiled, method_of, methods_from, compiled_by, IsCompiled}
 use Rattle.script_compiler.proofs.Room.{few_in}
-use Rattle.script_compiler.specs.declared.compiled.Compiled.{Compiled}
-use Rattle.script_compiler.specs.Compiled.{method_of, methods_from, compiled_by}
-use Rattle.script_compiler.specs.IsCompiled.{IsCompiled}
 use Rattle.script_compiler.proofs.Steps.{front}
 
 -- the next of some methods, and those after it

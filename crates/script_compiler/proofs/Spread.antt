@@ -1,14 +1,5 @@
 -- The marks while callers are marked, and after it.
-use Rattle.std.proofs.Common.{◌≡◌, ℕ, ◌<◌, ◌⊎◌, List, [], ◌∷◌, ◌++◌, Bool, false, true, length, get_or, refl, ap, sym, subst, ◌∙◌, inl, inr}
-use Rattle.std.proofs.lemmas.List.Elements.{Contains-push, Contains-push_cases, Contains-append_left}
-use Rattle.std.proofs.lemmas.List.{get_or_past}
-use Rattle.std.proofs.lemmas.Bool.{cases_lt, both_ways}
-use Rattle.std.specs.List.{Contains}
-use Rattle.script_compiler.specs.ListsInside.{Has}
-use Rattle.script_compiler.specs.MarksInside.{IsMarked, IsPending, count_of, MarkingAll, CallsTo, IsClosed, IsClosedButPending, ArePendingMarked, Spreading, Reaching}
-use Rattle.script_compiler.specs.MarksInside.CallsTo.{itself, by}
-use Rattle.script_compiler.specs.declared.waits.lists.MethodLists.{MethodLists}
-use Rattle.script_compiler.specs.declared.waits.marks.Marks.{Marks}
+use Rattle.script_compiler.proofs.Prelude.{◌≡◌, ℕ, ◌<◌, ◌⊎◌, List, [], ◌∷◌, ◌++◌, Bool, false, true, length, get_or, refl, ap, sym, subst, ◌∙◌, inl, inr, Contains-push, Contains-push_cases, Contains-append_left, get_or_past, cases_lt, both_ways, Contains, Has, IsMarked, IsPending, count_of, MarkingAll, CallsTo, IsClosed, IsClosedButPending, ArePendingMarked, Spreading, Reaching, itself, by, MethodLists, Marks}
 
 -- what is marked is a method
 pub marked_within : (xs : List Bool) (m : ℕ) → get_or xs m false ≡ true → m < length xs

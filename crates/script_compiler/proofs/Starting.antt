@@ -1,12 +1,7 @@
 -- The first invariant that does not hold at the start, by rows that are made once.
-use Rattle.std.proofs.Common.{◌≡◌, ℕ, zero, suc, ℤ, Option, Some, List, [], ◌∷◌, map, refl, ap, ◌∙◌}
-use Rattle.std.specs.Prelude.{if◌then◌else◌, slice_get}
+use Rattle.script_compiler.proofs.Prelude.{◌≡◌, ℕ, zero, suc, ℤ, Option, Some, List, [], ◌∷◌, map, refl, ap, ◌∙◌, if◌then◌else◌, slice_get, Compiled, ExecutorView, ActorView, CompiledView, members_if, IsCompiled, executor_view, actor_view, rows_among, rows_in, rows_at, first_false_in}
 use Rattle.script_code.specs.Value.{holds}
-use Rattle.script_compiler.specs.declared.compiled.Compiled.{Compiled}
-use Rattle.script_compiler.specs.Compiled.{ExecutorView, ActorView, CompiledView, members_if}
-use Rattle.script_compiler.specs.IsCompiled.{IsCompiled, executor_view, actor_view}
 use Rattle.script_compiler.specs.Starts.{starts_at, first_false_from}
-use Rattle.script_compiler.specs.RowsInside.{rows_among, rows_in, rows_at, first_false_in}
 
 rows_found : (xs : List ExecutorView) (actors : List ActorView) (e : ℕ) → rows_at (rows_in xs actors) e ≡ rows_among actors (members_if (slice_get xs e))
 rows_found [] actors e = refl

@@ -1,30 +1,12 @@
 -- Statements with blocks of their own.
-use Rattle.std.proofs.Common.{rules, ◌≡◌, ℕ, suc, ◌+◌, true, false, ◌&&◌, List, [], ◌∷◌, ◌++◌, length, map, take, refl, sym, ap, subst, ◌∙◌}
-use Rattle.std.specs.Prelude.{OnOk, IfOk, Result, Ok, Err, slice_set}
-use Rattle.std.proofs.lemmas.Bool.{and_parts}
-use Rattle.std.proofs.Math.Seq.{take-length, take-append_seam}
+use Rattle.script_compiler.proofs.Prelude.{rules, ◌≡◌, ℕ, suc, ◌+◌, true, false, ◌&&◌, List, [], ◌∷◌, ◌++◌, length, map, take, refl, sym, ap, subst, ◌∙◌, OnOk, IfOk, Result, Ok, Err, slice_set, and_parts, take-length, take-append_seam, ExprTree, HeadTree, BlockTree, block_tree, view, view_head, view_stmt, stmt_size, block_size, Expr, Stmt, Block, the_lemmas, Term, Code, end, choice, tests, entry, Meaning, meaning_of, written, Act, Instruction, ScopeView, scope_within, PlanView, lowered, headed_code, stmt_code, block_code, stmt_new, block_new, outside_of, left, is_isolated, is_loop}
 use Rattle.std.specs.Global.{Vec}
-use Rattle.script_grammar.specs.Tree.{ExprTree, HeadTree, BlockTree, block_tree, view, view_head, view_stmt}
 use Rattle.script_grammar.specs.Tree as tree
-use Rattle.script_grammar.specs.Size.{stmt_size, block_size}
-use Rattle.script_grammar.specs.declared.expression.Expr.{Expr}
 use Rattle.script_grammar.specs.declared.statement.Head.{Head}
 use Rattle.script_grammar.specs.declared.statement.Head.TheVariants as head
-use Rattle.script_grammar.specs.declared.statement.Stmt.{Stmt, Block, IfElse, the_lemmas}
-use Rattle.script_code.specs.Tree.{Term, Code, end, choice}
-use Rattle.script_code.specs.Instructions.{tests}
-use Rattle.script_code.specs.Layout.{entry, Meaning, meaning_of, written}
-use Rattle.script_code.specs.declared.instruction.Act.{Act}
-use Rattle.script_code.specs.declared.instruction.Instruction.{Instruction}
+use Rattle.script_grammar.specs.declared.statement.Stmt.{IfElse}
 use Rattle.script_names.specs.declared.scope.NameKind.TheVariants as kind
 use Rattle.script_names.specs.declared.scope.Outside.{Outside}
-use Rattle.script_names.specs.Scope.{ScopeView}
-use Rattle.script_names.specs.Rules.{scope_within}
-use Rattle.script_compiler.specs.Plan.{PlanView}
-use Rattle.script_compiler.specs.Lowered.{lowered, headed_code, stmt_code, block_code}
-use Rattle.script_compiler.specs.New.{stmt_new, block_new}
-use Rattle.script_compiler.specs.StandingInside.{outside_of, left}
-use Rattle.script_compiler.specs.HeadsInside.{is_isolated, is_loop}
 use Rattle.script_compiler.proofs.Lines.{IsWritten, choice_lines, choice_start, loop_lines, loop_start}
 use Rattle.script_compiler.proofs.Heads.{HasParts, head_written}
 

@@ -1,18 +1,5 @@
 -- One thing more, as a loop takes it.
-use Rattle.std.proofs.Common.{◌≡◌, ℕ, suc, ◌+◌, ◌-◌, ◌<◌, Bool, true, false, refl, List, [], ◌∷◌, ◌++◌, length, map, get_or, drop, take, eqb, add-one, drop-cons, sym, ap, subst, ◌∙◌, append_assoc, arith}
-use Rattle.std.specs.Prelude.{if◌then◌else◌}
-use Rattle.std.specs.List.{AllZip}
-use Rattle.std.proofs.lemmas.List.{map_push, take_more}
-use Rattle.std.proofs.lemmas.Bool.{eqb-true, eq-eqb}
-use Rattle.swift_types.specs.declared.id.ActorId.{ActorId}
-use Rattle.script_grammar.specs.Tree.{MethodTree, view_method, view_actor}
-use Rattle.script_grammar.specs.declared.declaration.Method.{Method}
-use Rattle.script_grammar.specs.declared.declaration.Actor.{Actor}
-use Rattle.script_compiler.specs.Plan.{PlanView, executor_at}
-use Rattle.script_compiler.specs.declared.compiled.CompiledMethod.{CompiledMethod}
-use Rattle.script_compiler.specs.Compiled.{MethodView, method_of, methods_from}
-use Rattle.script_compiler.specs.IsCompiled.{actor_number, IsMethod}
-use Rattle.script_compiler.specs.MembersInside.{members_below}
+use Rattle.script_compiler.proofs.Prelude.{◌≡◌, ℕ, suc, ◌+◌, ◌-◌, ◌<◌, Bool, true, false, refl, List, [], ◌∷◌, ◌++◌, length, map, get_or, drop, take, eqb, add-one, drop-cons, sym, ap, subst, ◌∙◌, append_assoc, arith, if◌then◌else◌, AllZip, map_push, take_more, eqb-true, eq-eqb, ActorId, MethodTree, view_method, view_actor, Method, Actor, PlanView, executor_at, CompiledMethod, MethodView, method_of, methods_from, actor_number, IsMethod, members_below}
 
 -- the first of what is left
 pub front : {A : Type 0} (xs : List A) (i : ℕ) (x : A) → i < length xs → x ≡ get_or xs i x → drop i xs ≡ x ∷ drop (i + 1) xs

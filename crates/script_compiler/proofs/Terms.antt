@@ -1,9 +1,5 @@
 -- Expressions, one by one.
-use Rattle.std.proofs.Common.{◌≡◌, ℕ, suc, ◌+◌, ◌<◌, List, [], ◌∷◌, ◌++◌, length, map, refl, sym, ap, ◌∙◌, get_or, drop, add-one, drop-cons}
-use Rattle.script_grammar.specs.Tree.{ExprTree, view}
-use Rattle.script_grammar.specs.declared.expression.Expr.{Expr}
-use Rattle.script_code.specs.Tree.{Term, term_of, terms_of}
-use Rattle.script_code.specs.declared.formula.Formula.{Formula}
+use Rattle.script_compiler.proofs.Prelude.{◌≡◌, ℕ, suc, ◌+◌, ◌<◌, List, [], ◌∷◌, ◌++◌, length, map, refl, sym, ap, ◌∙◌, get_or, drop, add-one, drop-cons, ExprTree, view, Expr, Term, term_of, terms_of, Formula}
 
 -- one formula more
 one_more : (fs : List Formula) (f : Formula) (ts : List Term) → terms_of (fs ++ f ∷ []) ++ ts ≡ terms_of fs ++ term_of f ∷ ts

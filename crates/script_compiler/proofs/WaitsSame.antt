@@ -1,20 +1,6 @@
 -- The same waits and edges, by instructions and by code.
-use Rattle.std.proofs.Common.{◌≡◌, ℕ, suc, inl, inr, Option, Some, None, Result, Ok, Err, List, [], ◌∷◌, ◌++◌, refl, sym, ap, ◌∙◌, subst}
-use Rattle.std.specs.Prelude.{Contains, map, IfSome, IfNone, IfOk}
-use Rattle.std.specs.List.{AllZip, flat_map}
-use Rattle.script_compiler.specs.declared.waits.first.CallEdge.{CallEdge}
-use Rattle.script_compiler.specs.declared.waits.first.RootWait.{RootWait}
-use Rattle.script_compiler.specs.Waits.{Leads, WaitsForLater, NoneBefore, NoneWaits}
-use Rattle.script_compiler.specs.Waits.Leads.{here, on}
-use Rattle.script_code.specs.Tree.{Operation}
-use Rattle.script_code.specs.declared.instruction.Instruction.{Instruction}
-use Rattle.script_compiler.specs.declared.compiled.CompiledMethod.{CompiledMethod}
-use Rattle.script_compiler.specs.declared.compiled.CompiledRoot.{CompiledRoot}
-use Rattle.script_compiler.specs.declared.compiled.Compiled.{Compiled}
-use Rattle.script_compiler.specs.Compiled.{MethodView, RootView, CompiledView}
-use Rattle.script_compiler.specs.IsCompiled.{IsMethod, IsCompiled, root_view}
-use Rattle.script_compiler.specs.Waiting.{operations_in, made_by, edges_made, waits_made, edges_of, waits_of, root_methods}
-use Rattle.script_compiler.specs.ActsInside.{operation_of, made_if, made_along, made_through}
+use Rattle.script_compiler.proofs.Prelude.{◌≡◌, ℕ, suc, inl, inr, Option, Some, None, Result, Ok, Err, List, [], ◌∷◌, ◌++◌, refl, sym, ap, ◌∙◌, subst, map, IfSome, IfNone, IfOk, AllZip, flat_map, CallEdge, RootWait, Leads, WaitsForLater, NoneBefore, NoneWaits, here, on, Operation, Instruction, CompiledMethod, CompiledRoot, Compiled, MethodView, RootView, CompiledView, IsMethod, IsCompiled, root_view, operations_in, made_by, edges_made, waits_made, edges_of, waits_of, root_methods, operation_of, made_if, made_along, made_through}
+use Rattle.std.specs.Prelude.{Contains}
 use Rattle.script_compiler.proofs.Membership.{Has, has_left, has_right, has_cases, flat_within, has_contained, contains_had}
 use Rattle.script_compiler.proofs.Operations.{operations_along, operation_list, along_in, in_along}
 

@@ -1,14 +1,7 @@
 -- A walk along a list, which marks its methods.
-use Rattle.std.proofs.Common.{◌≡◌, ℕ, suc, ◌≤◌, ◌⊎◌, List, Option, Some, length, refl, sym, subst, inl, inr, arith}
-use Rattle.std.proofs.lemmas.Option.{same_Some}
+use Rattle.script_compiler.proofs.Prelude.{◌≡◌, ℕ, suc, ◌≤◌, ◌⊎◌, List, Option, Some, length, refl, sym, subst, inl, inr, arith, same_Some, InChain, Has, end_of, AreOrderly, at, after, IsMarked, Marking, MarkingAll, ListEntry, MethodLists, Marks}
 use Rattle.std.specs.List.{slice_get}
-use Rattle.script_compiler.specs.ListsInside.{InChain, Has, end_of, AreOrderly}
-use Rattle.script_compiler.specs.ListsInside.InChain.{at, after}
-use Rattle.script_compiler.specs.MarksInside.{IsMarked, Marking, MarkingAll}
 use Rattle.script_compiler.proofs.MarkOne.{marking_more}
-use Rattle.script_compiler.specs.declared.waits.lists.ListEntry.{ListEntry}
-use Rattle.script_compiler.specs.declared.waits.lists.MethodLists.{MethodLists}
-use Rattle.script_compiler.specs.declared.waits.marks.Marks.{Marks}
 
 -- The methods of a list are marked, but for those that one comes to from the next entry.
 pub record IsWalk (lists : MethodLists) (list : ℕ) (next : Option ℕ) (old new : Marks) : Type 0 where

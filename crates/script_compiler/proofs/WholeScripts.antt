@@ -1,16 +1,6 @@
 -- Where the names of a script are in order, the code of its methods names places and methods that are there.
-use Rattle.std.proofs.Common.{◌≡◌, ℕ, suc, nat_le, List, [], ◌∷◌, ◌++◌, length, None, refl}
-use Rattle.std.specs.List.{AllByRecursion}
-use Rattle.swift_types.specs.declared.limits.TheConstants.{ACTORS, TASKS}
-use Rattle.script_grammar.specs.Tree.{MethodTree, ActorTree, RootTree, DeclTree, Executes, Binds, Acts, Roots, block_tree}
-use Rattle.script_names.specs.declared.error.NameErrorKind.TheVariants.{TooMany}
-use Rattle.script_names.specs.Directory.{DirectoryView}
-use Rattle.script_names.specs.Scope.{ScopeView, fields_alone, with_standing}
+use Rattle.script_compiler.proofs.Prelude.{◌≡◌, ℕ, suc, nat_le, List, [], ◌∷◌, ◌++◌, length, None, refl, AllByRecursion, ACTORS, TASKS, MethodTree, ActorTree, RootTree, DeclTree, Executes, Binds, Acts, Roots, block_tree, TooMany, DirectoryView, ScopeView, fields_alone, with_standing, SeenView, at_name, where_so, past_name_if, past_names, past_fields, past_if, past_method, past_decl, optional_error, repeat_error, parameters_error, with_parameters, method_error, methods_error, fields_error, on_error, actor_error, root_error, decl_error, seen_after, declarations_error, names_error, PlanView, plan_of, RootFits, CodeFits, ScriptFits, none_held}
 use Rattle.script_names.specs.declared.scope.NameKind.TheVariants as kind
-use Rattle.script_names.specs.Rules.{SeenView, at_name, where_so, past_name_if, past_names, past_fields, past_if, past_method, past_decl, optional_error, repeat_error, parameters_error, with_parameters, method_error, methods_error, fields_error, on_error, actor_error, root_error, decl_error, seen_after, declarations_error, names_error}
-use Rattle.script_compiler.specs.Plan.{PlanView, plan_of}
-use Rattle.script_compiler.specs.Targets.{RootFits}
-use Rattle.script_compiler.specs.Methods.{CodeFits, ScriptFits}
 use Rattle.script_compiler.proofs.Clear.{earlier_none}
 use Rattle.script_compiler.proofs.Named.{parameters_no_field}
 use Rattle.script_compiler.proofs.Callable.{callable}
@@ -18,7 +8,6 @@ use Rattle.script_compiler.proofs.BlockPlaces.{block_places}
 use Rattle.script_compiler.proofs.BlockCalls.{block_fits}
 use Rattle.script_compiler.proofs.BlockHandles.{block_handles}
 use Rattle.script_compiler.proofs.Agreed.{none_agrees}
-use Rattle.script_compiler.specs.Handles.{none_held}
 
 pub parameters_directory : (s : ScopeView) (names : List (List ℕ)) → (with_parameters s names).directory ≡ s.directory
 parameters_directory s [] = refl

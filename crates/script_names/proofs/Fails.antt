@@ -1,13 +1,7 @@
 -- An error of a declaration is that of the declarations from it on, and theirs is that of the script.
-use Rattle.std.proofs.Common.{◌≡◌, ◌<◌, ℕ, suc, List, [], ◌∷◌, drop, map, length, get_or, sym, ap, subst, ◌∙◌, Option}
-use Rattle.std.proofs.Math.Seq.{drop-cons}
-use Rattle.script_grammar.specs.declared.declaration.Decl.{Decl}
-use Rattle.script_grammar.specs.Tree.{DeclTree, view_decl}
-use Rattle.script_names.specs.declared.error.NameError.{NameError}
+use Rattle.script_names.proofs.Prelude.{◌≡◌, ◌<◌, ℕ, suc, List, [], ◌∷◌, drop, map, length, get_or, sym, ap, subst, ◌∙◌, Option, drop-cons, Decl, DeclTree, view_decl, NameError, DirectoryView, directory_of, SeenView, earlier, past_decl, decl_error, seen_after, declarations_error, names_error}
 use Rattle.script_names.specs.declared.error.CheckError.{CheckError}
 use Rattle.script_names.specs.declared.error.CheckError.TheVariants as errors
-use Rattle.script_names.specs.Directory.{DirectoryView, directory_of}
-use Rattle.script_names.specs.Rules.{SeenView, earlier, past_decl, decl_error, seen_after, declarations_error, names_error}
 use Rattle.script_names.specs.Finds.{IsError}
 
 error_is_earlier : (e : CheckError) (f g : Option NameError) → IsError e f → IsError e (earlier f g)

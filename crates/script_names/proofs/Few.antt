@@ -1,13 +1,11 @@
 -- A script has no more names than tokens.
-use Rattle.std.proofs.Common.{ℕ, ◌≤◌, ◌+◌, suc, Option, List, [], ◌∷◌, ◌++◌, length, ap, arith, length-append}
+use Rattle.script_names.proofs.Prelude.{ℕ, ◌≤◌, ◌+◌, suc, Option, List, [], ◌∷◌, ◌++◌, length, ap, arith, length-append, ExprTree, CallTree, AwaitedTree, WaitTree, ValueTree, MakeTree, AddTree, ActionTree, HeadTree, StmtTree, FieldTree, MethodTree, ActorTree, RootTree, DeclTree, block_tree, past, past_all, past_if, past_call, past_awaited, past_wait, past_value, past_make, past_action, past_head, past_stmt, past_block, past_names, past_name_if, past_method, past_methods, past_fields, past_actor, past_decl, past_decls, names_in}
 use Rattle.script_tokens.specs.declared.mark.Mark.TheVariants as mark
 use Rattle.script_tokens.specs.declared.keyword.Keyword.TheVariants as key
 use Rattle.script_tokens.specs.Pieces.{TokenView, Key, Sign}
 use Rattle.script_grammar.specs.declared.region.Atoms.{Atoms}
 use Rattle.script_grammar.specs.declared.region.Region.{Region}
-use Rattle.script_grammar.specs.Tree.{ExprTree, CallTree, AwaitedTree, WaitTree, ValueTree, MakeTree, AddTree, ActionTree, HeadTree, StmtTree, FieldTree, MethodTree, ActorTree, RootTree, DeclTree, block_tree}
 use Rattle.script_grammar.specs.Grammar.{mark_of, SpellsExpr, number, name, local, own_priority, is_cancelled, parenthesis, negated, inverted, alone, chained, compared, IsExpression, Each, no_more, one_more, IsNext, Listed, none_listed, some_listed, IsCall, IsAwaited, a_call, a_task, a_next, IsElse, without_else, with_else, IsWait, IsMake, spawned, detached, IsAdd, IsValue, computed, awaited, SpellsAction, defines, defines_task, assigns, awaits, makes, adds, cancels, returns, throws, checks, yields, SpellsHead, tests, repeats, binds, groups, assumes, SpellsStmt, does, holds, chooses, SpellsBlock, braces, SpellsStmts, none, more, IsName, IsField, IsOn, on_its_own, on_shared, IsInvariant, no_invariant, an_invariant, IsMethodDecl, IsActor, IsRoot, IsDecl, an_executor, a_local, an_actor, a_root, IsScript}
-use Rattle.script_names.specs.Rules.{past, past_all, past_if, past_call, past_awaited, past_wait, past_value, past_make, past_action, past_head, past_stmt, past_block, past_names, past_name_if, past_method, past_methods, past_fields, past_actor, past_decl, past_decls, names_in}
 
 -- expressions
 expr_few : {atoms : Atoms} {o k : ℕ} {ts : List TokenView} {t : ExprTree} → SpellsExpr atoms o k ts t → (at : ℕ) → past t at ≤ at + length ts

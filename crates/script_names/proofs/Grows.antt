@@ -1,8 +1,5 @@
 -- At the end of what is read no fewer names have come than before it.
-use Rattle.std.proofs.Common.{◌≡◌, ◌<◌, ◌≤◌, ℕ, List, [], ◌∷◌, suc, None, Some, Option, drop, length, get_or, sym, ap, subst, ◌∙◌, arith}
-use Rattle.std.proofs.Math.Seq.{drop-cons}
-use Rattle.script_grammar.specs.Tree.{ExprTree, Number, Named, Local, OwnPriority, IsCancelled, Negated, Inverted, Both, CallTree, AwaitedTree, Called, TaskOf, NextOf, WaitTree, ValueTree, Computed, Waited, MakeTree, Spawned, Detached, HeadTree, If, While, Bind, Group, Assume, ActionTree, Let, LetTask, Assign, Await, Makes, Adds, Cancel, Return, Throw, Check, Yield, StmtTree, Do, Headed, IfElse, BlockTree, nothing, first_then, block_tree, FieldTree, MethodTree, ActorTree, DeclTree, Executes, Binds, Acts, Roots}
-use Rattle.script_names.specs.Rules.{past, past_all, past_if, past_call, past_awaited, past_wait, past_value, past_make, past_action, past_head, past_stmt, past_block, past_names, past_name_if, past_method, past_methods, past_fields, past_actor, past_decl, past_decls}
+use Rattle.script_names.proofs.Prelude.{◌≡◌, ◌<◌, ◌≤◌, ℕ, List, [], ◌∷◌, suc, None, Some, Option, drop, length, get_or, sym, ap, subst, ◌∙◌, arith, drop-cons, ExprTree, Number, Named, Local, OwnPriority, IsCancelled, Negated, Inverted, Both, CallTree, AwaitedTree, Called, TaskOf, NextOf, WaitTree, ValueTree, Computed, Waited, MakeTree, Spawned, Detached, HeadTree, If, While, Bind, Group, Assume, ActionTree, Let, LetTask, Assign, Await, Makes, Adds, Cancel, Return, Throw, Check, Yield, StmtTree, Do, Headed, IfElse, BlockTree, nothing, first_then, block_tree, FieldTree, MethodTree, ActorTree, DeclTree, Executes, Binds, Acts, Roots, past, past_all, past_if, past_call, past_awaited, past_wait, past_value, past_make, past_action, past_head, past_stmt, past_block, past_names, past_name_if, past_method, past_methods, past_fields, past_actor, past_decl, past_decls}
 
 pub grows : (t : ExprTree) (at : ℕ) → at ≤ past t at
 grows (Number n) at = omega arith

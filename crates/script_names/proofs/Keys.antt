@@ -1,11 +1,5 @@
 -- The keys of a set as texts: a test of keys that compares their texts with one finds what that text finds among them.
-use Rattle.std.proofs.Common.{◌≡◌, ℕ, suc, ◌+◌, Bool, true, false, cond, List, [], ◌∷◌, ◌++◌, map, length, refl, sym, ap, ◌∙◌, Option, Some, None, IfSome, arith}
-use Rattle.std.specs.Prelude.{◌||◌, not, unwrap_or, is_some}
-use Rattle.std.specs.List.{list_any, position_or_len, position}
-use Rattle.std.specs.Str.{bytes_eq}
-use Rattle.std.proofs.lemmas.Bool.{or_parts}
-use Rattle.std.proofs.lemmas.List.{map_push}
-use Rattle.script_names.specs.Texts.{is_among, place_of}
+use Rattle.script_names.proofs.Prelude.{◌≡◌, ℕ, suc, ◌+◌, Bool, true, false, cond, List, [], ◌∷◌, ◌++◌, map, length, refl, sym, ap, ◌∙◌, Option, Some, None, IfSome, arith, ◌||◌, not, unwrap_or, is_some, list_any, position_or_len, position, bytes_eq, or_parts, map_push, is_among, place_of}
 
 -- a test of keys compares their texts with this one
 abbrev pub Compares : {K : Type 0} → (K → List ℕ) → (K → Bool) → List ℕ → Type 0

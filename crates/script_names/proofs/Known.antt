@@ -1,10 +1,6 @@
 -- What is known of standing names stays so.
-use Rattle.std.proofs.Common.{◌≡◌, ℕ, List, [], ◌∷◌, ◌++◌, None, map, min, take, length, get_or, sym, ap, subst, ◌∙◌, arith, length-append}
-use Rattle.std.proofs.lemmas.List.{take-append-le, take-take, length-take}
+use Rattle.script_names.proofs.Prelude.{◌≡◌, ℕ, List, [], ◌∷◌, ◌++◌, None, map, min, take, length, get_or, sym, ap, subst, ◌∙◌, arith, length-append, take-append-le, take-take, length-take, DirectoryView, fields_at, with_name, ScopeView, meaning_of, share_a_name}
 use Rattle.std.proofs.Math.ListN.{get_or-map}
-use Rattle.script_names.specs.Directory.{DirectoryView, fields_at}
-use Rattle.script_names.specs.Texts.{with_name}
-use Rattle.script_names.specs.Scope.{ScopeView, meaning_of, share_a_name}
 use Rattle.script_names.specs.ScopeInvariant.{AreCleared}
 use Rattle.script_names.proofs.Standing.{new_name}
 use Rattle.script_names.proofs.Shared.{fewer}

@@ -1,3 +1,4 @@
+pub mod Prelude
 pub mod Keys
 pub mod Standing
 pub mod Shared

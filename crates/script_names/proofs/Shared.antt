@@ -1,11 +1,6 @@
 -- Names that two lists share.
-use Rattle.std.proofs.Common.{◌≡◌, ℕ, zero, suc, Bool, true, false, List, [], ◌∷◌, take, drop, refl, sym, ap, ◌∙◌}
-use Rattle.std.specs.Prelude.{◌||◌}
-use Rattle.std.specs.Str.{bytes_eq}
+use Rattle.script_names.proofs.Prelude.{◌≡◌, ℕ, zero, suc, Bool, true, false, List, [], ◌∷◌, take, drop, refl, sym, ap, ◌∙◌, ◌||◌, bytes_eq, or_parts, is_among, share_a_name}
 use Rattle.std.proofs.lemmas.Cmp.{lists_equiv, nat_eq_equiv}
-use Rattle.std.proofs.lemmas.Bool.{or_parts}
-use Rattle.script_names.specs.Texts.{is_among}
-use Rattle.script_names.specs.Scope.{share_a_name}
 use Rattle.script_names.proofs.Standing.{none_shared}
 
 same_either_way : (a b : List ℕ) → bytes_eq a b ≡ bytes_eq b a

@@ -1,12 +1,7 @@
 -- A name that does not stand there yet goes after those that do.
-use Rattle.std.proofs.Common.{◌≡◌, ℕ, suc, ◌+◌, Bool, true, false, cond, List, [], ◌∷◌, ◌++◌, length, refl, sym, ap, subst, ◌∙◌, None, Some, Option, arith, length-append}
-use Rattle.std.specs.Prelude.{◌||◌, not, slice_get, if◌then◌else◌}
-use Rattle.std.specs.Str.{bytes_eq}
+use Rattle.script_names.proofs.Prelude.{◌≡◌, ℕ, suc, ◌+◌, Bool, true, false, cond, List, [], ◌∷◌, ◌++◌, length, refl, sym, ap, subst, ◌∙◌, None, Some, Option, arith, length-append, ◌||◌, not, slice_get, if◌then◌else◌, bytes_eq, is_among, place_of, with_name, fields_at, ScopeView, with_standing, meaning_of, share_a_name}
 use Rattle.script_names.specs.declared.scope.NameKind.{NameKind}
 use Rattle.script_names.specs.declared.scope.NameKind.TheVariants as kinds
-use Rattle.script_names.specs.Texts.{is_among, place_of, with_name}
-use Rattle.script_names.specs.Directory.{fields_at}
-use Rattle.script_names.specs.Scope.{ScopeView, with_standing, meaning_of, share_a_name}
 
 past_first : (b : Bool) (k : NameKind) (ks : List NameKind) (p : ℕ) (r : Bool) → (slice_get ks p ≡ None → r ≡ false) → slice_get (k ∷ ks) (cond (not b) (1 + p) 0) ≡ None → (b || r) ≡ false
 past_first true k ks p r h e = absurd (cc)

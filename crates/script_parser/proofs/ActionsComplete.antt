@@ -1,17 +1,9 @@
 -- Statements without a block that are spelled are read.
-use Rattle.std.proofs.Common.{◌≡◌, ℕ, ◌-◌, Bool, true, false, List, [], ◌∷◌, ◌++◌, Option, Some, None, Ok, refl, ap, ◌∙◌, append_assoc}
-use Rattle.swift_types.specs.declared.priority.Priority.{Priority}
-use Rattle.script_tokens.specs.declared.keyword.Keyword.{Keyword}
+use Rattle.script_parser.proofs.Prelude.{◌≡◌, ℕ, ◌-◌, Bool, true, false, List, [], ◌∷◌, ◌++◌, Option, Some, None, Ok, refl, ap, ◌∙◌, append_assoc, Priority, Keyword, TokenView, Name, Key, Sign, Every, Region, ExprTree, CallTree, AwaitedTree, Called, WaitTree, ValueTree, Computed, Waited, MakeTree, AddTree, ActionTree, Let, LetTask, Makes, IsExpression, Listed, IsCall, IsAwaited, a_call, a_task, a_next, IsElse, without_else, with_else, IsWait, priority_of, IsPriorityGiven, not_given, given, IsMake, spawned, detached, IsUnless, always, unless, IsAdd, may_act, IsValue, computed, awaited, SpellsAction, defines, defines_task, assigns, awaits, makes, adds, cancels, returns, throws, checks, yields, ◌>>=◌, list_at, expr_in}
 use Rattle.script_tokens.specs.declared.keyword.Keyword.TheVariants as key
 use Rattle.script_tokens.specs.declared.mark.Mark.TheVariants as mark
-use Rattle.script_tokens.specs.Pieces.{TokenView, Name, Key, Sign}
-use Rattle.script_grammar.specs.declared.region.Atoms.TheVariants.{Every}
-use Rattle.script_grammar.specs.declared.region.Region.{Region}
-use Rattle.script_grammar.specs.Tree.{ExprTree, CallTree, AwaitedTree, Called, WaitTree, ValueTree, Computed, Waited, MakeTree, AddTree, ActionTree, Let, LetTask, Makes}
-use Rattle.script_grammar.specs.Grammar.{IsExpression, Listed, IsCall, IsAwaited, a_call, a_task, a_next, IsElse, without_else, with_else, IsWait, priority_of, IsPriorityGiven, not_given, given, IsMake, spawned, detached, IsUnless, always, unless, IsAdd, may_act, IsValue, computed, awaited, SpellsAction, defines, defines_task, assigns, awaits, makes, adds, cancels, returns, throws, checks, yields}
-use Rattle.script_parser.specs.Model.Steps.{◌>>=◌}
-use Rattle.script_parser.specs.Model.Parts.{name_at, sign_at, close_at, list_at}
-use Rattle.script_parser.specs.Model.Expressions.{operator_at, expr_in}
+use Rattle.script_parser.specs.Model.Parts.{name_at, sign_at, close_at}
+use Rattle.script_parser.specs.Model.Expressions.{operator_at}
 use Rattle.script_parser.specs.Model.Actions.{call_at, awaited_at, else_at, wait_at, level_named_at, given_at, make_at, unless_at, child_at, add_at, may_begin, begun_at, value_at, variable_at, let_at, assign_at, part_at, action_at}
 use Rattle.script_parser.proofs.Steps.{allowed_now}
 use Rattle.script_parser.proofs.Complete.{Stops, expr_again, Begins, with_number, with_name, with_parenthesis, with_minus, with_bang, with_at, with_priority, with_cancelled, expression_begins}

@@ -1,17 +1,8 @@
 -- Statements without a block that are read are spelled.
-use Rattle.std.proofs.Common.{◌≡◌, ℕ, ◌-◌, ◌<◌, true, List, [], ◌∷◌, ◌++◌, Option, Some, None, Ok, refl, sym, ap, subst, ◌∙◌, append_assoc}
-use Rattle.swift_types.specs.declared.priority.Priority.{Priority}
-use Rattle.script_tokens.specs.declared.keyword.Keyword.{Keyword}
+use Rattle.script_parser.proofs.Prelude.{◌≡◌, ℕ, ◌-◌, ◌<◌, true, List, [], ◌∷◌, ◌++◌, Option, Some, None, Ok, refl, sym, ap, subst, ◌∙◌, append_assoc, Priority, Keyword, TokenView, Name, Key, Sign, Atoms, Every, Region, ExprTree, CallTree, AwaitedTree, Called, TaskOf, NextOf, WaitTree, ValueTree, Computed, Waited, MakeTree, Spawned, Detached, AddTree, ActionTree, Let, LetTask, Assign, Await, Makes, Adds, Cancel, Return, Throw, Check, Yield, IsExpression, IsCall, IsAwaited, a_call, a_task, a_next, IsElse, without_else, with_else, IsWait, priority_of, IsPriorityGiven, not_given, given, or_medium, IsMake, spawned, detached, IsUnless, always, unless, IsAdd, IsValue, computed, awaited, SpellsAction, defines, defines_task, assigns, awaits, makes, adds, cancels, returns, throws, checks, yields, expr_in, chosen_priority}
 use Rattle.script_tokens.specs.declared.keyword.Keyword.TheVariants as key
 use Rattle.script_tokens.specs.declared.mark.Mark.TheVariants as mark
-use Rattle.script_tokens.specs.Pieces.{TokenView, Name, Key, Sign}
-use Rattle.script_grammar.specs.declared.region.Atoms.{Atoms}
-use Rattle.script_grammar.specs.declared.region.Atoms.TheVariants.{Every}
-use Rattle.script_grammar.specs.declared.region.Region.{Region}
-use Rattle.script_grammar.specs.Tree.{ExprTree, CallTree, AwaitedTree, Called, TaskOf, NextOf, WaitTree, ValueTree, Computed, Waited, MakeTree, Spawned, Detached, AddTree, ActionTree, Let, LetTask, Assign, Await, Makes, Adds, Cancel, Return, Throw, Check, Yield}
-use Rattle.script_grammar.specs.Grammar.{IsExpression, IsCall, IsAwaited, a_call, a_task, a_next, IsElse, without_else, with_else, IsWait, priority_of, IsPriorityGiven, not_given, given, or_medium, IsMake, spawned, detached, IsUnless, always, unless, IsAdd, IsValue, computed, awaited, SpellsAction, defines, defines_task, assigns, awaits, makes, adds, cancels, returns, throws, checks, yields}
-use Rattle.script_parser.specs.Model.Expressions.{expr_in}
-use Rattle.script_parser.specs.Model.Actions.{call_at, awaited_at, else_at, wait_at, chosen_priority, level_named_at, given_at, make_at, unless_at, child_at, add_at, may_begin, begun_at, value_at, variable_at, let_at, assign_at, part_at, action_at}
+use Rattle.script_parser.specs.Model.Actions.{call_at, awaited_at, else_at, wait_at, level_named_at, given_at, make_at, unless_at, child_at, add_at, may_begin, begun_at, value_at, variable_at, let_at, assign_at, part_at, action_at}
 use Rattle.script_parser.proofs.Steps.{ok_is, step_ok, allowed_is}
 use Rattle.script_parser.proofs.Tokens.{sign_is, name_is}
 use Rattle.script_parser.proofs.Sound.{expr_takes}

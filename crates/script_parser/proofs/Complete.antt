@@ -1,17 +1,10 @@
 -- Expressions that are spelled are read.
-use Rattle.std.proofs.Common.{◌≡◌, ◌≢◌, ℕ, ℤ, zero, suc, ◌+◌, ◌-◌, ◌<◌, ◌≤◌, Bool, true, false, cond, eqb, List, [], ◌∷◌, ◌++◌, Some, None, Ok, refl, sym, ap, ◌∙◌, append_assoc, arith}
-use Rattle.std.proofs.lemmas.Bool.{le-ltb}
-use Rattle.std.proofs.lemmas.Bool.Decides.{nat_tests}
-use Rattle.swift_types.specs.declared.operator.Operator.{Operator}
+use Rattle.script_parser.proofs.Prelude.{◌≡◌, ◌≢◌, ℕ, ℤ, zero, suc, ◌+◌, ◌-◌, ◌<◌, ◌≤◌, Bool, true, false, cond, eqb, List, [], ◌∷◌, ◌++◌, Some, None, Ok, refl, sym, ap, ◌∙◌, append_assoc, arith, le-ltb, nat_tests, Operator, TokenView, Num, Name, Key, Sign, Atoms, ExprTree, Number, Named, Local, OwnPriority, IsCancelled, Negated, Inverted, Both, height_of, mark_of, precedence_of, has_every_atom, SpellsExpr, IsExpression, number, name, local, own_priority, is_cancelled, parenthesis, negated, inverted, alone, chained, compared, Read, ReadInside, operator_in, of_precedence, with_rest, most_operators, expr_in}
 use Rattle.swift_types.specs.declared.operator.Operator.TheVariants as op
 use Rattle.script_tokens.specs.declared.keyword.Keyword.TheVariants as key
 use Rattle.script_tokens.specs.declared.mark.Mark.TheVariants as mark
-use Rattle.script_tokens.specs.Pieces.{TokenView, Num, Name, Key, Sign}
-use Rattle.script_grammar.specs.declared.region.Atoms.{Atoms}
-use Rattle.script_grammar.specs.Tree.{ExprTree, Number, Named, Local, OwnPriority, IsCancelled, Negated, Inverted, Both, height_of}
-use Rattle.script_grammar.specs.Grammar.{mark_of, precedence_of, has_every_atom, SpellsExpr, IsExpression, number, name, local, own_priority, is_cancelled, parenthesis, negated, inverted, alone, chained, compared}
 use Rattle.script_parser.specs.Model.Parts.{name_at}
-use Rattle.script_parser.specs.Model.Expressions.{Read, ReadInside, operator_in, of_precedence, with_rest, operator_at, most_operators, checked, closed_at, atom_at, unary_at, operands_at, level_at, inside_at, expr_in}
+use Rattle.script_parser.specs.Model.Expressions.{operator_at, checked, closed_at, atom_at, unary_at, operands_at, level_at, inside_at}
 use Rattle.script_parser.proofs.Steps.{allowed_now}
 
 -- no operator of this precedence or a tighter one comes next

@@ -1,17 +1,10 @@
 -- Declarations that are spelled are read.
-use Rattle.std.proofs.Common.{◌≡◌, ◌≢◌, ℕ, ℤ, ◌+◌, ◌<◌, List, [], ◌∷◌, ◌++◌, length, Option, Some, None, Ok, refl, sym, ap, ◌∙◌, append_assoc, length-append, arith, neg_ℤ}
-use Rattle.std.proofs.lemmas.List.{append-nil}
+use Rattle.script_parser.proofs.Prelude.{◌≡◌, ◌≢◌, ℕ, ℤ, ◌+◌, ◌<◌, List, [], ◌∷◌, ◌++◌, length, Option, Some, None, Ok, refl, sym, ap, ◌∙◌, append_assoc, length-append, arith, neg_ℤ, append-nil, TokenView, Num, Name, Key, Sign, ExecutorKind, Plain, ExprTree, ExecutorTree, LocalTree, FieldTree, MethodTree, ActorTree, RootTree, DeclTree, Executes, Binds, Acts, Roots, Each, no_more, one_more, Listed, least, IsInt, plain, opposite, IsName, IsKind, by_priority, by_age, by_worker, IsExecutorDecl, IsLocal, IsField, IsOn, on_its_own, on_shared, IsInvariant, no_invariant, an_invariant, IsMethodDecl, IsActor, IsRoot, IsDecl, an_executor, a_local, an_actor, a_root, IsScript, items_at, list_at, expr_in, decls_at}
 use Rattle.script_tokens.specs.declared.keyword.Keyword.TheVariants as key
 use Rattle.script_tokens.specs.declared.mark.Mark.TheVariants as mark
-use Rattle.script_tokens.specs.Pieces.{TokenView, Num, Name, Key, Sign}
-use Rattle.swift_types.specs.declared.executor_kind.ExecutorKind.{ExecutorKind}
-use Rattle.script_grammar.specs.declared.region.Atoms.TheVariants.{Plain}
 use Rattle.script_grammar.specs.declared.region.Region.TheVariants as region
-use Rattle.script_grammar.specs.Tree.{ExprTree, ExecutorTree, LocalTree, FieldTree, MethodTree, ActorTree, RootTree, DeclTree, Executes, Binds, Acts, Roots}
-use Rattle.script_grammar.specs.Grammar.{Each, no_more, one_more, Listed, least, IsInt, plain, opposite, IsName, IsKind, by_priority, by_age, by_worker, IsExecutorDecl, IsLocal, IsField, IsOn, on_its_own, on_shared, IsInvariant, no_invariant, an_invariant, IsMethodDecl, IsActor, IsRoot, IsDecl, an_executor, a_local, an_actor, a_root, IsScript}
-use Rattle.script_parser.specs.Model.Parts.{name_at, sign_at, brace_at, close_at, items_at, list_at}
-use Rattle.script_parser.specs.Model.Expressions.{expr_in}
-use Rattle.script_parser.specs.Model.Declarations.{number_at, opposite_at, int_at, setting_at, kind_at, executor_at, local_at, fields_end, field_at, on_at, invariant_at, method_at, actor_at, root_at, decl_at, decls_end, decls_at}
+use Rattle.script_parser.specs.Model.Parts.{name_at, sign_at, brace_at, close_at}
+use Rattle.script_parser.specs.Model.Declarations.{number_at, opposite_at, int_at, setting_at, kind_at, executor_at, local_at, fields_end, field_at, on_at, invariant_at, method_at, actor_at, root_at, decl_at, decls_end}
 use Rattle.script_parser.proofs.Complete.{expr_again}
 use Rattle.script_parser.proofs.Tokens.{brace_now}
 use Rattle.script_parser.proofs.Items.{items_again}

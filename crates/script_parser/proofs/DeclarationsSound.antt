@@ -1,22 +1,10 @@
 -- Declarations that are read are spelled.
-use Rattle.std.proofs.Common.{◌≡◌, ℕ, ℤ, ◌+◌, ◌<◌, Bool, true, false, cond, List, [], ◌∷◌, ◌++◌, length, Option, Some, None, Result, Ok, Err, refl, sym, ap, subst, ◌∙◌, append_assoc, neg_ℤ}
-use Rattle.std.proofs.lemmas.List.{append-nil}
-use Rattle.std.specs.Ordering.{int_eq}
-use Rattle.script_parser.specs.declared.fault.ParseFault.{ParseFault}
-use Rattle.swift_types.specs.declared.priority.Priority.{Priority}
+use Rattle.script_parser.proofs.Prelude.{◌≡◌, ℕ, ℤ, ◌+◌, ◌<◌, Bool, true, false, cond, List, [], ◌∷◌, ◌++◌, length, Option, Some, None, Result, Ok, Err, refl, sym, ap, subst, ◌∙◌, append_assoc, neg_ℤ, append-nil, int_eq, ParseFault, Priority, TokenView, Num, Huge, Name, Key, Sign, ExecutorKind, Plain, ExprTree, ExecutorTree, LocalTree, FieldTree, MethodTree, ActorTree, RootTree, DeclTree, Executes, Binds, Acts, Roots, or_medium, least, IsInt, plain, opposite, Listed, IsName, IsKind, by_priority, by_age, by_worker, IsExecutorDecl, IsLocal, IsField, IsOn, on_its_own, on_shared, IsInvariant, no_invariant, an_invariant, IsMethodDecl, IsActor, IsStart, IsRoot, IsDecl, an_executor, a_local, an_actor, a_root, IsScript, ◌>>=◌, name_at, sign_at, brace_at, list_at, given_at, decls_at}
 use Rattle.script_tokens.specs.declared.keyword.Keyword.TheVariants as key
 use Rattle.script_tokens.specs.declared.mark.Mark.TheVariants as mark
-use Rattle.script_tokens.specs.Pieces.{TokenView, Num, Huge, Name, Key, Sign}
-use Rattle.swift_types.specs.declared.executor_kind.ExecutorKind.{ExecutorKind}
 use Rattle.swift_types.specs.declared.executor_kind.ExecutorKind.TheVariants as kind
-use Rattle.script_grammar.specs.declared.region.Atoms.TheVariants.{Plain}
 use Rattle.script_grammar.specs.declared.region.Region.TheVariants as region
-use Rattle.script_grammar.specs.Tree.{ExprTree, ExecutorTree, LocalTree, FieldTree, MethodTree, ActorTree, RootTree, DeclTree, Executes, Binds, Acts, Roots}
-use Rattle.script_grammar.specs.Grammar.{or_medium, least, IsInt, plain, opposite, Listed, IsName, IsKind, by_priority, by_age, by_worker, IsExecutorDecl, IsLocal, IsField, IsOn, on_its_own, on_shared, IsInvariant, no_invariant, an_invariant, IsMethodDecl, IsActor, IsStart, IsRoot, IsDecl, an_executor, a_local, an_actor, a_root, IsScript}
-use Rattle.script_parser.specs.Model.Steps.{◌>>=◌}
-use Rattle.script_parser.specs.Model.Parts.{name_at, sign_at, brace_at, list_at}
-use Rattle.script_parser.specs.Model.Actions.{given_at}
-use Rattle.script_parser.specs.Model.Declarations.{number_at, opposite_at, int_at, setting_at, kind_at, executor_at, local_at, fields_end, field_at, on_at, invariant_at, method_at, actor_at, root_at, decl_at, decls_end, decls_at}
+use Rattle.script_parser.specs.Model.Declarations.{number_at, opposite_at, int_at, setting_at, kind_at, executor_at, local_at, fields_end, field_at, on_at, invariant_at, method_at, actor_at, root_at, decl_at, decls_end}
 use Rattle.script_parser.proofs.Steps.{ok_is, some_is, step_ok}
 use Rattle.script_parser.proofs.Tokens.{sign_is, name_is, brace_is}
 use Rattle.script_parser.proofs.Items.{Taken, taken_as, joined, closed_by, taken_after, taken_name, items_take}

@@ -1,12 +1,6 @@
 -- Reading items one after the other, as a loop does.
-use Rattle.std.proofs.Common.{◌≡◌, ℕ, suc, ◌+◌, ◌-◌, ◌<◌, ◌≤◌, List, [], ◌∷◌, ◌++◌, Option, Some, None, Result, Ok, Err, refl, sym, ap, subst, ◌∙◌, append_assoc, arith}
-use Rattle.std.proofs.lemmas.List.{append-nil}
-use Rattle.script_parser.specs.declared.fault.ParseFault.{ParseFault}
-use Rattle.script_parser.specs.declared.fault.Kind.TheVariants.{EndsEarly}
-use Rattle.script_parser.specs.declared.fault.ReadError.{ReadError}
+use Rattle.script_parser.proofs.Prelude.{◌≡◌, ℕ, suc, ◌+◌, ◌-◌, ◌<◌, ◌≤◌, List, [], ◌∷◌, ◌++◌, Option, Some, None, Result, Ok, Err, refl, sym, ap, subst, ◌∙◌, append_assoc, arith, append-nil, ParseFault, EndsEarly, ReadError, TokenView, at, ◌>>=◌, Reads, Fails}
 use Rattle.script_parser.specs.declared.fault.ReadError.TheVariants as errors
-use Rattle.script_tokens.specs.Pieces.{TokenView}
-use Rattle.script_parser.specs.Model.Steps.{at, ◌>>=◌, Reads, Fails}
 use Rattle.script_parser.specs.Model.Parts.{items_at}
 
 -- what was read before, and what is still read

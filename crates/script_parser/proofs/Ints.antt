@@ -1,8 +1,6 @@
 -- Whether two numbers are equal.
-use Rattle.std.proofs.Common.{◌≡◌, ◌≢◌, ℤ, Bool, true, false, refl}
+use Rattle.script_parser.proofs.Prelude.{◌≡◌, ◌≢◌, ℤ, Bool, true, false, refl, int_eq, Decides-int_eq, not_from_Decides}
 use Rattle.std.specs.Bool.{Decides}
-use Rattle.std.specs.Ordering.{int_eq}
-use Rattle.std.proofs.lemmas.Bool.Decides.{Decides-int_eq, not_from_Decides}
 
 pub int_differs : (x y : ℤ) → int_eq x y ≡ false → x ≢ y
 int_differs x y e = not_from_Decides (int_eq x y) (Decides-int_eq x y) e

@@ -1,9 +1,6 @@
 -- Items one after the other.
-use Rattle.std.proofs.Common.{◌≡◌, ℕ, zero, suc, ◌<◌, List, [], ◌∷◌, ◌++◌, length, Option, Some, None, Ok, refl, sym, ap, subst, ◌∙◌, append_assoc, length-append, arith}
-use Rattle.script_tokens.specs.Pieces.{TokenView, Name}
-use Rattle.script_grammar.specs.Grammar.{Each, no_more, one_more}
-use Rattle.script_parser.specs.Model.Steps.{◌>>=◌, Reads}
-use Rattle.script_parser.specs.Model.Parts.{name_at, on_stop, items_at}
+use Rattle.script_parser.proofs.Prelude.{◌≡◌, ℕ, zero, suc, ◌<◌, List, [], ◌∷◌, ◌++◌, length, Option, Some, None, Ok, refl, sym, ap, subst, ◌∙◌, append_assoc, length-append, arith, TokenView, Name, Each, no_more, one_more, ◌>>=◌, Reads, name_at, on_stop}
+use Rattle.script_parser.specs.Model.Parts.{items_at}
 use Rattle.script_parser.proofs.Steps.{done, ok_is, step_ok}
 use Rattle.script_parser.proofs.Tokens.{name_is}
 

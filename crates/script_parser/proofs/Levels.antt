@@ -1,16 +1,8 @@
 -- Reading levels one after the other, as a loop does.
-use Rattle.std.proofs.Common.{◌≡◌, ◌≤◌, ◌<◌, ℕ, zero, suc, ◌+◌, ◌-◌, false, List, Option, Some, None, Result, Ok, Err, refl, sym, ap, subst, ◌∙◌, arith}
-use Rattle.std.specs.Prelude.{is_some}
+use Rattle.script_parser.proofs.Prelude.{◌≡◌, ◌≤◌, ◌<◌, ℕ, zero, suc, ◌+◌, ◌-◌, false, List, Option, Some, None, Result, Ok, Err, refl, sym, ap, subst, ◌∙◌, arith, is_some, ParseFault, ReadError, TokenView, Atoms, ExprTree, NESTING, Fails, Read, ReadInside, operator_at, most_operators, unary_at}
 use Rattle.std.specs.Option.{option_map}
-use Rattle.script_parser.specs.declared.fault.ParseFault.{ParseFault}
-use Rattle.script_parser.specs.declared.fault.ReadError.{ReadError}
 use Rattle.script_parser.specs.declared.fault.ReadError.TheVariants as errors
-use Rattle.script_tokens.specs.Pieces.{TokenView}
-use Rattle.script_grammar.specs.declared.region.Atoms.{Atoms}
-use Rattle.script_grammar.specs.Tree.{ExprTree}
-use Rattle.script_parser.specs.declared.limits.TheConstants.{NESTING}
-use Rattle.script_parser.specs.Model.Steps.{Fails}
-use Rattle.script_parser.specs.Model.Expressions.{Read, ReadInside, operator_at, most_operators, operands_at, unary_at, level_at}
+use Rattle.script_parser.specs.Model.Expressions.{operands_at, level_at}
 
 -- what is not found is not there
 pub not_found : {A B : Type 0} (f : A → B) (o : Option A) (there : Option B) → is_some o ≡ false → option_map f o ≡ there → there ≡ None

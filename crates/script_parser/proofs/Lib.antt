@@ -1,3 +1,4 @@
+pub mod Prelude
 pub mod Steps
 pub mod Front
 pub mod Operands

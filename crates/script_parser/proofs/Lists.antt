@@ -1,10 +1,7 @@
 -- Values with commas between them.
-use Rattle.std.proofs.Common.{◌≡◌, ℕ, zero, suc, ◌+◌, ◌<◌, List, [], ◌∷◌, ◌++◌, length, Option, Some, None, Ok, refl, sym, ap, subst, ◌∙◌, append_assoc, length-append, arith}
+use Rattle.script_parser.proofs.Prelude.{◌≡◌, ℕ, zero, suc, ◌+◌, ◌<◌, List, [], ◌∷◌, ◌++◌, length, Option, Some, None, Ok, refl, sym, ap, subst, ◌∙◌, append_assoc, length-append, arith, TokenView, Sign, Each, no_more, one_more, IsNext, Listed, none_listed, some_listed, ◌>>=◌, Reads, on_stop, items_at, with_first}
 use Rattle.script_tokens.specs.declared.mark.Mark.TheVariants as mark
-use Rattle.script_tokens.specs.Pieces.{TokenView, Sign}
-use Rattle.script_grammar.specs.Grammar.{Each, no_more, one_more, IsNext, Listed, none_listed, some_listed}
-use Rattle.script_parser.specs.Model.Steps.{◌>>=◌, Reads}
-use Rattle.script_parser.specs.Model.Parts.{sign_at, close_at, comma_at, on_stop, items_at, with_first, list_at}
+use Rattle.script_parser.specs.Model.Parts.{sign_at, close_at, comma_at, list_at}
 use Rattle.script_parser.proofs.Steps.{ok_is, step_ok}
 use Rattle.script_parser.proofs.Tokens.{sign_is, close_is, close_now}
 use Rattle.script_parser.proofs.Items.{Taken, items_next, items_end, items_take}

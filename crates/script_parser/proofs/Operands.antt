@@ -1,14 +1,7 @@
 -- Reading operands one after the other, as a loop does.
-use Rattle.std.proofs.Common.{◌≡◌, ℕ, suc, ◌+◌, ◌-◌, ◌<◌, List, Some, Result, Ok, Err, refl, sym, ◌∙◌, arith}
-use Rattle.script_parser.specs.declared.fault.ParseFault.{ParseFault}
-use Rattle.script_parser.specs.declared.fault.ReadError.{ReadError}
+use Rattle.script_parser.proofs.Prelude.{◌≡◌, ℕ, suc, ◌+◌, ◌-◌, ◌<◌, List, Some, Result, Ok, Err, refl, sym, ◌∙◌, arith, ParseFault, ReadError, Operator, TokenView, ExprTree, Both, NESTING, Fails, Read, operator_at, checked}
 use Rattle.script_parser.specs.declared.fault.ReadError.TheVariants as errors
-use Rattle.swift_types.specs.declared.operator.Operator.{Operator}
-use Rattle.script_tokens.specs.Pieces.{TokenView}
-use Rattle.script_grammar.specs.Tree.{ExprTree, Both}
-use Rattle.script_parser.specs.declared.limits.TheConstants.{NESTING}
-use Rattle.script_parser.specs.Model.Steps.{Fails}
-use Rattle.script_parser.specs.Model.Expressions.{Read, operator_at, checked, operands_at}
+use Rattle.script_parser.specs.Model.Expressions.{operands_at}
 
 module _ (operand : Read) (k : ℕ) where
   pub next_operand : (count i : ℕ) (a : ExprTree) (ts : List TokenView) (o : Operator) (following : List TokenView) (b t : ExprTree) (after : List TokenView) (total : Result (ExprTree × List TokenView) ParseFault) → i < count

@@ -1,19 +1,9 @@
 -- Expressions that are read are spelled.
-use Rattle.std.proofs.Common.{◌≡◌, ◌≢◌, ℕ, zero, suc, ◌-◌, ◌<◌, ◌≤◌, ◌⊎◌, inl, inr, Bool, true, false, cond, eqb, ltb, List, [], ◌∷◌, ◌++◌, Option, Some, None, Ok, Err, refl, sym, ap, subst, ◌∙◌, append_assoc, arith}
-use Rattle.std.proofs.lemmas.Bool.{ltb-false, eqb-true}
-use Rattle.std.proofs.lemmas.Bool.Decides.{nat_tests}
-use Rattle.script_parser.specs.declared.fault.ParseFault.{ParseFault}
-use Rattle.swift_types.specs.declared.operator.Operator.{Operator}
+use Rattle.script_parser.proofs.Prelude.{◌≡◌, ◌≢◌, ℕ, zero, suc, ◌-◌, ◌<◌, ◌≤◌, ◌⊎◌, inl, inr, Bool, true, false, cond, eqb, ltb, List, [], ◌∷◌, ◌++◌, Option, Some, None, Ok, Err, refl, sym, ap, subst, ◌∙◌, append_assoc, arith, ltb-false, eqb-true, nat_tests, ParseFault, Operator, Mark, TokenView, Num, Name, Key, Sign, Atoms, ExprTree, Number, Named, Local, OwnPriority, IsCancelled, Negated, Inverted, Both, height_of, mark_of, precedence_of, has_every_atom, SpellsExpr, IsExpression, number, name, local, own_priority, is_cancelled, parenthesis, negated, inverted, alone, chained, compared, ◌>>=◌, Read, operator_in, of_precedence, with_rest, most_operators, on_operator, expr_in}
 use Rattle.swift_types.specs.declared.operator.Operator.TheVariants as op
 use Rattle.script_tokens.specs.declared.keyword.Keyword.TheVariants as key
-use Rattle.script_tokens.specs.declared.mark.Mark.{Mark}
 use Rattle.script_tokens.specs.declared.mark.Mark.TheVariants as mark
-use Rattle.script_tokens.specs.Pieces.{TokenView, Num, Name, Key, Sign}
-use Rattle.script_grammar.specs.declared.region.Atoms.{Atoms}
-use Rattle.script_grammar.specs.Tree.{ExprTree, Number, Named, Local, OwnPriority, IsCancelled, Negated, Inverted, Both, height_of}
-use Rattle.script_grammar.specs.Grammar.{mark_of, precedence_of, has_every_atom, SpellsExpr, IsExpression, number, name, local, own_priority, is_cancelled, parenthesis, negated, inverted, alone, chained, compared}
-use Rattle.script_parser.specs.Model.Steps.{◌>>=◌}
-use Rattle.script_parser.specs.Model.Expressions.{Read, operator_in, of_precedence, with_rest, operator_at, most_operators, checked, closed_at, on_operator, atom_at, unary_at, operands_at, level_at, inside_at, expr_in}
+use Rattle.script_parser.specs.Model.Expressions.{operator_at, checked, closed_at, atom_at, unary_at, operands_at, level_at, inside_at}
 use Rattle.script_parser.proofs.Steps.{done, ok_is, some_is, step_ok, allowed_is}
 use Rattle.script_parser.proofs.Tokens.{name_is}
 

@@ -1,17 +1,11 @@
 -- Statements and blocks that are spelled are read.
-use Rattle.std.proofs.Common.{◌≡◌, ℕ, zero, suc, ◌<◌, Bool, true, false, List, [], ◌∷◌, ◌++◌, length, None, Ok, refl, sym, ap, subst, ◌∙◌, append_assoc, length-append, arith}
+use Rattle.script_parser.proofs.Prelude.{◌≡◌, ℕ, zero, suc, ◌<◌, Bool, true, false, List, [], ◌∷◌, ◌++◌, length, None, Ok, refl, sym, ap, subst, ◌∙◌, append_assoc, length-append, arith, TokenView, Key, Sign, Every, Region, ExprTree, ActionTree, HeadTree, If, StmtTree, Do, Headed, IfElse, block_tree, IsExpression, spawned, detached, SpellsAction, defines, defines_task, assigns, awaits, makes, adds, cancels, returns, throws, checks, yields, SpellsHead, tests, repeats, binds, groups, assumes, SpellsStmt, SpellsBlock, SpellsStmts, does, holds, chooses, braces, none, more, ◌>>=◌, action_at, ReadBlock, region_in, many_at}
 use Rattle.script_tokens.specs.declared.keyword.Keyword.TheVariants as key
 use Rattle.script_tokens.specs.declared.mark.Mark.TheVariants as mark
-use Rattle.script_tokens.specs.Pieces.{TokenView, Key, Sign}
-use Rattle.script_grammar.specs.declared.region.Atoms.TheVariants.{Every}
-use Rattle.script_grammar.specs.declared.region.Region.{Region}
-use Rattle.script_grammar.specs.Tree.{ExprTree, ActionTree, HeadTree, If, StmtTree, Do, Headed, IfElse, block_tree}
-use Rattle.script_grammar.specs.Grammar.{IsExpression, spawned, detached, SpellsAction, defines, defines_task, assigns, awaits, makes, adds, cancels, returns, throws, checks, yields, SpellsHead, tests, repeats, binds, groups, assumes, SpellsStmt, SpellsBlock, SpellsStmts, does, holds, chooses, braces, none, more}
-use Rattle.script_parser.specs.Model.Steps.{◌>>=◌}
 use Rattle.script_parser.specs.Model.Parts.{name_at, sign_at, brace_at}
 use Rattle.script_parser.specs.Model.Expressions.{operator_at}
-use Rattle.script_parser.specs.Model.Actions.{may_begin, action_at}
-use Rattle.script_parser.specs.Model.Statements.{ReadBlock, region_in, head_part_at, head_at, choice_at, headed_at, stmt_at, many_at, block_at}
+use Rattle.script_parser.specs.Model.Actions.{may_begin}
+use Rattle.script_parser.specs.Model.Statements.{head_part_at, head_at, choice_at, headed_at, stmt_at, block_at}
 use Rattle.script_parser.proofs.Complete.{Stops, expr_again}
 use Rattle.script_parser.proofs.Items.{items_next, items_end}
 use Rattle.script_parser.proofs.Tokens.{brace_now}

@@ -1,17 +1,9 @@
 -- Statements and blocks that are read are spelled.
-use Rattle.std.proofs.Common.{◌≡◌, ℕ, zero, suc, ◌<◌, true, List, [], ◌∷◌, ◌++◌, length, Ok, sym, ap, ◌∙◌, append_assoc}
+use Rattle.script_parser.proofs.Prelude.{◌≡◌, ℕ, zero, suc, ◌<◌, true, List, [], ◌∷◌, ◌++◌, length, Ok, sym, ap, ◌∙◌, append_assoc, TokenView, Name, Key, Sign, Every, Region, ExprTree, HeadTree, If, While, Bind, Group, Assume, StmtTree, Do, Headed, IfElse, block_tree, IsExpression, Each, no_more, one_more, SpellsAction, SpellsHead, tests, repeats, binds, groups, assumes, SpellsStmt, SpellsBlock, SpellsStmts, does, holds, chooses, braces, none, more, ◌>>=◌, sign_at, brace_at, expr_in, action_at, region_in}
 use Rattle.script_tokens.specs.declared.keyword.Keyword.TheVariants as key
 use Rattle.script_tokens.specs.declared.mark.Mark.TheVariants as mark
-use Rattle.script_tokens.specs.Pieces.{TokenView, Name, Key, Sign}
-use Rattle.script_grammar.specs.declared.region.Atoms.TheVariants.{Every}
-use Rattle.script_grammar.specs.declared.region.Region.{Region}
-use Rattle.script_grammar.specs.Tree.{ExprTree, HeadTree, If, While, Bind, Group, Assume, StmtTree, Do, Headed, IfElse, block_tree}
-use Rattle.script_grammar.specs.Grammar.{IsExpression, Each, no_more, one_more, SpellsAction, SpellsHead, tests, repeats, binds, groups, assumes, SpellsStmt, SpellsBlock, SpellsStmts, does, holds, chooses, braces, none, more}
-use Rattle.script_parser.specs.Model.Steps.{◌>>=◌}
-use Rattle.script_parser.specs.Model.Parts.{sign_at, brace_at}
-use Rattle.script_parser.specs.Model.Expressions.{expr_in}
-use Rattle.script_parser.specs.Model.Actions.{may_begin, action_at}
-use Rattle.script_parser.specs.Model.Statements.{region_in, head_part_at, head_at, choice_at, headed_at, stmt_at, block_at}
+use Rattle.script_parser.specs.Model.Actions.{may_begin}
+use Rattle.script_parser.specs.Model.Statements.{head_part_at, head_at, choice_at, headed_at, stmt_at, block_at}
 use Rattle.script_parser.proofs.Steps.{step_ok, never_ok}
 use Rattle.script_parser.proofs.Tokens.{sign_is, name_is, brace_is}
 use Rattle.script_parser.proofs.Items.{Taken, taken_as, joined, closed_by, taken_with, taken_after, taken_name, items_take}

@@ -1,8 +1,5 @@
 -- What is known of steps that did not fail.
-use Rattle.std.proofs.Common.{◌≡◌, Bool, true, false, List, Some, Result, Ok, Err, refl}
-use Rattle.script_parser.specs.declared.fault.ParseFault.{ParseFault}
-use Rattle.script_tokens.specs.Pieces.{TokenView}
-use Rattle.script_parser.specs.Model.Steps.{◌>>=◌, allowed_at}
+use Rattle.script_parser.proofs.Prelude.{◌≡◌, Bool, true, false, List, Some, Result, Ok, Err, refl, ParseFault, TokenView, ◌>>=◌, allowed_at}
 
 abbrev pub done : {A : Type 0} → A → Result A ParseFault
 done x = Ok x

@@ -1,11 +1,7 @@
 -- What was read where one token was taken.
-use Rattle.std.proofs.Common.{◌≡◌, ℕ, zero, suc, Bool, true, false, cond, eqb, List, [], ◌∷◌, Some, Ok, Err, refl, sym, ap, ◌∙◌}
-use Rattle.std.proofs.lemmas.Bool.{eqb-true}
-use Rattle.script_parser.specs.declared.fault.ParseFault.{ParseFault}
-use Rattle.script_tokens.specs.declared.mark.Mark.{Mark}
+use Rattle.script_parser.proofs.Prelude.{◌≡◌, ℕ, zero, suc, Bool, true, false, cond, eqb, List, [], ◌∷◌, Some, Ok, Err, refl, sym, ap, ◌∙◌, eqb-true, ParseFault, Mark, TokenView, Name, Sign, code_of}
 use Rattle.script_tokens.specs.declared.mark.Mark.TheVariants as mark
-use Rattle.script_tokens.specs.Pieces.{TokenView, Name, Sign}
-use Rattle.script_parser.specs.Model.Parts.{code_of, name_at, sign_at, brace_at, close_at}
+use Rattle.script_parser.specs.Model.Parts.{name_at, sign_at, brace_at, close_at}
 use Rattle.script_parser.proofs.Steps.{ok_is, some_is}
 
 -- the mark of a number

@@ -1,14 +1,6 @@
 -- The laws of whole scripts.
-use Rattle.std.proofs.Common.{◌≡◌, ℕ, ◌+◌, List, [], length, Ok, Err, sym, ap, subst, ◌∙◌, arith}
-use Rattle.script_tokens.specs.Pieces.{TokenView}
-use Rattle.script_parser.specs.declared.fault.ReadError.{ReadError}
+use Rattle.script_parser.proofs.Prelude.{◌≡◌, ℕ, ◌+◌, List, [], length, Ok, Err, sym, ap, subst, ◌∙◌, arith, TokenView, ReadError, DeclTree, IsScript, NESTING, Fails, items_at, decl_at, decls_end, decls_at}
 use Rattle.script_parser.specs.declared.fault.ReadError.TheVariants as errors
-use Rattle.script_grammar.specs.Tree.{DeclTree}
-use Rattle.script_grammar.specs.Grammar.{IsScript}
-use Rattle.script_parser.specs.declared.limits.TheConstants.{NESTING}
-use Rattle.script_parser.specs.Model.Steps.{Fails}
-use Rattle.script_parser.specs.Model.Parts.{items_at}
-use Rattle.script_parser.specs.Model.Declarations.{decl_at, decls_end, decls_at}
 use Rattle.script_parser.specs.Answers.{IsReadAs, SpellsNothing}
 use Rattle.script_parser.proofs.Steps.{ok_is}
 use Rattle.script_parser.proofs.DeclarationsSound.{decls_take}

@@ -1,11 +1,5 @@
 -- What is spelled within a limit is spelled within a greater one.
-use Rattle.std.proofs.Common.{ℕ, zero, suc, ◌-◌, ◌≤◌, List, Option, arith}
-use Rattle.script_tokens.specs.Pieces.{TokenView}
-use Rattle.script_grammar.specs.declared.region.Atoms.{Atoms}
-use Rattle.script_grammar.specs.declared.region.Atoms.TheVariants.{Every, Plain}
-use Rattle.script_grammar.specs.declared.region.Region.{Region}
-use Rattle.script_grammar.specs.Tree.{ExprTree, CallTree, AwaitedTree, WaitTree, ValueTree, MakeTree, AddTree, ActionTree, HeadTree, StmtTree, MethodTree, ActorTree, DeclTree}
-use Rattle.script_grammar.specs.Grammar.{SpellsExpr, number, name, local, own_priority, is_cancelled, parenthesis, negated, inverted, alone, chained, compared, IsExpression, Each, no_more, one_more, IsNext, Listed, none_listed, some_listed, IsCall, IsAwaited, a_call, a_task, a_next, IsElse, without_else, with_else, IsWait, IsMake, spawned, detached, IsAdd, IsValue, computed, awaited, SpellsAction, defines, defines_task, assigns, awaits, makes, adds, cancels, returns, throws, checks, yields, SpellsHead, tests, repeats, binds, groups, assumes, SpellsStmt, SpellsBlock, SpellsStmts, does, holds, chooses, braces, none, more, IsInvariant, no_invariant, an_invariant, IsMethodDecl, IsActor, IsDecl, an_executor, a_local, an_actor, a_root, IsScript}
+use Rattle.script_parser.proofs.Prelude.{ℕ, zero, suc, ◌-◌, ◌≤◌, List, Option, arith, TokenView, Atoms, Every, Plain, Region, ExprTree, CallTree, AwaitedTree, WaitTree, ValueTree, MakeTree, AddTree, ActionTree, HeadTree, StmtTree, MethodTree, ActorTree, DeclTree, SpellsExpr, number, name, local, own_priority, is_cancelled, parenthesis, negated, inverted, alone, chained, compared, IsExpression, Each, no_more, one_more, IsNext, Listed, none_listed, some_listed, IsCall, IsAwaited, a_call, a_task, a_next, IsElse, without_else, with_else, IsWait, IsMake, spawned, detached, IsAdd, IsValue, computed, awaited, SpellsAction, defines, defines_task, assigns, awaits, makes, adds, cancels, returns, throws, checks, yields, SpellsHead, tests, repeats, binds, groups, assumes, SpellsStmt, SpellsBlock, SpellsStmts, does, holds, chooses, braces, none, more, IsInvariant, no_invariant, an_invariant, IsMethodDecl, IsActor, IsDecl, an_executor, a_local, an_actor, a_root, IsScript}
 
 spelled_more : {atoms : Atoms} {m : ℕ} {k : ℕ} {ts : List TokenView} {t : ExprTree} (n : ℕ) → SpellsExpr atoms m k ts t → m ≤ n → SpellsExpr atoms n k ts t
 spelled_more n (number v) le = number v

@@ -1,15 +1,10 @@
 -- The statements of a block, one after the other.
-use Rattle.std.proofs.Common.{◌≡◌, ◌++◌, ◌∷◌, [], ℕ, List, ap, sym, refl, ◌∙◌, ◌+◌, ◌<◌, length, map, take, Vec, Global, rules}
-use Rattle.std.specs.List.{flat_map}
-use Rattle.std.proofs.Math.ListN.{get_or}
+use Rattle.script_printing.proofs.Prelude.{◌≡◌, ◌++◌, ◌∷◌, [], ℕ, List, ap, sym, refl, ◌∙◌, ◌+◌, ◌<◌, length, map, take, Vec, Global, rules, flat_map, get_or, StmtTree, block_tree, view, view_action, view_head, view_stmt, pieces_of_stmt, pieces_of_block, after}
 use Rattle.script_grammar.specs.declared.expression.Expr.{Expr}
 use Rattle.script_grammar.specs.declared.statement.Action.{Action}
 use Rattle.script_grammar.specs.declared.statement.Head.{Head}
 use Rattle.script_grammar.specs.declared.statement.Stmt.{Stmt, Do, Block, IfElse, the_lemmas}
-use Rattle.script_grammar.specs.Tree.{StmtTree, block_tree, view, view_action, view_head, view_stmt}
 use Rattle.script_grammar.specs.Tree as tree
-use Rattle.script_printing.specs.Pieces.{pieces_of_stmt, pieces_of_block}
-use Rattle.script_printing.specs.Printed.{after}
 use Rattle.script_printing.proofs.Written.{after_next}
 
 pub pieces-block_tree : (ss : List StmtTree) → pieces_of_block (block_tree ss) ≡ flat_map pieces_of_stmt ss

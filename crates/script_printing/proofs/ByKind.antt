@@ -1,9 +1,5 @@
 -- Declarations, and the script that they make up.
-use Rattle.std.proofs.Common.{◌≡◌, List, [], ◌∷◌, ◌++◌, map, refl, ap}
-use Rattle.std.specs.List.{All}
-use Rattle.std.proofs.lemmas.List.Elements.{All-nil, All-cons, All-head, All-tail, All-append, All-map}
-use Rattle.script_grammar.specs.Tree.{ExecutorTree, LocalTree, ActorTree, RootTree, DeclTree, Executes, Binds, Acts, Roots}
-use Rattle.script_printing.specs.Script.{ScriptView, declarations_of, with_decl, script_in}
+use Rattle.script_printing.proofs.Prelude.{◌≡◌, List, [], ◌∷◌, ◌++◌, map, refl, ap, All, All-nil, All-cons, All-head, All-tail, All-append, All-map, ExecutorTree, LocalTree, ActorTree, RootTree, DeclTree, Executes, Binds, Acts, Roots, ScriptView, declarations_of, with_decl, script_in}
 
 -- something holds of each declaration of a script
 pub record HoldsOfAll (P : DeclTree → Type 0) (s : ScriptView) : Type 0 where

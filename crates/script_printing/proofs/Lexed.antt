@@ -1,24 +1,9 @@
 -- What is printed of tokens consists of these tokens.
-use Rattle.std.proofs.Common.{◌≡◌, ℕ, pos, negsuc, ◌<◌, ◌^◌, ◌⊎◌, inl, inr, Bool, true, false, ◌&&◌, nat_lt, List, [], ◌∷◌, ◌++◌, length, take, drop, Some, None, refl, sym, ap, subst, ◌∙◌, append_assoc, arith, rules}
-use Rattle.std.specs.List.{All, flat_map, list_all, prefix_len, take_while}
-use Rattle.std.specs.Fmt.{decimal}
-use Rattle.std.proofs.lemmas.List.Elements.{All-nil, All-cons, All-head, All-tail}
-use Rattle.std.proofs.lemmas.Bool.Decides.{nat_tests}
-use Rattle.std.proofs.lemmas.Fmt.{digits_decimal, digits_value-decimal, decimal_nonempty}
+use Rattle.script_printing.proofs.Prelude.{◌≡◌, ℕ, pos, negsuc, ◌<◌, ◌^◌, ◌⊎◌, inl, inr, Bool, true, false, ◌&&◌, nat_lt, List, [], ◌∷◌, ◌++◌, length, take, drop, Some, None, refl, sym, ap, subst, ◌∙◌, append_assoc, arith, rules, All, flat_map, list_all, prefix_len, take_while, decimal, All-nil, All-cons, All-head, All-tail, nat_tests, digits_decimal, digits_value-decimal, decimal_nonempty, Keyword, Mark, is_space, is_digit, is_letter, is_name_byte, TokenView, Num, Huge, Name, Key, Sign, Stray, decimal_behind, word_as, front_of, Lexes, at_end, separated, next_is, spelling, mark_spelling, text_of, IsWord, IsReadable, spaced, line_of, printed, ScriptView, declarations_of, pieces_of_decl, pieces_of_script}
 use Rattle.std.proofs.lemmas.Str.Parse.{IsNumeralModel, numerals_by_fold}
-use Rattle.script_tokens.specs.declared.keyword.Keyword.{Keyword}
 use Rattle.script_tokens.specs.declared.keyword.Keyword.TheVariants as key
-use Rattle.script_tokens.specs.declared.mark.Mark.{Mark}
 use Rattle.script_tokens.specs.declared.mark.Mark.TheVariants as mark
-use Rattle.script_tokens.specs.Bytes.{is_space, is_digit, is_letter, is_name_byte}
-use Rattle.script_tokens.specs.Pieces.{TokenView, Num, Huge, Name, Key, Sign, Stray}
-use Rattle.script_tokens.specs.Lexes.{decimal_behind, number_of, word_as, word_of, mark_at, front_at, front_of, Lexes, at_end, separated, next_is}
-use Rattle.script_tokens.specs.Spelling.{spelling, mark_spelling}
-use Rattle.script_printing.specs.Words.{text_of}
-use Rattle.script_printing.specs.Readable.{IsWord, IsReadable}
-use Rattle.script_printing.specs.Printed.{spaced, line_of, printed}
-use Rattle.script_printing.specs.Script.{ScriptView, declarations_of}
-use Rattle.script_printing.specs.Pieces.{pieces_of_decl, pieces_of_script}
+use Rattle.script_tokens.specs.Lexes.{number_of, word_of, mark_at, front_at}
 
 -- white space stands at the front
 abbrev Breaks : List ℕ → Type 0

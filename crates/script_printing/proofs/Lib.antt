@@ -1,3 +1,4 @@
+pub mod Prelude
 pub mod Written
 pub mod Blocks
 pub mod ByKind

@@ -1,25 +1,10 @@
 -- What is printed of tokens that can be read has only bytes that a script may contain.
-use Rattle.std.proofs.Common.{◌≡◌, ℕ, pos, negsuc, zero, suc, ◌<◌, ◌^◌, Bool, true, List, [], ◌∷◌, ◌++◌, refl, ◌∙◌, arith}
-use Rattle.std.specs.List.{All, flat_map, list_all, slice_index}
+use Rattle.script_printing.proofs.Prelude.{◌≡◌, ℕ, pos, negsuc, zero, suc, ◌<◌, ◌^◌, Bool, true, List, [], ◌∷◌, ◌++◌, refl, ◌∙◌, arith, All, flat_map, list_all, slice_index, nat_tests, digits_decimal, All-head, All-tail, decimal, is_digit, is_name_byte, is_text_byte, is_text, Keyword, Mark, TokenView, Num, Huge, Name, Key, Sign, Stray, ScriptView, declarations_of, pieces_of_decl, pieces_of_script, spaced, line_of, printed, IsReadable, spelling, mark_spelling, text_of}
 use Rattle.std.specs.Str.{IsAscii}
 use Rattle.std.proofs.lemmas.Bool.{and_from}
-use Rattle.std.proofs.lemmas.Bool.Decides.{nat_tests}
-use Rattle.std.proofs.lemmas.Fmt.{digits_decimal}
-use Rattle.std.proofs.lemmas.List.Elements.{All-head, All-tail}
 use Rattle.std.proofs.lemmas.List.Folds.{list_all-append}
-use Rattle.std.specs.Fmt.{decimal}
-use Rattle.script_tokens.specs.Bytes.{is_digit, is_name_byte, is_text_byte, is_text}
-use Rattle.script_tokens.specs.declared.keyword.Keyword.{Keyword}
 use Rattle.script_tokens.specs.declared.keyword.Keyword.TheVariants as key
-use Rattle.script_tokens.specs.declared.mark.Mark.{Mark}
 use Rattle.script_tokens.specs.declared.mark.Mark.TheVariants as mark
-use Rattle.script_tokens.specs.Pieces.{TokenView, Num, Huge, Name, Key, Sign, Stray}
-use Rattle.script_printing.specs.Script.{ScriptView, declarations_of}
-use Rattle.script_printing.specs.Pieces.{pieces_of_decl, pieces_of_script}
-use Rattle.script_printing.specs.Printed.{spaced, line_of, printed}
-use Rattle.script_printing.specs.Readable.{IsReadable}
-use Rattle.script_tokens.specs.Spelling.{spelling, mark_spelling}
-use Rattle.script_printing.specs.Words.{text_of}
 use Rattle.script_printing.proofs.Lexed.{All-front, All-back, both_true, numerals}
 
 -- texts after one another are a text

@@ -1,21 +1,7 @@
 -- What is read from a text can be read from its printed form.
-use Rattle.std.proofs.Common.{ℕ, ℤ, pos, negsuc, neg_ℤ, zero, suc, ◌-◌, Bool, true, false, List, [], ◌∷◌, ◌++◌, Option, Some, None, subst}
-use Rattle.std.specs.List.{All, flat_map}
-use Rattle.std.proofs.lemmas.List.Elements.{All-nil, All-cons, All-head, All-tail}
-use Rattle.swift_types.specs.declared.priority.Priority.{Priority}
+use Rattle.script_printing.proofs.Prelude.{ℕ, ℤ, pos, negsuc, neg_ℤ, zero, suc, ◌-◌, Bool, true, false, List, [], ◌∷◌, ◌++◌, Option, Some, None, subst, All, flat_map, All-nil, All-cons, All-head, All-tail, Priority, TokenView, Num, Name, Key, Sign, Lexes, Atoms, Every, Region, ExecutorKind, ExprTree, CallTree, AwaitedTree, WaitTree, ValueTree, MakeTree, AddTree, ActionTree, HeadTree, StmtTree, block_tree, ExecutorTree, LocalTree, FieldTree, MethodTree, ActorTree, RootTree, DeclTree, Executes, Binds, Acts, Roots, mark_of, SpellsExpr, number, name, local, own_priority, is_cancelled, parenthesis, negated, inverted, alone, chained, compared, IsExpression, Each, no_more, one_more, IsNext, Listed, none_listed, some_listed, IsCall, IsAwaited, a_call, a_task, a_next, IsElse, without_else, with_else, IsWait, or_medium, IsMake, spawned, detached, IsAdd, IsValue, computed, awaited, SpellsAction, defines, defines_task, assigns, awaits, makes, adds, cancels, returns, throws, checks, yields, SpellsHead, tests, repeats, binds, groups, assumes, SpellsStmt, SpellsBlock, SpellsStmts, does, holds, chooses, braces, none, more, IsInt, plain, opposite, IsName, IsKind, by_priority, by_age, by_worker, IsExecutorDecl, IsLocal, IsField, IsOn, on_its_own, on_shared, IsInvariant, no_invariant, an_invariant, IsMethodDecl, IsActor, IsStart, IsRoot, IsDecl, an_executor, a_local, an_actor, a_root, IsScript, pieces_of, pieces_of_int, pieces_of_name, after_comma, listed, braced, ended, pieces_of_call, pieces_of_awaited, pieces_of_else, pieces_of_wait, pieces_of_value, pieces_of_priority, pieces_of_given, pieces_of_make, pieces_of_unless, pieces_of_add, pieces_of_action, pieces_of_head, pieces_of_stmt, pieces_of_block, pieces_of_kind, pieces_of_field, pieces_of_on, pieces_of_invariant, pieces_of_method, pieces_of_start, pieces_of_decl, pieces_of_script, IsReadable, declarations_of, script_in}
 use Rattle.script_tokens.specs.declared.mark.Mark.TheVariants as mark
 use Rattle.script_tokens.specs.declared.keyword.Keyword.TheVariants as key
-use Rattle.script_tokens.specs.Pieces.{TokenView, Num, Name, Key, Sign}
-use Rattle.script_tokens.specs.Lexes.{Lexes}
-use Rattle.script_grammar.specs.declared.region.Atoms.{Atoms}
-use Rattle.script_grammar.specs.declared.region.Atoms.TheVariants.{Every}
-use Rattle.script_grammar.specs.declared.region.Region.{Region}
-use Rattle.swift_types.specs.declared.executor_kind.ExecutorKind.{ExecutorKind}
-use Rattle.script_grammar.specs.Tree.{ExprTree, CallTree, AwaitedTree, WaitTree, ValueTree, MakeTree, AddTree, ActionTree, HeadTree, StmtTree, block_tree, ExecutorTree, LocalTree, FieldTree, MethodTree, ActorTree, RootTree, DeclTree, Executes, Binds, Acts, Roots}
-use Rattle.script_grammar.specs.Grammar.{mark_of, SpellsExpr, number, name, local, own_priority, is_cancelled, parenthesis, negated, inverted, alone, chained, compared, IsExpression, Each, no_more, one_more, IsNext, Listed, none_listed, some_listed, IsCall, IsAwaited, a_call, a_task, a_next, IsElse, without_else, with_else, IsWait, or_medium, IsMake, spawned, detached, IsAdd, IsValue, computed, awaited, SpellsAction, defines, defines_task, assigns, awaits, makes, adds, cancels, returns, throws, checks, yields, SpellsHead, tests, repeats, binds, groups, assumes, SpellsStmt, SpellsBlock, SpellsStmts, does, holds, chooses, braces, none, more, IsInt, plain, opposite, IsName, IsKind, by_priority, by_age, by_worker, IsExecutorDecl, IsLocal, IsField, IsOn, on_its_own, on_shared, IsInvariant, no_invariant, an_invariant, IsMethodDecl, IsActor, IsStart, IsRoot, IsDecl, an_executor, a_local, an_actor, a_root, IsScript}
-use Rattle.script_printing.specs.Pieces.{pieces_of, pieces_of_int, pieces_of_name, after_comma, listed, braced, ended, pieces_of_call, pieces_of_awaited, pieces_of_else, pieces_of_wait, pieces_of_value, pieces_of_priority, pieces_of_given, pieces_of_make, pieces_of_unless, pieces_of_add, pieces_of_action, pieces_of_head, pieces_of_stmt, pieces_of_block, pieces_of_kind, pieces_of_field, pieces_of_on, pieces_of_invariant, pieces_of_method, pieces_of_start, pieces_of_decl, pieces_of_script}
-use Rattle.script_printing.specs.Readable.{IsReadable}
-use Rattle.script_printing.specs.Script.{declarations_of, script_in}
 use Rattle.script_printing.proofs.ByKind.{ordered_hold}
 use Rattle.script_printing.proofs.WordsLexAgain.{IsFound, AreFound, lexes_found}
 

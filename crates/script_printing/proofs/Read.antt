@@ -1,16 +1,5 @@
 -- What is read within a limit is within it.
-use Rattle.std.proofs.Common.{◌≡◌, ℕ, suc, ◌-◌, ◌<◌, List, Option, refl, subst, arith}
-use Rattle.std.specs.List.{All}
-use Rattle.std.proofs.lemmas.List.Elements.{All-nil, All-cons}
-use Rattle.script_tokens.specs.Pieces.{TokenView}
-use Rattle.script_grammar.specs.declared.region.Atoms.{Atoms}
-use Rattle.script_grammar.specs.declared.region.Atoms.TheVariants.{Every}
-use Rattle.script_grammar.specs.declared.region.Region.{Region}
-use Rattle.script_grammar.specs.Tree.{ExprTree, CallTree, AwaitedTree, WaitTree, ValueTree, MakeTree, ActionTree, HeadTree, StmtTree, block_tree, MethodTree, DeclTree}
-use Rattle.script_grammar.specs.Grammar.{SpellsExpr, number, name, local, own_priority, is_cancelled, parenthesis, negated, inverted, alone, chained, compared, IsExpression, Each, no_more, one_more, IsNext, Listed, none_listed, some_listed, IsCall, IsAwaited, a_call, a_task, a_next, IsElse, without_else, with_else, IsWait, IsMake, spawned, detached, IsValue, computed, awaited, SpellsAction, defines, defines_task, assigns, awaits, makes, adds, cancels, returns, throws, checks, yields, SpellsHead, tests, repeats, binds, groups, assumes, SpellsStmt, SpellsBlock, SpellsStmts, does, holds, chooses, braces, none, more, IsInvariant, no_invariant, an_invariant, IsMethodDecl, IsDecl, an_executor, a_local, an_actor, a_root, IsScript}
-use Rattle.script_printing.specs.Limits.{IsLow, IsLowIfAny, AtomsFit, CallFits, AwaitedFits, WaitFits, ValueFits, MakeFits, ActionFits, HeadFits, region_in, StmtFits, BlockFits, MethodFits, InvariantFits, ActorFits}
-use Rattle.script_printing.specs.Pieces.{pieces_of_script}
-use Rattle.script_printing.specs.Script.{declarations_of, script_in}
+use Rattle.script_printing.proofs.Prelude.{◌≡◌, ℕ, suc, ◌-◌, ◌<◌, List, Option, refl, subst, arith, All, All-nil, All-cons, TokenView, Atoms, Every, Region, ExprTree, CallTree, AwaitedTree, WaitTree, ValueTree, MakeTree, ActionTree, HeadTree, StmtTree, block_tree, MethodTree, DeclTree, SpellsExpr, number, name, local, own_priority, is_cancelled, parenthesis, negated, inverted, alone, chained, compared, IsExpression, Each, no_more, one_more, IsNext, Listed, none_listed, some_listed, IsCall, IsAwaited, a_call, a_task, a_next, IsElse, without_else, with_else, IsWait, IsMake, spawned, detached, IsValue, computed, awaited, SpellsAction, defines, defines_task, assigns, awaits, makes, adds, cancels, returns, throws, checks, yields, SpellsHead, tests, repeats, binds, groups, assumes, SpellsStmt, SpellsBlock, SpellsStmts, does, holds, chooses, braces, none, more, IsInvariant, no_invariant, an_invariant, IsMethodDecl, IsDecl, an_executor, a_local, an_actor, a_root, IsScript, IsLow, IsLowIfAny, AtomsFit, CallFits, AwaitedFits, WaitFits, ValueFits, MakeFits, ActionFits, HeadFits, region_in, StmtFits, BlockFits, MethodFits, InvariantFits, ActorFits, pieces_of_script, declarations_of, script_in}
 use Rattle.script_printing.proofs.ByKind.{script_holds, ordered_hold}
 use Rattle.script_printing.proofs.SpelledWhole.{DeclFits, declarations}
 

@@ -1,12 +1,8 @@
 -- What is printed of two scripts, computed.
-use Rattle.std.proofs.Common.{◌≡◌, pos, negsuc, true, false, [], ◌∷◌, Some, None, refl}
-use Rattle.std.specs.Prelude.{codes}
+use Rattle.script_printing.proofs.Prelude.{◌≡◌, pos, negsuc, true, false, [], ◌∷◌, Some, None, refl, codes, Low, Medium, High, Number, Named, Local, OwnPriority, IsCancelled, Negated, Both, CallTree, Called, TaskOf, NextOf, Computed, Waited, Spawned, Detached, Let, LetTask, Assign, Await, Makes, Adds, Cancel, Return, Throw, Check, Yield, If, While, Bind, Group, Assume, StmtTree, Do, Headed, IfElse, nothing, first_then, ActorTree, RootTree, printed}
 use Rattle.std.specs.Fmt.{digits}
 use Rattle.swift_types.specs.declared.operator.Operator.TheVariants as op
-use Rattle.swift_types.specs.declared.priority.Priority.TheVariants.{Low, Medium, High}
 use Rattle.swift_types.specs.declared.executor_kind.ExecutorKind.TheVariants as kind
-use Rattle.script_grammar.specs.Tree.{Number, Named, Local, OwnPriority, IsCancelled, Negated, Both, CallTree, Called, TaskOf, NextOf, Computed, Waited, Spawned, Detached, Let, LetTask, Assign, Await, Makes, Adds, Cancel, Return, Throw, Check, Yield, If, While, Bind, Group, Assume, StmtTree, Do, Headed, IfElse, nothing, first_then, ActorTree, RootTree}
-use Rattle.script_printing.specs.Printed.{printed}
 
 abbrev account : ActorTree
 account = record {

@@ -1,22 +1,10 @@
 -- The printed form spells the expressions and the statements that it prints.
-use Rattle.std.proofs.Common.{◌≡◌, ℕ, zero, suc, ◌-◌, ◌<◌, ◌≤◌, true, false, Bool, List, [], ◌∷◌, ◌++◌, Option, Some, None, refl, ap, subst, append_assoc, arith}
-use Rattle.std.specs.List.{All, flat_map}
-use Rattle.std.proofs.lemmas.List.Elements.{All-head, All-tail}
+use Rattle.script_printing.proofs.Prelude.{◌≡◌, ℕ, zero, suc, ◌-◌, ◌<◌, ◌≤◌, true, false, Bool, List, [], ◌∷◌, ◌++◌, Option, Some, None, refl, ap, subst, append_assoc, arith, All, flat_map, All-head, All-tail, Priority, Background, Low, Medium, High, TokenView, Sign, Atoms, Every, Region, ExprTree, Number, Named, Local, OwnPriority, IsCancelled, Negated, Inverted, Both, height_of, CallTree, AwaitedTree, Called, TaskOf, NextOf, WaitTree, ValueTree, Computed, Waited, MakeTree, Spawned, Detached, AddTree, ActionTree, Let, LetTask, Assign, Await, Makes, Adds, Cancel, Return, Throw, Check, Yield, HeadTree, If, While, Bind, Group, Assume, StmtTree, Do, Headed, IfElse, BlockTree, nothing, first_then, block_tree, mark_of, SpellsExpr, number, name, local, own_priority, is_cancelled, parenthesis, negated, inverted, alone, chained, compared, IsExpression, Each, no_more, one_more, IsNext, Listed, none_listed, some_listed, IsCall, IsAwaited, a_call, a_task, a_next, IsElse, without_else, with_else, IsWait, IsPriorityGiven, not_given, given, IsMake, spawned, detached, IsUnless, always, unless, IsAdd, IsValue, computed, awaited, SpellsAction, defines, defines_task, assigns, awaits, makes, adds, cancels, returns, throws, checks, yields, SpellsHead, tests, repeats, binds, groups, assumes, SpellsStmt, SpellsBlock, SpellsStmts, does, holds, chooses, braces, none, more, pieces_of, after_comma, listed, braced, ended, pieces_of_call, pieces_of_awaited, pieces_of_else, pieces_of_wait, pieces_of_value, pieces_of_priority, pieces_of_given, pieces_of_make, pieces_of_unless, pieces_of_add, pieces_of_action, pieces_of_head, pieces_of_stmt, pieces_of_block, IsLow, IsLowIfAny, AtomsFit, CallFits, AwaitedFits, WaitFits, ValueFits, MakeFits, ActionFits, HeadFits, region_in, StmtFits, BlockFits}
 use Rattle.swift_types.specs.declared.operator.Operator.{Operator}
 use Rattle.swift_types.specs.declared.operator.Operator.TheVariants as op
-use Rattle.swift_types.specs.declared.priority.Priority.{Priority}
-use Rattle.swift_types.specs.declared.priority.Priority.TheVariants.{Background, Low, Medium, High}
 use Rattle.script_tokens.specs.declared.keyword.Keyword.TheVariants as key
 use Rattle.script_tokens.specs.declared.mark.Mark.TheVariants as mark
-use Rattle.script_tokens.specs.Pieces.{TokenView, Sign}
-use Rattle.script_grammar.specs.declared.region.Atoms.{Atoms}
-use Rattle.script_grammar.specs.declared.region.Atoms.TheVariants.{Every}
-use Rattle.script_grammar.specs.declared.region.Region.{Region}
 use Rattle.script_grammar.specs.declared.region.Region.TheVariants as region
-use Rattle.script_grammar.specs.Tree.{ExprTree, Number, Named, Local, OwnPriority, IsCancelled, Negated, Inverted, Both, height_of, CallTree, AwaitedTree, Called, TaskOf, NextOf, WaitTree, ValueTree, Computed, Waited, MakeTree, Spawned, Detached, AddTree, ActionTree, Let, LetTask, Assign, Await, Makes, Adds, Cancel, Return, Throw, Check, Yield, HeadTree, If, While, Bind, Group, Assume, StmtTree, Do, Headed, IfElse, BlockTree, nothing, first_then, block_tree}
-use Rattle.script_grammar.specs.Grammar.{mark_of, SpellsExpr, number, name, local, own_priority, is_cancelled, parenthesis, negated, inverted, alone, chained, compared, IsExpression, Each, no_more, one_more, IsNext, Listed, none_listed, some_listed, IsCall, IsAwaited, a_call, a_task, a_next, IsElse, without_else, with_else, IsWait, IsPriorityGiven, not_given, given, IsMake, spawned, detached, IsUnless, always, unless, IsAdd, IsValue, computed, awaited, SpellsAction, defines, defines_task, assigns, awaits, makes, adds, cancels, returns, throws, checks, yields, SpellsHead, tests, repeats, binds, groups, assumes, SpellsStmt, SpellsBlock, SpellsStmts, does, holds, chooses, braces, none, more}
-use Rattle.script_printing.specs.Pieces.{pieces_of, after_comma, listed, braced, ended, pieces_of_call, pieces_of_awaited, pieces_of_else, pieces_of_wait, pieces_of_value, pieces_of_priority, pieces_of_given, pieces_of_make, pieces_of_unless, pieces_of_add, pieces_of_action, pieces_of_head, pieces_of_stmt, pieces_of_block}
-use Rattle.script_printing.specs.Limits.{IsLow, IsLowIfAny, AtomsFit, CallFits, AwaitedFits, WaitFits, ValueFits, MakeFits, ActionFits, HeadFits, region_in, StmtFits, BlockFits}
 
 -- an atom is an expression of each level
 at_level : {atoms : Atoms} {o : ℕ} {ts : List TokenView} {t : ExprTree} (k : ℕ) → SpellsExpr atoms o zero ts t → SpellsExpr atoms o k ts t

@@ -1,17 +1,8 @@
 -- The printed form spells the declarations that it prints.
-use Rattle.std.proofs.Common.{ℕ, ℤ, pos, negsuc, suc, List, [], ◌∷◌, ◌++◌, Option, Some, None, refl, ap, ◌∙◌, append_assoc, arith}
-use Rattle.std.specs.List.{All, flat_map}
+use Rattle.script_printing.proofs.Prelude.{ℕ, ℤ, pos, negsuc, suc, List, [], ◌∷◌, ◌++◌, Option, Some, None, refl, ap, ◌∙◌, append_assoc, arith, All, flat_map, TokenView, Name, Key, Sign, ExecutorKind, Plain, ExprTree, block_tree, ExecutorTree, LocalTree, FieldTree, MethodTree, ActorTree, RootTree, DeclTree, Executes, Binds, Acts, Roots, IsInt, plain, opposite, IsName, IsKind, by_priority, by_age, by_worker, IsExecutorDecl, IsLocal, IsField, IsOn, on_its_own, on_shared, IsInvariant, no_invariant, an_invariant, IsMethodDecl, IsActor, IsStart, IsRoot, IsDecl, an_executor, a_local, an_actor, a_root, IsScript, listed, braced, pieces_of_int, pieces_of_name, pieces_of_kind, pieces_of_field, pieces_of_on, pieces_of_invariant, pieces_of_method, pieces_of_block, pieces_of_priority, pieces_of_start, pieces_of_decl, pieces_of_script, ScriptView, declarations_of, InvariantFits, MethodFits, ActorFits}
 use Rattle.script_tokens.specs.declared.mark.Mark.TheVariants as mark
 use Rattle.script_tokens.specs.declared.keyword.Keyword.TheVariants as key
-use Rattle.script_tokens.specs.Pieces.{TokenView, Name, Key, Sign}
-use Rattle.swift_types.specs.declared.executor_kind.ExecutorKind.{ExecutorKind}
 use Rattle.swift_types.specs.declared.executor_kind.ExecutorKind.TheVariants as kind
-use Rattle.script_grammar.specs.declared.region.Atoms.TheVariants.{Plain}
-use Rattle.script_grammar.specs.Tree.{ExprTree, block_tree, ExecutorTree, LocalTree, FieldTree, MethodTree, ActorTree, RootTree, DeclTree, Executes, Binds, Acts, Roots}
-use Rattle.script_grammar.specs.Grammar.{IsInt, plain, opposite, IsName, IsKind, by_priority, by_age, by_worker, IsExecutorDecl, IsLocal, IsField, IsOn, on_its_own, on_shared, IsInvariant, no_invariant, an_invariant, IsMethodDecl, IsActor, IsStart, IsRoot, IsDecl, an_executor, a_local, an_actor, a_root, IsScript}
-use Rattle.script_printing.specs.Pieces.{listed, braced, pieces_of_int, pieces_of_name, pieces_of_kind, pieces_of_field, pieces_of_on, pieces_of_invariant, pieces_of_method, pieces_of_block, pieces_of_priority, pieces_of_start, pieces_of_decl, pieces_of_script}
-use Rattle.script_printing.specs.Script.{ScriptView, declarations_of}
-use Rattle.script_printing.specs.Limits.{InvariantFits, MethodFits, ActorFits}
 use Rattle.script_printing.proofs.ByKind.{declarations_hold}
 use Rattle.script_printing.proofs.Spelled.{expression_with, each_of, listed_of, priority, body}
 

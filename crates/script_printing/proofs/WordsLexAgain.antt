@@ -1,15 +1,8 @@
 -- The names and numbers of a text's tokens can be read again.
-use Rattle.std.proofs.Common.{◌≡◌, ℕ, pos, ◌<◌, ◌^◌, Bool, true, false, ◌&&◌, cond, nat_lt, List, [], ◌∷◌, ◌==◌, drop, Option, Some, None, refl, ap, subst, ◌∙◌, arith}
-use Rattle.std.specs.List.{list_all, prefix_len, take_while}
+use Rattle.script_printing.proofs.Prelude.{◌≡◌, ℕ, pos, ◌<◌, ◌^◌, Bool, true, false, ◌&&◌, cond, nat_lt, List, [], ◌∷◌, ◌==◌, drop, Option, Some, None, refl, ap, subst, ◌∙◌, arith, list_all, prefix_len, take_while, nat_tests, Keyword, Mark, is_space, is_digit, is_letter, is_name_byte, is_no_line_feed, TokenView, Num, Huge, Name, Key, Sign, Stray, word_as, pair_of, single_of, lone, paired, Lexes, at_end, separated, next_is, begins_with_letter, IsWord, IsNumber}
 use Rattle.std.proofs.lemmas.List.Sums.{take_while-cons}
-use Rattle.std.proofs.lemmas.Bool.Decides.{nat_tests}
-use Rattle.script_tokens.specs.declared.keyword.Keyword.{Keyword}
-use Rattle.script_tokens.specs.declared.mark.Mark.{Mark}
-use Rattle.script_tokens.specs.Bytes.{is_space, is_digit, is_letter, is_name_byte, is_no_line_feed}
 use Rattle.script_tokens.specs.Keywords.{keyword_of}
-use Rattle.script_tokens.specs.Pieces.{TokenView, Num, Huge, Name, Key, Sign, Stray}
-use Rattle.script_tokens.specs.Lexes.{decimal, number_of, word_as, word_of, pair_of, single_of, lone, paired, mark_at, front_at, Lexes, at_end, separated, next_is}
-use Rattle.script_printing.specs.Readable.{begins_with_letter, IsWord, IsNumber}
+use Rattle.script_tokens.specs.Lexes.{decimal, number_of, word_of, mark_at, front_at}
 
 -- a token of a text: a name that can be read again, a number that can, or something else
 abbrev pub IsFound : TokenView → Type 0

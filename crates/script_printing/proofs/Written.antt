@@ -1,15 +1,7 @@
 -- What is written, token by token.
-use Rattle.std.proofs.Common.{◌≡◌, ◌++◌, ◌∷◌, [], ℕ, List, ap, sym, refl, ◌∙◌, append_assoc, ◌+◌, ◌<◌, length, map, take, drop, ◌≤◌, ℤ, arith, Result, Ok, Err, OnOk}
-use Rattle.std.proofs.lemmas.List.{append-nil, map-id, map_more}
+use Rattle.script_printing.proofs.Prelude.{◌≡◌, ◌++◌, ◌∷◌, [], ℕ, List, ap, sym, refl, ◌∙◌, append_assoc, ◌+◌, ◌<◌, length, map, take, drop, ◌≤◌, ℤ, arith, Result, Ok, Err, OnOk, append-nil, map-id, map_more, get_or, flat_map, TokenView, DeclTree, Executes, Binds, Acts, Roots, ScriptView, after_comma, listed, pieces_of_decl, text_of, spaced, line_of, printed}
 use Rattle.std.proofs.lemmas.List.Concat.{flat_map-append}
-use Rattle.std.proofs.Math.ListN.{get_or}
-use Rattle.std.specs.List.{flat_map}
-use Rattle.script_tokens.specs.Pieces.{TokenView}
-use Rattle.script_grammar.specs.Tree.{DeclTree, Executes, Binds, Acts, Roots}
-use Rattle.script_printing.specs.Script.{ScriptView}
-use Rattle.script_printing.specs.Pieces.{after_comma, listed, pieces_of_decl}
-use Rattle.script_printing.specs.Words.{text_of}
-use Rattle.script_printing.specs.Printed.{spaced, line_of, printed, after}
+use Rattle.script_printing.specs.Printed.{after}
 
 pub spaced-append : (ps qs : List TokenView) → spaced (ps ++ qs) ≡ spaced ps ++ spaced qs
 spaced-append [] qs = refl

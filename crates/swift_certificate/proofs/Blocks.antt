@@ -1,8 +1,5 @@
 -- The first elements of a list, and one more.
-use Rattle.std.proofs.Common.{◌≡◌, ℕ, ◌+◌, List, [], ◌∷◌, ◌++◌, ap, ◌∙◌, zero, suc, arith}
-use Rattle.std.specs.Prelude.{Some, slice_get, take}
-use Rattle.std.proofs.lemmas.Option.{none-some}
-use Rattle.swift_steps.proofs.Given.{same_one}
+use Rattle.swift_certificate.proofs.Prelude.{◌≡◌, ℕ, ◌+◌, List, [], ◌∷◌, ◌++◌, ap, ◌∙◌, zero, suc, arith, Some, slice_get, take, none-some, same_one}
 
 take_suc : {A : Type 0} (xs : List A) (n : ℕ) (x : A) → slice_get xs n ≡ Some x → take (suc n) xs ≡ take n xs ++ x ∷ []
 take_suc [] n x is = absurd (none-some x is)

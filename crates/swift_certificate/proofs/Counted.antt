@@ -1,12 +1,6 @@
 -- How many of a turn's effects are of a kind, one more at a time.
-use Rattle.std.proofs.Common.{◌≡◌, ℕ, ◌+◌, ◌<◌, Bool, true, false, List, length, get_or, take, sym, ap, ◌∙◌, arith}
-use Rattle.std.specs.Prelude.{count_by}
-use Rattle.std.specs.List.{take-map}
-use Rattle.std.proofs.lemmas.List.{get_or-map, length-map}
+use Rattle.swift_certificate.proofs.Prelude.{◌≡◌, ℕ, ◌+◌, ◌<◌, Bool, true, false, List, length, get_or, take, sym, ap, ◌∙◌, arith, count_by, take-map, get_or-map, length-map, effect_view, effect_views, EffectView, Effect}
 use Rattle.std.proofs.lemmas.List.Sums.{count_by_more_no, count_by_more_yes}
-use Rattle.swift_interpreter.specs.Frames.{effect_view, effect_views}
-use Rattle.swift_interpreter.specs.Turn.{EffectView}
-use Rattle.swift_interpreter.specs.declared.effect.Effect.{Effect}
 
 -- of the effect at this place, and so of those up to it
 pub counted_more : (p : EffectView → Bool) (es : List Effect) (k : ℕ) (e : Effect) → k < length es → e ≡ get_or es k e →

@@ -1,26 +1,8 @@
 -- A report that was followed to its end.
-use Rattle.std.proofs.Common.{◌≡◌, ◌≢◌, ◌<◌, ◌≤◌, ℕ, zero, suc, get_or, ◌+◌, ℤ, List, [], ◌∷◌, length, map, true, refl, sym, subst, ap, ◌∙◌, arith, inl, inr}
-use Rattle.std.specs.Prelude.{Option, Some, option_map, slice_get, take, unwrap_or}
-use Rattle.std.specs.List.{range_with_len}
-use Rattle.std.specs.Arc.{arc_value}
-use Rattle.std.proofs.lemmas.Bool.{cases_eq}
-use Rattle.std.proofs.lemmas.Option.{slice_get_read, slice_get_within, slice_get-map}
+use Rattle.swift_certificate.proofs.Prelude.{◌≡◌, ◌≢◌, ◌<◌, ◌≤◌, ℕ, zero, suc, get_or, ◌+◌, ℤ, List, [], ◌∷◌, length, map, true, refl, sym, subst, ap, ◌∙◌, arith, inl, inr, Option, Some, option_map, slice_get, take, unwrap_or, range_with_len, arc_value, cases_eq, slice_get_read, slice_get_within, slice_get-map, Ending, ScriptView, executor_count, root_count, Origin, life_of, opened_by, is_closed, RecordView, CheckpointView, IsLegal, ReportView, no_checkpoint, rows_at, same_one, ExecutorProgress, Replay, AreEndedAt, EndsAt, IsReplay}
 use Rattle.std.proofs.Math.Seq.{take-length}
-use Rattle.swift_types.specs.declared.outcome.Ending.{Ending}
-use Rattle.swift_script.specs.Scripts.{ScriptView, executor_count, root_count}
 use Rattle.swift_events.specs.declared.event.Event.{Event}
-use Rattle.swift_events.specs.declared.life.Origin.{Origin}
 use Rattle.swift_events.specs.Events.{tasks_of}
-use Rattle.swift_events.specs.Lives.{life_of}
-use Rattle.swift_events.specs.Relations.{opened_by, is_closed}
-use Rattle.swift_journal.specs.Records.{RecordView}
-use Rattle.swift_journal.specs.Checkpoints.{CheckpointView}
-use Rattle.swift_history.specs.Histories.{IsLegal, ReportView, no_checkpoint}
-use Rattle.swift_steps.specs.OpenHistories.{rows_at}
-use Rattle.swift_steps.proofs.Given.{same_one}
-use Rattle.swift_certificate.specs.declared.playing.ExecutorProgress.{ExecutorProgress}
-use Rattle.swift_certificate.specs.declared.replay.Replay.{Replay}
-use Rattle.swift_certificate.specs.ReplayInside.{AreEndedAt, EndsAt, IsReplay}
 
 -- the executors before a number were followed to their ends
 abbrev pub EndsBelow : ScriptView → List ExecutorProgress → List (List (List ℤ)) → ReportView → ℕ → Type 0

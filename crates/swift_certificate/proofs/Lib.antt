@@ -1,3 +1,4 @@
+pub mod Prelude
 pub mod Blocks
 pub mod Counted
 pub mod Ended

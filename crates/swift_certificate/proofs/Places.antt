@@ -1,15 +1,5 @@
 -- The places of executors, when a block more was followed.
-use Rattle.std.proofs.Common.{◌≡◌, ◌≢◌, ℕ, zero, suc, ◌+◌, List, [], ◌∷◌, ◌++◌, refl, sym, subst, ap, ◌∙◌, inl, inr}
-use Rattle.std.specs.Prelude.{Some, None, if◌then◌else◌, slice_get, slice_set, take}
-use Rattle.std.proofs.lemmas.Bool.{cases_eq}
-use Rattle.std.proofs.lemmas.Option.{none-some}
-use Rattle.swift_journal.specs.Records.{RecordView}
-use Rattle.swift_journal.specs.Checkpoints.{FoldedView}
-use Rattle.swift_history.specs.Histories.{Block, ran, folded, ReportView, checkpoint_at, folded_in, record_in}
-use Rattle.swift_course.proofs.Blocks.{filter_none, filter_some}
-use Rattle.swift_steps.proofs.Given.{equal, same_one, unequal}
-use Rattle.swift_certificate.specs.declared.playing.ExecutorProgress.{ExecutorProgress}
-use Rattle.swift_certificate.specs.ReplayInside.{IsProgress, journal_at}
+use Rattle.swift_certificate.proofs.Prelude.{◌≡◌, ◌≢◌, ℕ, zero, suc, ◌+◌, List, [], ◌∷◌, ◌++◌, refl, sym, subst, ap, ◌∙◌, inl, inr, Some, None, if◌then◌else◌, slice_get, slice_set, take, cases_eq, none-some, RecordView, FoldedView, Block, ran, folded, ReportView, checkpoint_at, folded_in, record_in, filter_none, filter_some, equal, same_one, unequal, ExecutorProgress, IsProgress, journal_at}
 use Rattle.swift_certificate.proofs.Blocks.{take_next}
 
 -- a block that is no turn of an executor leaves it where it was

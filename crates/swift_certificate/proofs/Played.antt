@@ -1,19 +1,5 @@
 -- A turn of a checkpoint leaves a job, and what is the next of a list.
-use Rattle.std.proofs.Common.{◌≡◌, ℕ, ◌+◌, ◌<◌, List, [], ◌∷◌, length, refl, sym, subst, ap, ◌∙◌}
-use Rattle.std.specs.Prelude.{Option, Some, None, Result, Ok, Err, IfOk, IfSome, slice_get, slice_index_or}
-use Rattle.std.proofs.lemmas.Option.{slice_get-get_or}
-use Rattle.swift_types.specs.declared.id.TaskId.{TaskId}
-use Rattle.swift_interpreter.specs.Frames.{FrameView, effect_views}
-use Rattle.swift_interpreter.specs.TurnStates.{exit_view}
-use Rattle.swift_interpreter.specs.Turn.{EffectView, ExitView}
-use Rattle.swift_journal.specs.Records.{RecordView}
-use Rattle.swift_journal.specs.Checkpoints.{CheckpointView, FoldedView}
-use Rattle.swift_turn.specs.Body.{HasFirst, HasFrames, IfRunning, callers_of}
-use Rattle.swift_history.specs.Histories.{LeavesFrame, left_as}
-use Rattle.swift_steps.specs.declared.next_turn.NextTurn.{NextTurn}
-use Rattle.swift_certificate.specs.declared.playing.FoldedTurn.{FoldedTurn}
-use Rattle.swift_certificate.specs.declared.playing.ExecutorProgress.{ExecutorProgress}
-use Rattle.swift_certificate.specs.ReplayInside.{Folds, GoesOn, TakesFolded, folded_turn}
+use Rattle.swift_certificate.proofs.Prelude.{◌≡◌, ℕ, ◌+◌, ◌<◌, List, [], ◌∷◌, length, refl, sym, subst, ap, ◌∙◌, Option, Some, None, Result, Ok, Err, IfOk, IfSome, slice_get, slice_index_or, slice_get-get_or, TaskId, FrameView, effect_views, exit_view, EffectView, ExitView, RecordView, CheckpointView, FoldedView, HasFirst, HasFrames, IfRunning, callers_of, LeavesFrame, left_as, NextTurn, FoldedTurn, ExecutorProgress, Folds, GoesOn, TakesFolded, folded_turn}
 
 takes_from : (ready : NextTurn) (done : FoldedTurn) (frame : FrameView) (fs : List FrameView) (effects : List EffectView) (exit : ExitView) (after : Option FrameView)
     → ready.body.task.frames ≡ fs → HasFrames fs → HasFirst fs (λ p. frame ≡ left_as p effects after)

@@ -1,16 +1,7 @@
 -- The journals of a history whose blocks may stand are lawful.
-use Rattle.std.proofs.Common.{◌≡◌, ℕ, ℤ, List, [], ◌∷◌, ◌++◌, refl, sym, subst, ap, ◌∙◌, append_assoc, inl, inr}
-use Rattle.std.specs.Prelude.{Option, Some, None, if◌then◌else◌, unwrap_or}
-use Rattle.std.proofs.lemmas.Bool.{cases_eq}
-use Rattle.std.proofs.lemmas.List.{append-nil}
-use Rattle.swift_script.specs.Scripts.{ScriptView, actor_executor, method_actor}
-use Rattle.swift_journal.specs.Records.{RecordView}
-use Rattle.swift_journal.specs.Checkpoints.{CheckpointView}
+use Rattle.swift_certificate.proofs.Prelude.{◌≡◌, ℕ, ℤ, List, [], ◌∷◌, ◌++◌, refl, sym, subst, ap, ◌∙◌, append_assoc, inl, inr, Option, Some, None, if◌then◌else◌, unwrap_or, cases_eq, append-nil, ScriptView, actor_executor, method_actor, RecordView, CheckpointView, AllStand, Block, added, begun, ran, folded, IsLegal, ReportView, RecordStands, Stands, after_blocks, at_first, checkpoint_at, no_checkpoint, record_in, records_of, filter_none, filter_some, equal, unequal}
 use Rattle.swift_journal.specs.Replay.{AreLawful, IsLawfulRecord, LawfulGrows, RunOn, replay}
-use Rattle.swift_history.specs.Histories.{AllStand, Block, added, begun, ran, folded, IsLegal, ReportView, RecordStands, Stands, after_blocks, at_first, checkpoint_at, no_checkpoint, record_in, records_of}
 use Rattle.swift_certificate.specs.Laws.{HasExecutor, IsReplayed}
-use Rattle.swift_course.proofs.Blocks.{filter_none, filter_some}
-use Rattle.swift_steps.proofs.Given.{equal, unequal}
 
 abbrev Grows : Type 0
 Grows = (script : ScriptView) (fields : List (List ℤ)) (rs : List RecordView) (r : RecordView) → LawfulGrows script fields rs r

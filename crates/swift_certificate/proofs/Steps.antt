@@ -1,38 +1,15 @@
 -- Each step of a replay follows one block more.
-use Rattle.std.proofs.Common.{◌≡◌, ℕ, ℤ, ◌+◌, List, [], ◌∷◌, ◌++◌, length, get_or, map, replicate, refl, sym, subst, ap, ◌∙◌, ◌<◌, zero, suc}
-use Rattle.std.specs.Prelude.{Option, Some, None, slice_get, slice_set, take, unwrap_or, Result, Ok, Err, IfOk, IfSome}
-use Rattle.std.specs.Arc.{arc_value}
-use Rattle.std.proofs.lemmas.Option.{none-some, slice_get_read, slice_get-map}
+use Rattle.swift_certificate.proofs.Prelude.{◌≡◌, ℕ, ℤ, ◌+◌, List, [], ◌∷◌, ◌++◌, length, get_or, map, replicate, refl, sym, subst, ap, ◌∙◌, ◌<◌, zero, suc, Option, Some, None, slice_get, slice_set, take, unwrap_or, Result, Ok, Err, IfOk, IfSome, arc_value, none-some, slice_get_read, slice_get-map, TaskId, ScriptView, actor_executor, method_actor, FrameView, effect_views, EffectView, ExitView, exit_view, life_of, CheckpointRoomView, CheckpointView, FoldedView, RecordView, BodyView, IfRunning, TaskView, Block, ran, folded, FoldedStands, ReportView, checkpoint_at, folded_in, no_checkpoint, record_in, records_of, NextTurn, PlayedTurn, given_view, job_of, Applies, Follows, IsAtRest, IsFollowed, RunsAt, StartsFrom, Takes, record_of, rows_at, at_rest, followed_is, own_led, rest_after, same_rows, same_one, ExecutorProgress, FoldedTurn, Replay, Folds, IsProgress, IsReplay, at_the_start, folded_turn, journal_at}
 use Rattle.std.specs.Option.{option_map}
 use Rattle.swift_types.specs.declared.env.Env.{Env}
-use Rattle.swift_types.specs.declared.id.TaskId.{TaskId}
 use Rattle.swift_types.specs.declared.outcome.Resume.{Resume}
-use Rattle.swift_script.specs.Scripts.{ScriptView, actor_executor, method_actor}
-use Rattle.swift_interpreter.specs.Frames.{FrameView, effect_views}
-use Rattle.swift_interpreter.specs.Turn.{EffectView, ExitView}
-use Rattle.swift_interpreter.specs.TurnStates.{exit_view}
 use Rattle.swift_events.specs.declared.life.JobStage.TheVariants.{Begun}
-use Rattle.swift_events.specs.Lives.{life_of}
-use Rattle.swift_journal.specs.Checkpoints.{CheckpointRoomView, CheckpointView, FoldedView}
-use Rattle.swift_journal.specs.Records.{RecordView}
 use Rattle.swift_job.specs.Job.{JobView}
-use Rattle.swift_turn.specs.Body.{BodyView, IfRunning, TaskView}
-use Rattle.swift_history.specs.Histories.{Block, ran, folded, FoldedStands, ReportView, checkpoint_at, folded_in, no_checkpoint, record_in, records_of}
 use Rattle.swift_tasks.specs.Books.{BookView, IsEndOf, end_of_frames}
 use Rattle.swift_tasks.specs.Refusals.{refusal_of_apply}
 use Rattle.swift_course.specs.Course.{standing}
-use Rattle.swift_steps.specs.declared.next_turn.NextTurn.{NextTurn}
 use Rattle.swift_steps.specs.declared.history.OpenHistory.{OpenHistory}
-use Rattle.swift_steps.specs.declared.played.PlayedTurn.{PlayedTurn}
-use Rattle.swift_steps.specs.NextTurns.{given_view, job_of}
-use Rattle.swift_steps.specs.OpenHistories.{Applies, Follows, IsAtRest, IsFollowed, RunsAt, StartsFrom, Takes, record_of, rows_at}
 use Rattle.swift_steps.proofs.Led.{Turned, fields_stay, led_turn, turn_stands}
-use Rattle.swift_steps.proofs.Steps.{at_rest, followed_is, own_led, rest_after, same_rows}
-use Rattle.swift_steps.proofs.Given.{same_one}
-use Rattle.swift_certificate.specs.declared.playing.ExecutorProgress.{ExecutorProgress}
-use Rattle.swift_certificate.specs.declared.playing.FoldedTurn.{FoldedTurn}
-use Rattle.swift_certificate.specs.declared.replay.Replay.{Replay}
-use Rattle.swift_certificate.specs.ReplayInside.{Folds, IsProgress, IsReplay, at_the_start, folded_turn, journal_at}
 use Rattle.swift_certificate.proofs.Places.{others_folded, others_played, place_folded, place_played, place_stays, places_set}
 
 -- before any turn was followed

@@ -1,28 +1,12 @@
 -- An exploration has the outcome of each legal report.
-use Rattle.std.proofs.Common.{◌≡◌, ℕ, ◌+◌, ◌<◌, List, [], ◌∷◌, ◌++◌, refl, sym, ◌∙◌, ap, subst, arith, append_assoc, append-nil}
-use Rattle.std.specs.Prelude.{Option, Some, None, is_some, ◌==◌, Contains}
-use Rattle.std.specs.List.{cons_option}
-use Rattle.std.proofs.lemmas.Bool.{cond-true, eq-eqb}
-use Rattle.swift_events.specs.declared.life.Life.{Life}
-use Rattle.swift_events.specs.Lives.{life_of}
-use Rattle.swift_events.specs.Events.{tasks_of}
-use Rattle.swift_script.specs.Scripts.{ScriptView, root_count, executor_count, method_actor, actor_executor}
-use Rattle.swift_journal.specs.Checkpoints.{FoldedView, CheckpointView}
+use Rattle.swift_digest.proofs.Prelude.{◌≡◌, ℕ, ◌+◌, ◌<◌, List, [], ◌∷◌, ◌++◌, refl, sym, ◌∙◌, ap, subst, arith, append_assoc, append-nil, Option, Some, None, is_some, ◌==◌, Contains, cons_option, cond-true, eq-eqb, Life, life_of, tasks_of, ScriptView, root_count, executor_count, method_actor, actor_executor, FoldedView, CheckpointView, Block, added, begun, ran, folded, folded_in, folded_of, at_first, after_blocks, Stands, AllStand, ReportView, IsLegal, LeadAlike, IsLike, FramePlan, JobPlan, plan_of, frame_plans, job_plan, FrameView, option_map, Digest, is_begun, JobFacts}
 use Rattle.swift_laws.specs.Laws.{ActorsHaveExecutors}
 use Rattle.swift_laws.proofs.HistoriesApplied.{some_root, there}
-use Rattle.swift_history.specs.Histories.{Block, added, begun, ran, folded, folded_in, folded_of, at_first, after_blocks, Stands, AllStand, ReportView, IsLegal}
 use Rattle.swift_history.specs.Orderly.{AllAllowed, IsOrderly, job_executor, frames_executor}
 use Rattle.swift_digest.specs.Explored.{ExploredState, state_of, StartsFresh, IsNotFolded, AreExplored, IsAnyBlock, IsOutcome, FoldsNone, ExploredHasEachOutcome, ExploredHasEachOrderlyOutcome, AreRepresented, RepresentedHasEachOutcome}
 use Rattle.swift_digest.proofs.Answers.{tasks_of_is, life_of_is}
 use Rattle.swift_digest.proofs.SameStands.{all_push, block_stands, lead_push}
 use Rattle.swift_digest.proofs.SameLogs.{same_life}
-use Rattle.swift_digest.specs.Futures.{LeadAlike, IsLike}
-use Rattle.swift_digest.specs.Plans.{FramePlan, JobPlan, plan_of, frame_plans, job_plan}
-use Rattle.swift_interpreter.specs.Frames.{FrameView}
-use Rattle.std.specs.Option.{option_map}
-use Rattle.swift_digest.specs.Digests.{Digest}
-use Rattle.swift_history.specs.Checks.{is_begun}
-use Rattle.swift_history.specs.TurnEnds.{JobFacts}
 
 module _ (script : ScriptView) (on : ActorsHaveExecutors script) (cps : List CheckpointView) where
   -- no block is a folded turn

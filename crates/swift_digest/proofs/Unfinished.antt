@@ -1,22 +1,6 @@
 -- A child of a group is unfinished where the task itself has not ended.
-use Rattle.std.proofs.Common.{◌≡◌, List, [], ◌∷◌, refl, sym, ◌∙◌, ap, ap₂, Bool, true, false, inl, inr}
-use Rattle.std.specs.Prelude.{Option, Some, None, ◌==◌, ◌||◌, is_some, not, if◌then◌else◌}
-use Rattle.std.specs.List.{cons_option, filter, filter_map}
-use Rattle.std.proofs.lemmas.Bool.{cases_Bool, cases_eq, eq-eqb, ne_eqb}
-use Rattle.std.proofs.lemmas.List.Elements.{filter_map-append}
+use Rattle.swift_digest.proofs.Prelude.{◌≡◌, List, [], ◌∷◌, refl, sym, ◌∙◌, ap, ap₂, Bool, true, false, inl, inr, Option, Some, None, ◌==◌, ◌||◌, is_some, not, if◌then◌else◌, cons_option, filter, filter_map, cases_Bool, cases_eq, eq-eqb, ne_eqb, filter_map-append, TaskId, Ending, has_ended, is_among, unfinished_of, Event, End, Life, task_of, later, life_of, ending_in, ending_among, is_among-by, life_of-push_same, life_of-push_other, unborn_without, said}
 use Rattle.std.proofs.lemmas.List.Folds.{list_any-append}
-use Rattle.swift_types.specs.declared.id.TaskId.{TaskId}
-use Rattle.swift_types.specs.declared.outcome.Ending.{Ending}
-use Rattle.swift_groups.specs.Groups.{has_ended, is_among, unfinished_of}
-use Rattle.swift_events.specs.declared.event.Event.{Event}
-use Rattle.swift_events.specs.declared.event.Event.TheVariants.{End}
-use Rattle.swift_events.specs.declared.life.Life.{Life}
-use Rattle.swift_events.specs.Events.{task_of, later}
-use Rattle.swift_events.specs.Lives.{life_of, ending_in}
-use Rattle.swift_events.specs.Relations.{ending_among}
-use Rattle.swift_events.proofs.GroupLemmas.{is_among-by}
-use Rattle.swift_events.proofs.LogLemmas.{life_of-push_same, life_of-push_other, unborn_without}
-use Rattle.swift_digest.specs.Digests.{said}
 use Rattle.swift_digest.proofs.Cards.{by_push}
 
 or_false : (b : Bool) → b || false ≡ b

@@ -1,12 +1,5 @@
 -- The same events, read from elsewhere.
-use Rattle.std.proofs.Common.{◌≡◌, ℕ, List, sym, subst, ◌∙◌}
-use Rattle.std.specs.Prelude.{Option}
-use Rattle.swift_types.specs.declared.id.TaskId.{TaskId}
-use Rattle.swift_types.specs.declared.priority.Priority.{Priority}
-use Rattle.swift_escalation.specs.declared.graph.TaskEdge.{TaskEdge}
-use Rattle.swift_escalation.specs.declared.waits.PriorityEvent.{PriorityEvent}
-use Rattle.swift_escalation.specs.LevelsInside.{GraphView}
-use Rattle.swift_escalation.specs.WaitsInside.{AreOf}
+use Rattle.swift_escalation.proofs.Prelude.{◌≡◌, ℕ, List, sym, subst, ◌∙◌, Option, TaskId, Priority, TaskEdge, PriorityEvent, GraphView, AreOf}
 
 same_places : (events : List PriorityEvent) (place place' : TaskId → Option ℕ) (levels : List Priority) (edges : List TaskEdge) → ((t : TaskId) → place' t ≡ place t) → AreOf events place levels edges → AreOf events place' levels edges
 same_places events place place' levels edges same of = record {

@@ -1,10 +1,8 @@
 -- Where tasks stand, and room for more of them.
-use Rattle.std.proofs.Common.{◌≡◌, ℕ, zero, suc, ◌≤◌, ◌<◌, List, [], ◌∷◌, ◌++◌, Vec, refl, ap, ◌∙◌, arith}
-use Rattle.std.specs.Prelude.{Option, None, nat_lt, nat_eq, slice_index_or, if◌then◌else◌}
+use Rattle.swift_escalation.proofs.Prelude.{◌≡◌, ℕ, zero, suc, ◌≤◌, ◌<◌, List, [], ◌∷◌, ◌++◌, Vec, refl, ap, ◌∙◌, arith, Option, None, nat_lt, nat_eq, slice_index_or, if◌then◌else◌, place_in, HasRoom}
 use Rattle.std.specs.declared.alloc.Global.{Global}
 use Rattle.std.specs.HashMap.{get}
 use Rattle.swift_types.specs.declared.limits.TheConstants.{TASKS}
-use Rattle.swift_escalation.specs.PlacesInside.{place_in, HasRoom}
 use Rattle.swift_escalation.specs.declared.places.TaskPlaces.{TaskPlaces}
 
 -- room for some tasks is room for fewer

@@ -1,12 +1,5 @@
 -- Levels and edges after a push.
-use Rattle.std.proofs.Common.{◌≡◌, ℕ, zero, suc, ◌≤◌, ◌<◌, ◌⊎◌, List, Option, None, [], ◌∷◌, ◌++◌, length, get_or, refl, ap, sym, subst, ◌∙◌, inl, inr, arith}
-use Rattle.std.proofs.lemmas.List.{get_or_append_left, get_or_push, length_push}
-use Rattle.std.proofs.lemmas.Bool.{cases_lt, cond_below, cond_above}
-use Rattle.swift_types.specs.Priority.{rank}
-use Rattle.swift_escalation.specs.LevelsInside.{level_of, higher, edge_at, end_of, AreChained, IsSettled, IsSettledBut}
-use Rattle.swift_types.specs.declared.priority.Priority.{Priority}
-use Rattle.swift_types.specs.declared.priority.Priority.TheVariants.{Background}
-use Rattle.swift_escalation.specs.declared.graph.TaskEdge.{TaskEdge}
+use Rattle.swift_escalation.proofs.Prelude.{◌≡◌, ℕ, zero, suc, ◌≤◌, ◌<◌, ◌⊎◌, List, Option, None, [], ◌∷◌, ◌++◌, length, get_or, refl, ap, sym, subst, ◌∙◌, inl, inr, arith, get_or_append_left, get_or_push, length_push, cases_lt, cond_below, cond_above, rank, level_of, higher, edge_at, end_of, AreChained, IsSettled, IsSettledBut, Priority, Background, TaskEdge}
 
 pub level_of-push_old : (xs : List Priority) (p : Priority) (i : ℕ) → i < length xs → level_of (xs ++ p ∷ []) i ≡ level_of xs i
 level_of-push_old xs p i h = ap rank (get_or_append_left xs (p ∷ []) Background i h)

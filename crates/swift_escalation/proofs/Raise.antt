@@ -1,16 +1,5 @@
 -- What one raise leaves.
-use Rattle.std.proofs.Common.{◌≡◌, ◌≢◌, ℕ, suc, ◌+◌, ◌≤◌, ◌<◌, List, Option, None, [], ◌∷◌, ◌++◌, length, get_or, set, cond, ltb, ap, sym, subst, ◌∙◌, inl, inr, arith}
-use Rattle.std.proofs.lemmas.List.{get_or-set_same, get_or-set_other, length_push}
-use Rattle.std.proofs.lemmas.List.Sums.{sum_by-set}
-use Rattle.std.proofs.lemmas.List.Elements.{Contains-push, Contains-push_cases, Contains-append_left}
-use Rattle.std.proofs.lemmas.Grind.{elements, common_steps}
-use Rattle.std.proofs.lemmas.Bool.{cases_eq, cases_lt}
-use Rattle.std.specs.List.{Contains, All}
-use Rattle.swift_types.specs.Priority.{rank}
-use Rattle.swift_escalation.specs.LevelsInside.{level_of, below, edge_at, end_of, HasEdge, AreChained, Raising}
-use Rattle.swift_types.specs.declared.priority.Priority.{Priority}
-use Rattle.swift_types.specs.declared.priority.Priority.TheVariants.{Background}
-use Rattle.swift_escalation.specs.declared.graph.TaskEdge.{TaskEdge}
+use Rattle.swift_escalation.proofs.Prelude.{◌≡◌, ◌≢◌, ℕ, suc, ◌+◌, ◌≤◌, ◌<◌, List, Option, None, [], ◌∷◌, ◌++◌, length, get_or, set, cond, ltb, ap, sym, subst, ◌∙◌, inl, inr, arith, get_or-set_same, get_or-set_other, length_push, sum_by-set, Contains-push, Contains-push_cases, Contains-append_left, elements, common_steps, cases_eq, cases_lt, Contains, All, rank, level_of, below, edge_at, end_of, HasEdge, AreChained, Raising, Priority, Background, TaskEdge}
 
 pub level_of-set_same : (xs : List Priority) (i : ℕ) (p : Priority) → i < length xs → level_of (set xs i p) i ≡ rank p
 level_of-set_same xs i p h = ap rank (get_or-set_same xs i p Background h)

@@ -1,22 +1,6 @@
 -- What an event adds to the places, levels and edges.
-use Rattle.std.proofs.Common.{◌≡◌, ◌≢◌, ℕ, zero, suc, ◌+◌, ◌≤◌, ◌<◌, ◌⊎◌, List, Option, None, Some, [], ◌∷◌, ◌++◌, length, get_or, Bool, cond, eqb, refl, ap, sym, subst, ◌∙◌, inl, inr, arith}
-use Rattle.std.proofs.lemmas.List.{length_push, append-nil}
-use Rattle.std.proofs.lemmas.List.Elements.{Contains-push_cases, Contains-append_left, Contains-append_right, Contains-append_cases}
-use Rattle.std.proofs.lemmas.Option.{slice_get_within, slice_get-get_or, get_or_from_slice_get, same_Some}
-use Rattle.std.proofs.lemmas.Bool.{cases_eq, cases_lt, eq-eqb, ne_eqb}
-use Rattle.std.specs.List.{slice_get, Contains}
-use Rattle.std.specs.Option.{IsSome}
-use Rattle.swift_types.specs.Priority.{rank}
-use Rattle.swift_types.specs.declared.id.TaskId.{TaskId}
-use Rattle.swift_escalation.specs.LevelsInside.{level_of, higher, edge_at, HasEdge, IsSettled, Walk, Settling}
-use Rattle.swift_escalation.specs.Waits.{tasks_of, IsKnown, IsGiven, Leads, Reaches, IsPriority}
-use Rattle.swift_escalation.specs.WaitsInside.{IsOwn, StandsAt, HasReason, EdgeStands, LeadStands, AreOf}
+use Rattle.swift_escalation.proofs.Prelude.{◌≡◌, ◌≢◌, ℕ, zero, suc, ◌+◌, ◌≤◌, ◌<◌, ◌⊎◌, List, Option, None, Some, [], ◌∷◌, ◌++◌, length, get_or, Bool, cond, eqb, refl, ap, sym, subst, ◌∙◌, inl, inr, arith, length_push, append-nil, Contains-push_cases, Contains-append_left, Contains-append_right, Contains-append_cases, slice_get_within, slice_get-get_or, get_or_from_slice_get, same_Some, cases_eq, cases_lt, eq-eqb, ne_eqb, slice_get, Contains, IsSome, rank, TaskId, level_of, higher, edge_at, HasEdge, IsSettled, Walk, Settling, tasks_of, IsKnown, IsGiven, Leads, Reaches, IsPriority, IsOwn, StandsAt, HasReason, EdgeStands, LeadStands, AreOf, Priority, Background, Low, Medium, High, TaskEdge, PriorityEvent, Root, Child, Free, Wait}
 use Rattle.swift_escalation.proofs.Push.{level_of-push_old, level_of-push_new, edge_at-push_old, edge_at-push_new, higher_cases, higher_second}
-use Rattle.swift_types.specs.declared.priority.Priority.{Priority}
-use Rattle.swift_types.specs.declared.priority.Priority.TheVariants.{Background, Low, Medium, High}
-use Rattle.swift_escalation.specs.declared.graph.TaskEdge.{TaskEdge}
-use Rattle.swift_escalation.specs.declared.waits.PriorityEvent.{PriorityEvent}
-use Rattle.swift_escalation.specs.declared.waits.PriorityEvent.TheVariants.{Root, Child, Free, Wait}
 
 -- priorities of one rank are one
 pub rank_one : (p q : Priority) → rank p ≡ rank q → p ≡ q

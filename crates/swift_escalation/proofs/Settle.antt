@@ -1,15 +1,6 @@
 -- What one turn of the settling leaves.
-use Rattle.std.proofs.Common.{◌≡◌, ℕ, suc, ◌+◌, ◌≤◌, ◌<◌, ◌⊎◌, List, [], ◌∷◌, ◌++◌, length, set, refl, sym, subst, ◌∙◌, inl, inr, arith, add-one}
-use Rattle.std.proofs.lemmas.List.{length-set}
-use Rattle.std.proofs.lemmas.List.Elements.{Contains-push, Contains-push_cases, Contains-append_left}
-use Rattle.std.proofs.lemmas.Grind.{elements}
-use Rattle.std.proofs.lemmas.Bool.{cases_eq, cases_lt}
-use Rattle.std.specs.List.{Contains, All}
-use Rattle.swift_types.specs.Priority.{rank}
-use Rattle.swift_escalation.specs.LevelsInside.{level_of, edge_at, HasEdge, Walk, HasWalk, Raising, Settling, IsOpen}
+use Rattle.swift_escalation.proofs.Prelude.{◌≡◌, ℕ, suc, ◌+◌, ◌≤◌, ◌<◌, ◌⊎◌, List, [], ◌∷◌, ◌++◌, length, set, refl, sym, subst, ◌∙◌, inl, inr, arith, add-one, length-set, Contains-push, Contains-push_cases, Contains-append_left, elements, cases_eq, cases_lt, Contains, All, rank, level_of, edge_at, HasEdge, Walk, HasWalk, Raising, Settling, IsOpen, Priority, TaskEdge}
 use Rattle.swift_escalation.proofs.Raise.{level_of-set_same, level_of-set_other, up_by_set}
-use Rattle.swift_types.specs.declared.priority.Priority.{Priority}
-use Rattle.swift_escalation.specs.declared.graph.TaskEdge.{TaskEdge}
 
 pub settling_start : (edges : List TaskEdge) (start : ℕ) (p : Priority) (xs : List Priority) → start < length xs → level_of xs start < rank p
     → Settling edges start (rank p) xs (set xs start p)

@@ -1,18 +1,11 @@
 -- Each step keeps the account of an inbox.
-use Rattle.std.proofs.Common.{◌≡◌, ℕ, true, false, ◌⊎◌, zero, suc, List, [], ◌∷◌, ◌++◌, map, set, Option, Some, None, IfSome, All, IsPermutation, refl, sym, ap, ◌∙◌, subst, inl, inr, append_assoc, append-nil}
-use Rattle.std.specs.List.{flat_map}
-use Rattle.std.proofs.lemmas.List.{map-append}
+use Rattle.swift_executor.proofs.Prelude.{◌≡◌, ℕ, true, false, ◌⊎◌, zero, suc, List, [], ◌∷◌, ◌++◌, map, set, Option, Some, None, IfSome, refl, sym, ap, ◌∙◌, subst, inl, inr, append_assoc, append-nil, flat_map, map-append, All-nil, All-cons, All-head, All-tail, All-push, All-set, IsPermutation-refl, IsPermutation-trans, IsPermutation-sym, IsPermutation-append_left, IsPermutation-append_right, IsPermutation-append_comm, JobFacts, job_facts, PassKnown, SiteView, CanRunAt}
+use Rattle.std.proofs.Common.{All, IsPermutation}
 use Rattle.std.proofs.lemmas.List.Concat.{flat_map-append}
-use Rattle.std.proofs.lemmas.List.Elements.{All-nil, All-cons, All-head, All-tail, All-push, All-set}
-use Rattle.std.proofs.lemmas.List.Sorted.{IsPermutation-refl, IsPermutation-trans, IsPermutation-sym, IsPermutation-append_left, IsPermutation-append_right, IsPermutation-append_comm}
 use mathlib.Core.Option.{some, some-injective, some-ne-none}
 use lib.ListN.{get_elem?}
 use Rattle.crossbeam_queue.specs.Fifo.{Pushes, Pops, Forks}
-use Rattle.swift_history.specs.TurnEnds.{JobFacts}
 use Rattle.swift_shared_book.specs.Tickets.{TicketedJobView}
-use Rattle.swift_history.specs.Jobs.{job_facts}
-use Rattle.swift_executor.specs.declared.inbox.view.PassKnown.{PassKnown}
-use Rattle.swift_executor.specs.Site.{SiteView, CanRunAt}
 use Rattle.swift_executor.specs.Rule.{unused, blank, pushed_in, taken_in, IsTaking, IsPutting, OneTakes, KeepsAccount, InboxInvariant, with_pushed, with_taken, IsTaken}
 
 module _ {X : Type 0} (P : X → Type 0) where

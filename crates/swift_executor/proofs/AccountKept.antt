@@ -1,21 +1,6 @@
 -- What each call keeps of the account of an executor.
-use Rattle.std.proofs.Common.{◌≡◌, ℕ, suc, ◌==◌, ℤ, Bool, true, false, if◌then◌else◌, Option, Some, None, List, [], ◌∷◌, ◌++◌, length, map, refl, ap, sym, subst, ◌∙◌, inl, inr, append_assoc}
-use Rattle.std.proofs.lemmas.List.{append-nil, map-append}
-use Rattle.std.proofs.lemmas.List.Sorted.{IsPermutation-append, IsPermutation-append_comm, IsPermutation-append_left, IsPermutation-append_right, IsPermutation-cons, IsPermutation-map, IsPermutation-middle, IsPermutation-refl, IsPermutation-sym, IsPermutation-to_front, IsPermutation-trans}
-use Rattle.std.specs.List.Sorted.{IsPermutation}
-use Rattle.swift_types.specs.declared.id.TaskId.{TaskId}
-use Rattle.swift_types.specs.declared.limits.TheConstants.{FOLD}
-use Rattle.swift_turn.specs.Body.{BodyView}
-use Rattle.swift_job.specs.Job.{JobView}
-use Rattle.swift_journal.specs.Checkpoints.{CheckpointView, folded_of, folds}
-use Rattle.swift_journal.specs.Records.{RecordView}
-use Rattle.swift_events.specs.declared.event.Event.{Event}
-use Rattle.swift_history.specs.TurnEnds.{JobFacts}
-use Rattle.swift_tasks.specs.Books.{BookView}
-use Rattle.swift_history.specs.Jobs.{job_facts}
-use Rattle.swift_executor.specs.Account.{AreTaken, HasTaken, SeenJob, chosen_jobs, folded_named, job_named, job_seen, ready_jobs, record_seen}
-use Rattle.swift_executor.specs.Ready.{Adds, Forwards, ReadyJobsView, ReadyJob, ready_job}
-use Rattle.swift_executor.specs.State.{BeginsChosen, Chooses, ChosenView, ExecStateView, HasChosen, HasNone, Journals, LacksTask, Plays, PutsBack, ChosenStageView, played, before_turn, record_by}
+use Rattle.swift_executor.proofs.Prelude.{◌≡◌, ℕ, suc, ◌==◌, ℤ, Bool, true, false, if◌then◌else◌, Option, Some, None, List, [], ◌∷◌, ◌++◌, length, map, refl, ap, sym, subst, ◌∙◌, inl, inr, append_assoc, map-append, IsPermutation-append, IsPermutation-append_comm, IsPermutation-append_left, IsPermutation-append_right, IsPermutation-cons, IsPermutation-map, IsPermutation-middle, IsPermutation-refl, IsPermutation-sym, IsPermutation-to_front, IsPermutation-trans, IsPermutation, TaskId, FOLD, BodyView, JobView, CheckpointView, folded_of, folds, RecordView, Event, JobFacts, BookView, job_facts, AreTaken, HasTaken, SeenJob, chosen_jobs, folded_named, job_named, job_seen, ready_jobs, record_seen, Adds, Forwards, ReadyJobsView, ReadyJob, ready_job, BeginsChosen, Chooses, ChosenView, ExecStateView, HasChosen, HasNone, Journals, LacksTask, Plays, PutsBack, ChosenStageView, played, before_turn, record_by}
+use Rattle.std.proofs.lemmas.List.{append-nil}
 
 module _ {X : Type 0} where
   -- one more was taken, and is ready

@@ -1,18 +1,5 @@
 -- The arrival numbers that are noted by task stay those of the jobs inside.
-use Rattle.std.proofs.Common.{Option, None, Some, is_some, ◌≡◌, ◌≢◌, ℕ, ◌<◌, false, List, [], ◌∷◌, ◌↔◌, get_or, replicate, set, map, refl, ap, sym, subst, ◌∙◌, inl, inr, arith, get_or-set_same, get_or-set_other, length-set}
-use Rattle.std.proofs.lemmas.Bool.{cases_eq}
-use Rattle.std.proofs.lemmas.List.{get_or-map, get_or-replicate, length-map, length-replicate}
-use Rattle.std.proofs.lemmas.List.Elements.{All-cons, All-head, All-map, All-tail}
-use Rattle.std.proofs.lemmas.List.Sorted.{All-permutation, IsPermutation-sym}
-use Rattle.std.specs.List.{AllPairs}
-use Rattle.std.specs.List.Sorted.{IsPermutation}
-use Rattle.swift_types.specs.declared.id.TaskId.{TaskId}
-use Rattle.swift_types.specs.declared.priority.Priority.{Priority}
-use Rattle.swift_executor.specs.QueueInside.ArrivalOf.{AreArrivals, IsArrivalOf}
-use Rattle.swift_executor.specs.QueueInside.List.{HasArrival}
-use Rattle.swift_executor.specs.Picks.{raised}
-use Rattle.swift_executor.specs.Queue.{IsWithout}
-use Rattle.swift_executor.specs.declared.queue.waiting.Waiting.{Waiting}
+use Rattle.swift_executor.proofs.Prelude.{Option, None, Some, is_some, ◌≡◌, ◌≢◌, ℕ, ◌<◌, false, List, [], ◌∷◌, ◌↔◌, get_or, replicate, set, map, refl, ap, sym, subst, ◌∙◌, inl, inr, arith, get_or-set_same, get_or-set_other, length-set, cases_eq, get_or-map, get_or-replicate, length-map, length-replicate, All-cons, All-head, All-map, All-tail, All-permutation, IsPermutation-sym, AllPairs, IsPermutation, TaskId, Priority, AreArrivals, IsArrivalOf, HasArrival, raised, IsWithout, Waiting}
 use Rattle.swift_executor.proofs.PairsInAnyOrder.{pairs_first}
 use Rattle.swift_executor.proofs.QueueStaysOrderly.{raised_arrival, raised_job}
 

@@ -1,16 +1,6 @@
 -- What the chosen job as it is seen says of its place.
-use Rattle.std.proofs.Common.{◌≡◌, ◌<◌, ℕ, ℤ, Option, Some, None, MatchOption, List, [], ◌∷◌, refl, ap, sym, subst, ◌∙◌}
-use Rattle.std.proofs.lemmas.Option.{same_Some}
-use Rattle.swift_interpreter.specs.Frames.{FrameView}
-use Rattle.swift_job.specs.Job.{JobView}
-use Rattle.swift_turn.specs.Body.{BodyView, HasFirst, HasFrames, IsRunning}
-use Rattle.swift_script.specs.Scripts.{ScriptView, actor_executor, method_actor, method_count}
-use Rattle.swift_executor.specs.PlayingInside.{CanGoBack, StageIsBegun, StageIsPlayed}
-use Rattle.swift_executor.specs.State.{BelongsTo, ChosenView, HasPlayed, IsBegun, IsPlayed}
-use Rattle.swift_executor.specs.StateInside.{chosen_at, chosen_view, stage_of}
-use Rattle.swift_executor.specs.declared.chosen.PlayedTurn.{PlayedTurn}
-use Rattle.swift_executor.specs.declared.chosen.ChosenStage.{ChosenStage}
-use Rattle.swift_executor.specs.declared.chosen.ChosenStage.TheVariants.{Picked, Begun, Played as PlayedStage}
+use Rattle.swift_executor.proofs.Prelude.{◌≡◌, ◌<◌, ℕ, ℤ, Option, Some, None, MatchOption, List, [], ◌∷◌, refl, ap, sym, subst, ◌∙◌, same_Some, FrameView, JobView, BodyView, HasFirst, HasFrames, IsRunning, ScriptView, actor_executor, method_actor, method_count, CanGoBack, StageIsBegun, StageIsPlayed, BelongsTo, ChosenView, HasPlayed, IsBegun, IsPlayed, chosen_at, chosen_view, stage_of, PlayedTurn, ChosenStage, Picked, Begun}
+use Rattle.swift_executor.specs.declared.chosen.ChosenStage.TheVariants.{Played as PlayedStage}
 
 -- a job that is seen lies in its place, with what is kept beside it
 pub record IsSeen (p : PlayedTurn) (arrival : ℕ) (stage : ChosenStage) (place : Option (JobView BodyView)) (v : ChosenView) : Type 0 where

@@ -1,9 +1,5 @@
 -- Levels that are counted one by one.
-use Rattle.std.proofs.Common.{◌≡◌, ◌≢◌, ℕ, ◌+◌, Bool, true, nat_lt, eqb, if◌then◌else◌, List, length, take, get_or, ap, sym, ◌∙◌, inl, inr, arith}
-use Rattle.std.proofs.lemmas.Bool.{cases_eq, cases_lt, le-ltb, lt-ltb}
-use Rattle.std.proofs.lemmas.List.{get_or-take, get_or_past}
-use Rattle.swift_types.specs.declared.id.TaskId.{TaskId}
-use Rattle.swift_executor.specs.Ready.{AreAtMost, AreHigher, level_at}
+use Rattle.swift_executor.proofs.Prelude.{◌≡◌, ◌≢◌, ℕ, ◌+◌, Bool, true, nat_lt, eqb, if◌then◌else◌, List, length, take, get_or, ap, sym, ◌∙◌, inl, inr, arith, cases_eq, cases_lt, le-ltb, lt-ltb, get_or-take, get_or_past, TaskId, AreAtMost, AreHigher, level_at}
 use lib.Pointwise.{pointwise, bytes_decides}
 
 -- the greater of two levels

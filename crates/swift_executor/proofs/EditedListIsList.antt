@@ -1,18 +1,7 @@
 -- One list among lists: what an edit of it leaves true.
-use Rattle.std.proofs.Common.{◌≡◌, ℕ, suc, ◌<◌, ◌≤◌, List, [], ◌∷◌, ◌++◌, take, drop, length, get_or, set, sym, subst, inl, inr, arith, get_or-set_same, get_or-set_other, length-set}
-use Rattle.std.proofs.lemmas.Bool.{cases_eq}
-use Rattle.std.proofs.lemmas.List.Elements.{All-append, All-cons, All-drop, All-push, All-tail, All-take}
+use Rattle.swift_executor.proofs.Prelude.{◌≡◌, ℕ, suc, ◌<◌, ◌≤◌, List, [], ◌∷◌, ◌++◌, take, drop, length, get_or, set, sym, subst, inl, inr, arith, get_or-set_same, get_or-set_other, length-set, cases_eq, All-append, All-cons, All-drop, All-push, All-tail, All-take, All-permutation, All, remove, IsPermutation, deque_capacity, VecDeque, rank, Priority, Waiting, IsByArrival, IsList}
 use Rattle.std.proofs.lemmas.List.Quantifiers.{all_pairs_push, all_pairs_remove}
-use Rattle.std.proofs.lemmas.List.Sorted.{All-permutation}
-use Rattle.std.specs.List.{All, remove}
-use Rattle.std.specs.List.Sorted.{IsPermutation}
-use Rattle.std.specs.VecDeque.{deque_capacity}
-use Rattle.std.specs.declared.collections.VecDeque.{VecDeque}
-use Rattle.swift_types.specs.Priority.{rank}
-use Rattle.swift_types.specs.declared.priority.Priority.{Priority}
 use Rattle.swift_types.specs.declared.priority.Priority.TheVariants.{Background, Low, Medium, High}
-use Rattle.swift_executor.specs.declared.queue.waiting.Waiting.{Waiting}
-use Rattle.swift_executor.specs.QueueInside.List.{IsByArrival, IsList}
 use Rattle.swift_executor.proofs.PairsInAnyOrder.{pairs_tail}
 
 -- what holds of each element by its place holds after one was written

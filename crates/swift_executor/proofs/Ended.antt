@@ -1,25 +1,6 @@
 -- An executor after a turn that the book has taken, or has refused, by what lies in its fields.
-use Rattle.std.proofs.Common.{◌≡◌, ℕ, ◌-◌, ℤ, Option, Some, None, List, length, take, ap, sym, subst, ◌∙◌}
-use Rattle.std.proofs.lemmas.Option.{same_Some}
-use Rattle.std.specs.declared.vec.Vec.{Vec}
+use Rattle.swift_executor.proofs.Prelude.{◌≡◌, ℕ, ◌-◌, ℤ, Option, Some, None, List, length, take, ap, sym, subst, ◌∙◌, same_Some, Vec, JobFacts, effect_views, exit_view, CheckpointRoomView, CheckpointView, RecordView, InvariantsStay, LawfulGrows, JobView, ScriptView, BookView, BodyView, TaskId, Applied, HasFoldRoom, Settles, WritesRecord, Forwards, ReadyJobsView, ChosenView, ExecStateView, HasChosen, ExecInvariant, IsPlayed, Journals, chosen_at, chosen_view, stage_of, PlayedTurn, ChosenStage}
 use Rattle.std.specs.declared.alloc.Global.{Global}
-use Rattle.swift_history.specs.TurnEnds.{JobFacts}
-use Rattle.swift_interpreter.specs.Frames.{effect_views}
-use Rattle.swift_interpreter.specs.TurnStates.{exit_view}
-use Rattle.swift_journal.specs.Checkpoints.{CheckpointRoomView, CheckpointView}
-use Rattle.swift_journal.specs.Records.{RecordView}
-use Rattle.swift_journal.specs.Replay.{InvariantsStay, LawfulGrows}
-use Rattle.swift_job.specs.Job.{JobView}
-use Rattle.swift_script.specs.Scripts.{ScriptView}
-use Rattle.swift_tasks.specs.Books.{BookView}
-use Rattle.swift_turn.specs.Body.{BodyView}
-use Rattle.swift_types.specs.declared.id.TaskId.{TaskId}
-use Rattle.swift_executor.specs.PlayingInside.{Applied, HasFoldRoom, Settles, WritesRecord}
-use Rattle.swift_executor.specs.Ready.{Forwards, ReadyJobsView}
-use Rattle.swift_executor.specs.State.{ChosenView, ExecStateView, HasChosen, ExecInvariant, IsPlayed, Journals}
-use Rattle.swift_executor.specs.StateInside.{chosen_at, chosen_view, stage_of}
-use Rattle.swift_executor.specs.declared.chosen.PlayedTurn.{PlayedTurn}
-use Rattle.swift_executor.specs.declared.chosen.ChosenStage.{ChosenStage}
 use Rattle.swift_executor.proofs.TurnKept.{Done, journalled, retracted}
 
 -- A turn was played of the job in its place, and its record was written.

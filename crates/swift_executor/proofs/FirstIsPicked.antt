@@ -1,16 +1,5 @@
 -- The first jobs of lists, among all.
-use Rattle.std.proofs.Common.{◌≡◌, ℕ, zero, suc, ◌+◌, ◌<◌, ◌≤◌, List, [], ◌∷◌, Option, None, Some, IfSome, length, get_or, refl, ap, sym, subst, ◌∙◌, inl, inr, arith}
-use Rattle.std.proofs.lemmas.Bool.{cases_eq, cases_lt}
-use Rattle.std.proofs.lemmas.List.{get_or_default}
-use Rattle.std.proofs.lemmas.List.Elements.{All-head}
-use Rattle.std.specs.List.{All}
-use Rattle.std.specs.VecDeque.{deque_items}
-use Rattle.std.specs.declared.collections.VecDeque.{VecDeque}
-use Rattle.swift_types.specs.Priority.{rank}
-use Rattle.swift_executor.specs.declared.queue.waiting.Waiting.{Waiting}
-use Rattle.swift_executor.specs.QueueInside.List.{IsByArrival, StartsWith}
-use Rattle.swift_executor.specs.QueueInside.Lists.{AreEmptyFrom, AreLists, HasOldest, IsFilled, IsFirstOf, IsHighest, IsOldestBelow, jobs_of}
-use Rattle.swift_executor.specs.Picks.{IsOlder, PicksFirst}
+use Rattle.swift_executor.proofs.Prelude.{◌≡◌, ℕ, zero, suc, ◌+◌, ◌<◌, ◌≤◌, List, [], ◌∷◌, Option, None, Some, IfSome, length, get_or, refl, ap, sym, subst, ◌∙◌, inl, inr, arith, cases_eq, cases_lt, get_or_default, All-head, All, deque_items, VecDeque, rank, Waiting, IsByArrival, StartsWith, AreEmptyFrom, AreLists, HasOldest, IsFilled, IsFirstOf, IsHighest, IsOldestBelow, jobs_of, IsOlder, PicksFirst}
 use Rattle.swift_executor.proofs.OneListOfAll.{all_flat, list_short, none_flat}
 
 module _ {B : Type 0} where

@@ -1,3 +1,4 @@
+pub mod Prelude
 pub mod CrossesThreads
 pub mod Visits
 pub mod OneRecord

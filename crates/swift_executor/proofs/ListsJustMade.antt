@@ -1,12 +1,5 @@
 -- Lists that were just made, two and two.
-use Rattle.std.proofs.Common.{◌≡◌, ℕ, zero, suc, ◌<◌, ◌≤◌, List, [], ◌∷◌, length, refl, ap, sym, subst, arith}
-use Rattle.std.specs.List.{All, slice_index_or}
-use Rattle.std.specs.VecDeque.{deque_capacity}
-use Rattle.std.specs.declared.collections.VecDeque.{VecDeque}
-use Rattle.swift_types.specs.Priority.{rank}
-use Rattle.swift_executor.specs.declared.queue.waiting.Waiting.{Waiting}
-use Rattle.swift_executor.specs.QueueInside.List.{IsByArrival, IsList}
-use Rattle.swift_executor.specs.QueueInside.Lists.{AreEmptyFrom, AreLists}
+use Rattle.swift_executor.proofs.Prelude.{◌≡◌, ℕ, zero, suc, ◌<◌, ◌≤◌, List, [], ◌∷◌, length, refl, ap, sym, subst, arith, All, slice_index_or, deque_capacity, VecDeque, rank, Waiting, IsByArrival, IsList, AreEmptyFrom, AreLists}
 
 module _ {B Z : Type 0} where
   new_list : (room level : ℕ) (list : VecDeque (Waiting B) Z) → list.items ≡ [] → room ≤ deque_capacity list → IsList room level list

@@ -1,17 +1,5 @@
 -- A turn that a visit has run wrote one record.
-use Rattle.std.proofs.Common.{◌≡◌, ℕ, List, [], ◌∷◌, ◌++◌, map, refl, ap, sym, ◌∙◌}
-use Rattle.std.proofs.lemmas.Option.{same_Some}
-use Rattle.swift_types.specs.declared.id.TaskId.{TaskId}
-use Rattle.swift_journal.specs.Records.{RecordView}
-use Rattle.swift_history.specs.Jobs.{job_facts}
-use Rattle.swift_course.specs.Steps.{with_record}
-use Rattle.swift_course.specs.Views.{Account}
-use Rattle.swift_shared_book.specs.Shared.{BookSeatView}
-use Rattle.swift_executor.specs.Account.{job_seen, ready_jobs, record_seen}
-use Rattle.swift_executor.specs.Ready.{ready_job}
-use Rattle.swift_executor.specs.Seats.{records_in}
-use Rattle.swift_executor.specs.State.{ChosenStageView, ChosenView, ExecStateView, journal_with, picked, begun, played, record_at, record_by, record_of}
-use Rattle.swift_executor.specs.Visits.{TurnsWriteOne}
+use Rattle.swift_executor.proofs.Prelude.{◌≡◌, ℕ, List, [], ◌∷◌, ◌++◌, map, refl, ap, sym, ◌∙◌, same_Some, TaskId, RecordView, job_facts, with_record, Account, BookSeatView, job_seen, ready_jobs, record_seen, ready_job, records_in, ChosenStageView, ChosenView, ExecStateView, journal_with, picked, begun, played, record_at, record_by, record_of, TurnsWriteOne}
 use Rattle.swift_executor.proofs.AccountKept.{front_less}
 use Rattle.swift_executor.proofs.Visits.{only_both, only_played, only_started}
 

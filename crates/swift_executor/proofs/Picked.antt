@@ -1,11 +1,5 @@
 -- What a pick leaves.
-use Rattle.std.proofs.Common.{◌≡◌, ℕ, Bool, List, [], ◌∷◌, length, map, Contains, refl, ap, sym, subst, ◌∙◌, arith}
-use Rattle.std.proofs.lemmas.List.Elements.{All-contains, All-head, All-nil, Contains-append_left, Contains-push}
-use Rattle.std.proofs.lemmas.List.Sorted.{All-permutation, Contains-permutation, IsPermutation-sym, IsPermutation-trans, length_permutation}
-use Rattle.std.specs.List.{All}
-use Rattle.std.specs.List.Sorted.{IsPermutation}
-use Rattle.swift_job.specs.Job.{JobView}
-use Rattle.swift_executor.specs.Ready.{ComesFirst, ReadyJobsView, ReadyJob}
+use Rattle.swift_executor.proofs.Prelude.{◌≡◌, ℕ, Bool, List, [], ◌∷◌, length, map, Contains, refl, ap, sym, subst, ◌∙◌, arith, All-contains, All-head, All-nil, Contains-append_left, Contains-push, All-permutation, Contains-permutation, IsPermutation-sym, IsPermutation-trans, length_permutation, All, IsPermutation, JobView, ComesFirst, ReadyJobsView, ReadyJob}
 
 module _ {B : Type 0} where
   -- levels that were counted, and then a job taken or put back

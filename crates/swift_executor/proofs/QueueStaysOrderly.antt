@@ -1,16 +1,5 @@
 -- The queue stays orderly: what a change of its jobs leaves true of each two of them.
-use Rattle.std.proofs.Common.{◌≡◌, ◌≢◌, ℕ, ◌<◌, ◌≤◌, Bool, true, false, List, [], ◌∷◌, if◌then◌else◌, length, get_or, map, refl, ap, sym, subst, ◌∙◌, arith, ◌&&◌, eqb, nat_lt}
-use Rattle.std.proofs.lemmas.List.{get_or-map, length-map}
-use Rattle.std.proofs.lemmas.List.Elements.{All-cons, All-head, All-map, All-tail}
-use Rattle.std.proofs.lemmas.List.Sorted.{All-permutation, length_permutation}
-use Rattle.std.specs.List.{All, AllPairs}
-use Rattle.std.specs.List.Sorted.{IsPermutation}
-use Rattle.swift_types.specs.declared.id.TaskId.{TaskId}
-use Rattle.swift_types.specs.declared.priority.Priority.{Priority}
-use Rattle.swift_types.specs.Priority.{rank}
-use Rattle.swift_executor.specs.Picks.{raised}
-use Rattle.swift_executor.specs.Queue.{IsOrderly, IsRestorable, IsWithout, QueueView}
-use Rattle.swift_executor.specs.declared.queue.waiting.Waiting.{Waiting}
+use Rattle.swift_executor.proofs.Prelude.{◌≡◌, ◌≢◌, ℕ, ◌<◌, ◌≤◌, Bool, true, false, List, [], ◌∷◌, if◌then◌else◌, length, get_or, map, refl, ap, sym, subst, ◌∙◌, arith, ◌&&◌, eqb, nat_lt, get_or-map, length-map, All-cons, All-head, All-map, All-tail, All-permutation, length_permutation, All, AllPairs, IsPermutation, TaskId, Priority, rank, raised, IsOrderly, IsRestorable, IsWithout, QueueView, Waiting}
 use Rattle.swift_executor.proofs.PairsInAnyOrder.{pairs_added, pairs_first, pairs_permuted, pairs_rest}
 
 module _ {B : Type 0} where

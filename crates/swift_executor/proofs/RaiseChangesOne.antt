@@ -1,20 +1,6 @@
 -- A job is raised.
-use Rattle.std.proofs.Common.{◌≡◌, ◌≢◌, ℕ, ◌<◌, ◌≤◌, List, [], ◌∷◌, Option, None, Some, IfNone, IfSome, is_some, ◌↔◌, false, length, get_or, map, refl, ap, sym, subst, ◌∙◌, inl, inr, arith}
-use Rattle.std.proofs.lemmas.Bool.{cases_eq, cases_lt, eq-eqb, ne_eqb, lt-ltb, le-ltb}
-use Rattle.std.proofs.lemmas.List.Elements.{All-head, All-tail}
-use Rattle.std.proofs.lemmas.List.Sorted.{IsPermutation-map, IsPermutation-trans}
-use Rattle.std.specs.List.{All}
-use Rattle.std.specs.List.Sorted.{IsPermutation}
-use Rattle.std.specs.VecDeque.{deque_items}
-use Rattle.std.specs.declared.collections.VecDeque.{VecDeque}
-use Rattle.swift_types.specs.declared.id.TaskId.{TaskId}
-use Rattle.swift_types.specs.declared.priority.Priority.{Priority}
-use Rattle.swift_types.specs.Priority.{rank}
-use Rattle.swift_executor.specs.declared.queue.waiting.Waiting.{Waiting}
-use Rattle.swift_executor.specs.QueueInside.List.{HasArrival}
-use Rattle.swift_executor.specs.QueueInside.Lists.{AreLists, AreWithout, IsAt, jobs_of, StandsBelow}
-use Rattle.swift_executor.specs.Picks.{raised}
-use Rattle.swift_executor.specs.Queue.{IsWithout}
+use Rattle.swift_executor.proofs.Prelude.{◌≡◌, ◌≢◌, ℕ, ◌<◌, ◌≤◌, List, [], ◌∷◌, Option, None, Some, IfNone, IfSome, is_some, ◌↔◌, false, length, get_or, map, refl, ap, sym, subst, ◌∙◌, inl, inr, arith, cases_eq, cases_lt, eq-eqb, ne_eqb, lt-ltb, le-ltb, All-head, All-tail, IsPermutation-map, IsPermutation-trans, All, IsPermutation, deque_items, VecDeque, TaskId, Priority, rank, Waiting, HasArrival, AreLists, AreWithout, jobs_of, StandsBelow, raised, IsWithout}
+use Rattle.swift_executor.specs.QueueInside.Lists.{IsAt}
 use Rattle.swift_executor.proofs.OneListOfAll.{all_flat, all_list}
 
 map_same : {X : Type 0} (f : X → X) (xs : List X) → All (λ x. f x ≡ x) xs → map f xs ≡ xs

@@ -1,21 +1,7 @@
 -- What the ready jobs keep when one is added, taken or counted anew.
-use Rattle.std.proofs.Common.{◌≡◌, ◌≢◌, ℕ, zero, suc, ◌<◌, ◌≤◌, Bool, true, false, nat_lt, if◌then◌else◌, eqb, List, [], ◌∷◌, ◌++◌, length, map, get_or, take, drop, refl, ap, sym, subst, ◌∙◌, inl, inr, arith, Contains, cond, ◌&&◌}
-use Rattle.std.proofs.lemmas.Bool.{cases_eq, eq-eqb, ne_eqb}
+use Rattle.swift_executor.proofs.Prelude.{◌≡◌, ◌≢◌, ℕ, zero, suc, ◌<◌, ◌≤◌, Bool, true, false, nat_lt, if◌then◌else◌, eqb, List, [], ◌∷◌, ◌++◌, length, map, get_or, take, drop, refl, ap, sym, subst, ◌∙◌, inl, inr, arith, Contains, cond, ◌&&◌, cases_eq, eq-eqb, ne_eqb, map-append, All-nil, Contains-append_left, Contains-append_right, Contains-push, All-cons, All-head, All-tail, All-map, All-weaker, All-permutation, IsPermutation-map, IsPermutation-append_left, sum_by-IsPermutation, All, IsPermutation, rank, TaskId, Priority, JobView, raised, Waiting, ComesFirst, ReadyJob, level_at, priority_of, times, AreCounted, Comes, job_of, task_in, task_of}
 use Rattle.std.proofs.lemmas.Grind.{common_steps}
-use Rattle.std.proofs.lemmas.List.{map-append}
-use Rattle.std.proofs.lemmas.List.Elements.{All-nil, Contains-append_left, Contains-append_right, Contains-push, All-cons, All-head, All-tail, All-map, All-weaker}
-use Rattle.std.proofs.lemmas.List.Sorted.{All-permutation, IsPermutation-map, IsPermutation-append_left, sum_by-IsPermutation}
 use Rattle.std.proofs.lemmas.List.Sums.{sum_by-cons, sum_by-append, sum_by_push}
-use Rattle.std.specs.List.{All}
-use Rattle.std.specs.List.Sorted.{IsPermutation}
-use Rattle.swift_types.specs.Priority.{rank}
-use Rattle.swift_types.specs.declared.id.TaskId.{TaskId}
-use Rattle.swift_types.specs.declared.priority.Priority.{Priority}
-use Rattle.swift_job.specs.Job.{JobView}
-use Rattle.swift_executor.specs.Picks.{raised}
-use Rattle.swift_executor.specs.declared.queue.waiting.Waiting.{Waiting}
-use Rattle.swift_executor.specs.Ready.{ComesFirst, ReadyJob, level_at, priority_of, times}
-use Rattle.swift_executor.specs.ReadyInside.{AreCounted, Comes, job_of, task_in, task_of}
 
 pub times_perm : (t : TaskId) (xs ys : List TaskId) → IsPermutation xs ys → times t ys ≡ times t xs
 times_perm t xs ys perm = sum_by-IsPermutation _ xs ys perm

@@ -1,9 +1,7 @@
 -- The row of an actor, looked for from a place on, and rows that are put back.
-use Rattle.std.proofs.Common.{◌≡◌, ◌≢◌, ℕ, zero, suc, ◌<◌, ◌≤◌, Bool, ℤ, if◌then◌else◌, List, [], ◌∷◌, length, drop, get_or, set, refl, ap, sym, ◌∙◌, arith}
-use Rattle.std.proofs.lemmas.Bool.{eq-eqb, ne_eqb}
+use Rattle.swift_executor.proofs.Prelude.{◌≡◌, ◌≢◌, ℕ, zero, suc, ◌<◌, ◌≤◌, Bool, ℤ, if◌then◌else◌, List, [], ◌∷◌, length, drop, get_or, set, refl, ap, sym, ◌∙◌, arith, eq-eqb, ne_eqb, fields_at}
 use Rattle.std.proofs.lemmas.List.{length-set}
 use Rattle.swift_interpreter.specs.Saved.{restored}
-use Rattle.swift_executor.specs.State.{fields_at}
 
 -- it is looked for further on
 pub passes : (names : List ℕ) (rows : List (List ℤ)) (place actor : ℕ) → place < length names → place < length rows → get_or names place 0 ≢ actor → fields_at (drop (suc place) names) (drop (suc place) rows) actor ≡ fields_at (drop place names) (drop place rows) actor

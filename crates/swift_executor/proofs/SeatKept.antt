@@ -1,42 +1,15 @@
 -- What each call keeps of what the seat of an executor knows.
-use Rattle.std.proofs.Common.{◌≡◌, ℕ, suc, ◌≤◌, ◌==◌, ℤ, Bool, true, false, if◌then◌else◌, Option, Some, None, IfSome, List, [], ◌∷◌, ◌++◌, length, map, take, take_all, drop, replicate, get_or, refl, ap, sym, subst, ◌∙◌, append_assoc, arith, inl, inr}
-use Rattle.std.specs.Prelude.{All, is_some, nat_lt}
-use Rattle.std.proofs.lemmas.Bool.{false≢true}
+use Rattle.swift_executor.proofs.Prelude.{◌≡◌, ℕ, suc, ◌≤◌, ◌==◌, ℤ, Bool, true, false, if◌then◌else◌, Option, Some, None, IfSome, List, [], ◌∷◌, ◌++◌, length, map, take, take_all, drop, replicate, get_or, refl, ap, sym, subst, ◌∙◌, append_assoc, arith, inl, inr, is_some, nat_lt, false≢true, length-append, map-append, take-append-le, All-head, IsPermutation-cons, IsPermutation-map, IsPermutation-refl, IsPermutation-sym, IsPermutation-trans, IsPermutation, Env, TaskId, FOLD, TASKS, Resume, ScriptView, actor_executor, executor_start, method_actor, FrameView, EffectView, ExitView, calling, asking_next, closing, yielding, returning, failing, BodyView, HasFirst, IsTurnOf, left, JobView, replay-append, FoldedView, folded_of, folds, RecordView, IsLawfulRecord, LawfulGrows, fields_after, replay, Event, AreLevels, HaveStayed, IsLevel, JobFacts, job_facts, frames_executor, Account, BookKnown, Ticket, TurnOrder, at_rest, fresh, order_applied, order_begun, with_record, with_turn_begun, BeginsTicket, BookSeatView, HasTicket, RunsAtSeat, after_turn, knowing, with_ticket, ready_jobs, FreeAreSeen, Adds, AreAtMost, AreHigher, Forwards, HaveCounted, ReadyJobsView, level_at, ready_job, AccountsFor, AreTicketsAt, AreTicketsOf, HaveSeen, IsFirst, IsOpened, IsSeatFor, seen_by, BelongsTo, Chooses, ChosenView, ExecStateView, HasChosen, HasNone, IsChosen, ExecInvariant, LacksTask, Plays, PutsBack, ChosenStageView, picked, begun, played, before_turn, checkpoint_with, frame_after, journal_with, new_executor, record_by}
+use Rattle.std.specs.Prelude.{All}
 use Rattle.std.proofs.lemmas.Bool.Decides.{nat_tests}
-use Rattle.std.proofs.lemmas.List.{append-nil, length-append, map-append, take-append-le}
-use Rattle.std.proofs.lemmas.List.Elements.{All-head}
-use Rattle.std.proofs.lemmas.List.Sorted.{IsPermutation-cons, IsPermutation-map, IsPermutation-refl, IsPermutation-sym, IsPermutation-trans}
-use Rattle.std.specs.List.Sorted.{IsPermutation}
-use Rattle.swift_types.specs.declared.env.Env.{Env}
-use Rattle.swift_types.specs.declared.id.TaskId.{TaskId}
-use Rattle.swift_types.specs.declared.limits.TheConstants.{FOLD, TASKS}
-use Rattle.swift_types.specs.declared.outcome.Resume.{Resume}
-use Rattle.swift_script.specs.Scripts.{ScriptView, actor_executor, executor_start, method_actor}
-use Rattle.swift_interpreter.specs.Frames.{FrameView}
-use Rattle.swift_interpreter.specs.Turn.{EffectView, ExitView, calling, waiting, asking_next, closing, yielding, returning, failing}
-use Rattle.swift_turn.specs.Body.{BodyView, HasFirst, IsTurnOf, left}
-use Rattle.swift_job.specs.Job.{JobView}
-use Rattle.swift_journal.proofs.Replayed.{replay-append}
-use Rattle.swift_journal.specs.Checkpoints.{FoldedView, folded_of, folds}
-use Rattle.swift_journal.specs.Records.{RecordView}
-use Rattle.swift_journal.specs.Replay.{IsLawfulRecord, LawfulGrows, fields_after, replay}
-use Rattle.swift_events.specs.declared.event.Event.{Event}
+use Rattle.std.proofs.lemmas.List.{append-nil}
+use Rattle.swift_interpreter.specs.Turn.{waiting}
 use Rattle.swift_events.specs.Lives.{life}
-use Rattle.swift_ledger.specs.Levels.{AreLevels, HaveStayed, IsLevel}
-use Rattle.swift_history.specs.TurnEnds.{JobFacts}
-use Rattle.swift_history.specs.Jobs.{job_facts}
-use Rattle.swift_history.specs.Orderly.{frames_executor}
-use Rattle.swift_course.specs.Views.{Account, BookKnown, Ticket, TurnOrder, at_rest, fresh}
 use Rattle.swift_course.specs.Course.{IsFront, IsIn}
 use Rattle.swift_course.specs.Frames.{kept_frame}
-use Rattle.swift_course.specs.Steps.{order_applied, order_begun, with_record, with_turn_begun}
 use Rattle.swift_shared_book.specs.Calls.{IsPlayed}
-use Rattle.swift_shared_book.specs.Shared.{BeginsTicket, BookSeatView, HasPlayed, HasTicket, RunsAtSeat, after_turn, knowing, with_ticket}
-use Rattle.swift_executor.specs.Account.{ready_jobs}
-use Rattle.swift_executor.specs.Looks.{FreeAreSeen}
-use Rattle.swift_executor.specs.Ready.{Adds, AreAtMost, AreHigher, Forwards, HaveCounted, ReadyJobsView, level_at, ready_job}
-use Rattle.swift_executor.specs.Seats.{AccountsFor, AreTicketsAt, AreTicketsOf, HaveSeen, IsFirst, IsOpened, IsSeatFor, jobs_of, seen_by}
-use Rattle.swift_executor.specs.State.{BelongsTo, Chooses, ChosenView, ExecStateView, HasChosen, HasNone, IsChosen, ExecInvariant, LacksTask, Plays, PutsBack, ChosenStageView, picked, begun, played, before_turn, checkpoint_with, frame_after, journal_with, new_executor, record_by}
+use Rattle.swift_shared_book.specs.Shared.{HasPlayed}
+use Rattle.swift_executor.specs.Seats.{jobs_of}
 use Rattle.swift_executor.specs.State as state
 use Rattle.swift_executor.proofs.AccountKept.{added, front_less, front_moved, front_more}
 use Rattle.swift_executor.proofs.Cancelled.{has_image, same_others}

@@ -1,28 +1,10 @@
 -- What the seat of an executor knows when a turn is applied whose record was written.
-use Rattle.std.proofs.Common.{◌≡◌, ℕ, suc, ◌-◌, ℤ, Some, None, List, [], ◌∷◌, ◌++◌, length, refl, ap, sym, subst, ◌∙◌, arith, length-append}
-use Rattle.std.specs.Prelude.{slice_get}
-use Rattle.std.proofs.lemmas.Option.{same_Some}
-use Rattle.swift_interpreter.specs.Frames.{effect_views, frame_view}
-use Rattle.swift_interpreter.specs.TurnStates.{exit_view}
-use Rattle.swift_history.specs.TurnEnds.{JobFacts}
-use Rattle.swift_job.specs.Job.{JobView}
-use Rattle.swift_journal.specs.Records.{RecordView}
-use Rattle.swift_journal.specs.Replay.{LawfulGrows}
-use Rattle.swift_script.specs.Scripts.{ScriptView}
-use Rattle.swift_tasks.specs.Books.{BookView}
-use Rattle.swift_turn.specs.Body.{BodyView}
-use Rattle.swift_shared_book.specs.Shared.{BookSeatView, HasPlayed, after_turn, knowing, newest}
-use Rattle.swift_tasks.specs.declared.fault.BookFault.{BookFault}
+use Rattle.swift_executor.proofs.Prelude.{◌≡◌, ℕ, suc, ◌-◌, ℤ, Some, None, List, [], ◌∷◌, ◌++◌, length, refl, ap, sym, subst, ◌∙◌, arith, slice_get, same_Some, effect_views, frame_view, exit_view, JobFacts, JobView, RecordView, LawfulGrows, ScriptView, BookView, BodyView, BookSeatView, after_turn, knowing, newest, BookFault, WritesRecord, refusal_of_left, IsRefusal, fault_of, IsSeatFor, ExecStateView, ExecInvariant, IsPlayed, Journals, record_at, record_by, refusal_of_stage, chosen_view, stage_of, PlayedTurn, ChosenStage, Picked, Begun}
+use Rattle.std.proofs.Common.{length-append}
+use Rattle.swift_shared_book.specs.Shared.{HasPlayed}
 use Rattle.swift_tasks.specs.Refusals.{IsRefusal as BookRefusal}
-use Rattle.swift_executor.specs.PlayingInside.{WritesRecord, refusal_of_left}
-use Rattle.swift_executor.specs.Refusals.{IsRefusal, fault_of}
 use Rattle.swift_executor.proofs.StateKept.{refused_so}
-use Rattle.swift_executor.specs.Seats.{IsSeatFor}
-use Rattle.swift_executor.specs.State.{ExecStateView, ExecInvariant, IsPlayed, Journals, record_at, record_by, refusal_of_stage}
-use Rattle.swift_executor.specs.StateInside.{chosen_view, stage_of}
-use Rattle.swift_executor.specs.declared.chosen.PlayedTurn.{PlayedTurn}
-use Rattle.swift_executor.specs.declared.chosen.ChosenStage.{ChosenStage}
-use Rattle.swift_executor.specs.declared.chosen.ChosenStage.TheVariants.{Picked, Begun, Played as PlayedStage}
+use Rattle.swift_executor.specs.declared.chosen.ChosenStage.TheVariants.{Played as PlayedStage}
 use Rattle.swift_executor.proofs.AccountKept.{forwarded}
 use Rattle.swift_executor.proofs.SeatKept.{forward_counts, has_played, turned_knows}
 

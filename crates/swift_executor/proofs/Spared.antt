@@ -1,16 +1,7 @@
 -- Before each turn of an executor all invariants of its actors hold.
-use Rattle.std.proofs.Common.{◌≡◌, ℕ, ℤ, Some, List, [], ◌∷◌, sym, subst}
-use Rattle.std.specs.Prelude.{IsTrue}
-use Rattle.script_code.specs.Value.{holds}
-use Rattle.swift_script.specs.Scripts.{ScriptView, actor_executor, executor_invariants, method_actor}
-use Rattle.swift_interpreter.specs.Frames.{FrameView}
+use Rattle.swift_executor.proofs.Prelude.{◌≡◌, ℕ, ℤ, Some, List, [], ◌∷◌, sym, subst, IsTrue, holds, ScriptView, actor_executor, executor_invariants, method_actor, FrameView, BodyView, HasFirst, IfRunning, invariants_at, InvariantsStay, JobView, MaySpare, BelongsTo, ExecStateView, ExecInvariant}
 use Rattle.swift_undo.specs.Laws.{AllHold}
 use Rattle.swift_undo.specs.Rows.{HaveRows}
-use Rattle.swift_turn.specs.Body.{BodyView, HasFirst, IfRunning, invariants_at}
-use Rattle.swift_journal.specs.Replay.{InvariantsStay}
-use Rattle.swift_job.specs.Job.{JobView}
-use Rattle.swift_executor.specs.PlayingInside.{MaySpare}
-use Rattle.swift_executor.specs.State.{BelongsTo, ExecStateView, ExecInvariant}
 use Rattle.swift_executor.proofs.StartInvariants.{StartWell, start_each}
 
 -- the invariants of an executor's actors hold of its fields

@@ -1,10 +1,7 @@
 -- Each invariant of an executor's actors holds at the start.
-use Rattle.std.proofs.Common.{◌≡◌, ℕ, ◌<◌, Option, Some, None, subst, refl}
-use Rattle.std.specs.Prelude.{IsTrue, Contains, slice_get, unwrap_or}
-use Rattle.script_code.specs.Tree.{Term}
-use Rattle.script_code.specs.Value.{holds}
-use Rattle.script_compiler.specs.Compiled.{ActorView, plan_in, invariant_if}
-use Rattle.swift_script.specs.Scripts.{ScriptView, parts_of, no_actor, actor_count, actor_executor, actor_invariant, executor_invariants, executor_start}
+use Rattle.swift_executor.proofs.Prelude.{◌≡◌, ℕ, ◌<◌, Option, Some, None, subst, refl, IsTrue, Contains, slice_get, Term, holds, ActorView, plan_in, invariant_if, ScriptView, no_actor, actor_count, actor_executor, actor_invariant, executor_invariants, executor_start}
+use Rattle.std.specs.Prelude.{unwrap_or}
+use Rattle.swift_script.specs.Scripts.{parts_of}
 use Rattle.swift_executor.proofs.InvariantsOfActors.{of_actor}
 
 -- each actor's invariant holds at the start

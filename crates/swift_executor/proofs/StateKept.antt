@@ -1,23 +1,6 @@
 -- What an executor keeps at each of its calls.
-use Rattle.std.proofs.Common.{◌≡◌, ◌≢◌, ℕ, ◌+◌, ℤ, Option, Some, None, IfSome, List, [], ◌∷◌, ◌++◌, length, map, Contains, refl, ap, sym, subst, ◌∙◌, inl, inr, arith}
-use Rattle.std.proofs.lemmas.Bool.{cases_eq}
-use Rattle.std.proofs.lemmas.List.{length-append}
-use Rattle.std.proofs.lemmas.List.Elements.{All-cons, All-head, All-nil, All-push, All-tail, All-weaker, Contains-append_left, Contains-append_right, Contains-push}
-use Rattle.std.proofs.lemmas.List.Sorted.{All-permutation, Contains-permutation, IsPermutation-map, length_permutation}
-use Rattle.std.specs.List.{All}
-use Rattle.std.specs.List.Sorted.{IsPermutation}
-use Rattle.swift_types.specs.declared.id.TaskId.{TaskId}
-use Rattle.swift_script.specs.Scripts.{ScriptView, actor_executor, method_actor}
-use Rattle.swift_interpreter.specs.Frames.{FrameView}
-use Rattle.swift_turn.specs.Body.{BodyView, HasFirst, IsTurnOf, left}
-use Rattle.swift_job.specs.Job.{JobView}
-use Rattle.swift_history.specs.TurnEnds.{JobFacts}
-use Rattle.swift_history.specs.Jobs.{job_facts}
-use Rattle.swift_tasks.specs.declared.fault.BookFault.{BookFault}
+use Rattle.swift_executor.proofs.Prelude.{◌≡◌, ◌≢◌, ℕ, ◌+◌, ℤ, Option, Some, None, IfSome, List, [], ◌∷◌, ◌++◌, length, map, Contains, refl, ap, sym, subst, ◌∙◌, inl, inr, arith, cases_eq, length-append, All-cons, All-head, All-nil, All-push, All-tail, All-weaker, Contains-append_left, Contains-append_right, Contains-push, All-permutation, Contains-permutation, IsPermutation-map, length_permutation, All, IsPermutation, TaskId, ScriptView, actor_executor, method_actor, FrameView, BodyView, HasFirst, IsTurnOf, left, JobView, JobFacts, job_facts, BookFault, IsRefusal, fault_of, Adds, CanRestore, IsClear, ReadyJobsView, ReadyJob, ready_job, BelongsTo, ChosenView, ExecStateView, HasPlayed, IsChosen, ExecInvariant, IsPicked, ChosenStageView, before_turn, begun, chosen_count, leaders, picked, played}
 use Rattle.swift_tasks.specs.Refusals.{IsRefusal as BookRefusal}
-use Rattle.swift_executor.specs.Refusals.{IsRefusal, fault_of}
-use Rattle.swift_executor.specs.Ready.{Adds, CanRestore, IsClear, ReadyJobsView, ReadyJob, ready_job}
-use Rattle.swift_executor.specs.State.{BelongsTo, ChosenView, ExecStateView, HasPlayed, IsChosen, ExecInvariant, IsPicked, ChosenStageView, before_turn, begun, chosen_count, leaders, picked, played}
 
 -- what leads in one order leads in another
 led_by : (ts ts' : List TaskId) (behind : List (JobView BodyView)) → IsPermutation ts ts' → All (λ j. Contains ts j.task) behind → All (λ j. Contains ts' j.task) behind

@@ -1,36 +1,9 @@
 -- What an executor keeps when a turn is journalled.
-use Rattle.std.proofs.Common.{◌≡◌, ◌≢◌, ℕ, suc, ◌+◌, ◌-◌, ◌<◌, ℤ, Bool, IsTrue, if◌then◌else◌, Option, Some, None, IfSome, List, [], ◌∷◌, ◌++◌, length, take, map, get_or, Contains, refl, ap, sym, subst, ◌∙◌, inl, inr, arith}
-use Rattle.std.proofs.lemmas.Bool.{cases_eq, eq-eqb, ne_eqb}
-use Rattle.std.proofs.lemmas.List.{length-append, length-map, map-append, take_at}
-use Rattle.std.proofs.lemmas.List.Elements.{All-contains, All-cons, All-head, All-nil, All-tail, All-weaker, Contains-append_cases, Contains-push_cases}
-use Rattle.std.proofs.lemmas.List.Sorted.{All-permutation, Contains-permutation, IsPermutation-map, IsPermutation-middle, length_permutation}
-use Rattle.std.specs.List.{All}
-use Rattle.std.specs.declared.vec.Vec.{Vec}
+use Rattle.swift_executor.proofs.Prelude.{◌≡◌, ◌≢◌, ℕ, suc, ◌+◌, ◌-◌, ◌<◌, ℤ, Bool, IsTrue, if◌then◌else◌, Option, Some, None, IfSome, List, [], ◌∷◌, ◌++◌, length, take, map, get_or, Contains, refl, ap, sym, subst, ◌∙◌, inl, inr, arith, cases_eq, eq-eqb, ne_eqb, length-append, length-map, map-append, take_at, All-contains, All-cons, All-head, All-nil, All-tail, All-weaker, Contains-append_cases, Contains-push_cases, All-permutation, Contains-permutation, IsPermutation-map, IsPermutation-middle, length_permutation, All, Vec, TaskId, FOLD, Resume, holds, Env, ScriptView, actor_executor, executor_start, method_actor, FrameView, effect_views, frame_view, EffectView, ExitView, calling, asking_next, closing, yielding, returning, failing, TurnStateView, BodyView, HasFirst, IsTurnOf, kept_turn, left, state_at, JobView, CheckpointRoomView, CheckpointView, FoldedView, folded_of, folds, RecordView, lawful-append, replay-append, AreLawful, IsAfter, IsLawfulRecord, InvariantsStay, LawfulGrows, RunOn, StandsFor, fields_after, replay, Forwards, ReadyJobsView, ReadyJob, ready_job, Applied, HasFoldRoom, Settles, WritesRecord, chosen_view, stage_of, ChosenStage, Picked, Begun, BookView, JobFacts, exit_view, BelongsTo, ChosenView, ExecStateView, HasPast, HasPlayed, IsChosen, ExecInvariant, IsPlayed, Journals, checkpoint_with, chosen_count, frame_after, journal_with, leaders, played, record_by}
 use Rattle.std.specs.declared.alloc.Global.{Global}
-use Rattle.swift_types.specs.declared.id.TaskId.{TaskId}
-use Rattle.swift_types.specs.declared.limits.TheConstants.{FOLD}
-use Rattle.swift_types.specs.declared.outcome.Resume.{Resume}
-use Rattle.script_code.specs.Value.{holds}
-use Rattle.swift_types.specs.declared.env.Env.{Env}
-use Rattle.swift_script.specs.Scripts.{ScriptView, actor_executor, executor_start, method_actor}
-use Rattle.swift_interpreter.specs.Frames.{FrameView, effect_views, frame_view}
-use Rattle.swift_interpreter.specs.Turn.{EffectView, ExitView, calling, waiting, asking_next, closing, yielding, returning, failing, TurnStateView, Played}
-use Rattle.swift_turn.specs.Body.{BodyView, HasFirst, IsTurnOf, kept_turn, left, state_at}
-use Rattle.swift_job.specs.Job.{JobView}
-use Rattle.swift_journal.specs.Checkpoints.{CheckpointRoomView, CheckpointView, FoldedView, folded_of, folds}
-use Rattle.swift_journal.specs.Records.{RecordView}
-use Rattle.swift_journal.proofs.Replayed.{lawful-append, replay-append}
-use Rattle.swift_journal.specs.Replay.{AreLawful, IsAfter, IsLawfulRecord, InvariantsStay, LawfulGrows, RunOn, StandsFor, fields_after, replay}
-use Rattle.swift_executor.specs.Ready.{Forwards, ReadyJobsView, ReadyJob, ready_job}
-use Rattle.swift_executor.specs.PlayingInside.{Applied, HasFoldRoom, Settles, WritesRecord}
-use Rattle.swift_executor.specs.StateInside.{chosen_view, stage_of}
+use Rattle.swift_interpreter.specs.Turn.{waiting, Played}
 use Rattle.swift_executor.specs.declared.chosen.PlayedTurn.{PlayedTurn as Kept}
-use Rattle.swift_executor.specs.declared.chosen.ChosenStage.{ChosenStage}
-use Rattle.swift_executor.specs.declared.chosen.ChosenStage.TheVariants.{Picked, Begun, Played as PlayedStage}
-use Rattle.swift_tasks.specs.Books.{BookView}
-use Rattle.swift_history.specs.TurnEnds.{JobFacts}
-use Rattle.swift_interpreter.specs.TurnStates.{exit_view}
-use Rattle.swift_executor.specs.State.{BelongsTo, ChosenView, ExecStateView, HasPast, HasPlayed, IsChosen, ExecInvariant, IsPlayed, Journals, checkpoint_with, chosen_count, frame_after, journal_with, leaders, played, record_by}
+use Rattle.swift_executor.specs.declared.chosen.ChosenStage.TheVariants.{Played as PlayedStage}
 
 -- the frame that a turn leaves stands for what is still to do
 stands : (p : ScriptView) (g : FrameView) (rows : List (List ℤ)) (effects : List EffectView) (s : TurnStateView) → state_at p g rows effects s.room ≡ s → state_at p g s.fields s.effects s.room ≡ s

@@ -1,22 +1,6 @@
 -- What a turn that was played leaves.
-use Rattle.std.proofs.Common.{◌≡◌, ◌<◌, ℕ, ℤ, Some, List, [], ◌∷◌, ap, sym, subst, ◌∙◌}
-use Rattle.swift_types.specs.declared.env.Env.{Env}
-use Rattle.swift_types.specs.declared.id.TaskId.{TaskId}
-use Rattle.swift_types.specs.declared.outcome.Resume.{Resume}
-use Rattle.swift_script.specs.Scripts.{ScriptView, actor_executor, method_actor, method_count}
-use Rattle.swift_interpreter.specs.Frames.{FrameView, effect_views, frame_view}
-use Rattle.swift_interpreter.specs.Turn.{EffectView, ExitView}
-use Rattle.swift_interpreter.specs.TurnStates.{exit_view}
-use Rattle.swift_turn.specs.Body.{BodyView, HasFirst, IsTurnOf, Polls, TaskView, callers_of, entered, left}
-use Rattle.swift_job.specs.Job.{JobView}
-use Rattle.swift_history.specs.Jobs.{job_facts}
-use Rattle.swift_executor.specs.PlayingInside.{JobTurned, JobUnturned}
-use Rattle.std.proofs.lemmas.Option.{same_Some}
-use Rattle.swift_executor.specs.StateInside.{chosen_view, stage_of}
-use Rattle.swift_executor.specs.declared.chosen.ChosenStage.{ChosenStage}
-use Rattle.swift_executor.specs.declared.chosen.ChosenStage.TheVariants.{Picked, Begun, Played as PlayedStage}
-use Rattle.swift_executor.specs.State.{BelongsTo, ChosenView, ExecStateView, HasChosen, HasPlayed, IsBegun, PutsBack, before_turn, played}
-use Rattle.swift_executor.specs.declared.chosen.PlayedTurn.{PlayedTurn}
+use Rattle.swift_executor.proofs.Prelude.{◌≡◌, ◌<◌, ℕ, ℤ, Some, List, [], ◌∷◌, ap, sym, subst, ◌∙◌, Env, TaskId, Resume, ScriptView, actor_executor, method_actor, method_count, FrameView, effect_views, frame_view, EffectView, ExitView, exit_view, BodyView, HasFirst, IsTurnOf, Polls, TaskView, callers_of, entered, left, JobView, job_facts, JobTurned, JobUnturned, same_Some, chosen_view, stage_of, ChosenStage, Picked, Begun, BelongsTo, ChosenView, ExecStateView, HasChosen, HasPlayed, IsBegun, PutsBack, before_turn, played, PlayedTurn}
+use Rattle.swift_executor.specs.declared.chosen.ChosenStage.TheVariants.{Played as PlayedStage}
 
 -- the frames of a task that has had a turn
 pub record FramesPlayed (script : ScriptView) (executor : ℕ) (outer : List (ℕ × ℤ)) (fields rows : List (List ℤ)) (resume : Resume) (env : Env) (frame : FrameView) (effects : List EffectView) (exit : ExitView) (old new : List FrameView) : Type 0 where

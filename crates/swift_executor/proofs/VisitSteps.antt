@@ -1,34 +1,6 @@
 -- What each step of a visit has done to the state that a worker holds, and that what lies beside it still goes together with it.
-use Rattle.std.proofs.Common.{◌≡◌, ℕ, Bool, true, false, refl, ◌⊎◌, sym, subst, Option, Some, None, map, List, ap, ◌∙◌}
-use Rattle.std.proofs.lemmas.Bool.{false≢true}
-use Rattle.std.proofs.lemmas.Option.{same_Some}
-use Rattle.swift_types.specs.declared.id.TaskId.{TaskId}
-use Rattle.swift_history.specs.TurnEnds.{JobFacts}
-use Rattle.swift_history.specs.Jobs.{job_facts}
-use Rattle.swift_job.specs.Job.{JobView}
-use Rattle.swift_journal.specs.Records.{RecordView}
-use Rattle.swift_script.specs.Scripts.{ScriptView}
-use Rattle.swift_turn.specs.Body.{BodyView}
-use Rattle.swift_course.specs.Steps.{order_applied}
-use Rattle.swift_course.specs.Views.{BookKnown, TurnOrder, at_rest, under_way}
-use Rattle.swift_tasks.specs.Books.{BookView}
+use Rattle.swift_executor.proofs.Prelude.{◌≡◌, ℕ, Bool, true, false, refl, ◌⊎◌, sym, subst, Option, Some, None, map, List, ap, ◌∙◌, false≢true, same_Some, TaskId, JobFacts, job_facts, JobView, RecordView, ScriptView, BodyView, order_applied, BookKnown, TurnOrder, at_rest, under_way, BookView, facts_of, BookLockView, BookSeatView, IsInRun, OpenSeatView, after_turn, knowing, seat_of, with_ticket, HasTaken, IsAt, IsOf, name_of, site_of, GoesOn, GoesTogether, IsOfBook, order_at, order_of, InboxView, TakerView, has_taken, Adds, IsRefusal, IsSeatFor, KeepsOrder, orders_of, records_in, SiteView, ChosenStageView, ChosenView, Chooses, EndsTurn, ExecStateView, HasChosen, HasNone, IsBegun, LacksTask, OnlyJobs, Plays, PutsBack, begun, picked, played, record_of, refusal_to_apply, refusal_to_begin, TakenView, taken_of, BeginsIn, CannotBegin, CannotChoose, CannotEnd, CannotPlay, FindsNone, Finishes, HasBegun, HasStayed, RunsTurn, Starts, ExecFault, Memory, Refused, StateName}
 use Rattle.swift_tasks.specs.declared.fault.BookFault.TheVariants.{Unknown}
-use Rattle.swift_shared_book.specs.Calls.{facts_of}
-use Rattle.swift_shared_book.specs.Shared.{BookLockView, BookSeatView, IsInRun, OpenSeatView, after_turn, knowing, seat_of, with_ticket}
-use Rattle.swift_executor.specs.Account.{HasTaken}
-use Rattle.swift_executor.specs.Exec.{IsAt, IsOf, name_of, site_of}
-use Rattle.swift_executor.specs.Held.{GoesOn, GoesTogether, IsOfBook, order_at, order_of}
-use Rattle.swift_executor.specs.Inbox.{InboxView, TakerView, has_taken}
-use Rattle.swift_executor.specs.Ready.{Adds}
-use Rattle.swift_executor.specs.Refusals.{IsRefusal}
-use Rattle.swift_executor.specs.Seats.{IsSeatFor, KeepsOrder, orders_of, records_in}
-use Rattle.swift_executor.specs.Site.{SiteView}
-use Rattle.swift_executor.specs.State.{ChosenStageView, ChosenView, Chooses, EndsTurn, ExecStateView, HasChosen, HasNone, IsBegun, LacksTask, OnlyJobs, Plays, PutsBack, begun, picked, played, record_of, refusal_to_apply, refusal_to_begin}
-use Rattle.swift_executor.specs.Taken.{TakenView, taken_of}
-use Rattle.swift_executor.specs.Visits.{BeginsIn, CannotBegin, CannotChoose, CannotEnd, CannotPlay, FindsNone, Finishes, HasBegun, HasStayed, RunsTurn, Starts}
-use Rattle.swift_executor.specs.declared.fault.ExecFault.{ExecFault}
-use Rattle.swift_executor.specs.declared.fault.ExecFault.TheVariants.{Memory, Refused}
-use Rattle.swift_executor.specs.declared.state_name.StateName.{StateName}
 use Rattle.swift_executor.proofs.AccountKept.{accepted, chose, had_none, lacked, put_back, started, turned, was_played}
 use Rattle.swift_executor.proofs.SeatKept.{accepted_knows, back_knows, lacked_knows, none_knows, played_knows}
 use Rattle.swift_executor.proofs.Visits.{at_rest_of, begun_at, name_stays, only_back, only_both, only_by, only_played, only_started, same_seat, seat_of_book, site_stays, together_after}

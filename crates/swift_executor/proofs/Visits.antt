@@ -1,30 +1,7 @@
 -- What the steps of a visit leave, by what their calls have answered.
-use Rattle.std.proofs.Common.{◌≡◌, ℕ, Bool, true, map, sym, subst, [], ◌∷◌, Option, Some, None, length, Result, Ok, Err, IfOk, IfErr, IfSome, IfNone, List, ap, ◌∙◌}
-use Rattle.std.proofs.lemmas.Option.{same_Some}
+use Rattle.swift_executor.proofs.Prelude.{◌≡◌, ℕ, Bool, true, map, sym, subst, [], ◌∷◌, Option, Some, None, length, Result, Ok, Err, IfOk, IfErr, IfSome, IfNone, List, ap, ◌∙◌, same_Some, TaskId, Event, AreLevels, ScriptView, BookFacts, BookKnown, TurnOrder, at_rest, under_way, order_begun, BodyView, BookView, facts_of, BookLockView, BookSeatView, IsSeatOf, OpenSeatView, seat_of, HasTaken, IsAt, IsOf, name_of, site_of, state_name, GoesTogether, HasOpened, IsOfBook, IsResting, IsStateAt, order_of, InboxView, TakerView, HaveCounted, ReadyJobsView, HaveSeen, IsSeatFor, KeepsOrder, SiteView, BeginsTurn, ChosenView, Chooses, ExecStateView, HasChosen, HasNone, IsBegun, IsPicked, IsPlayed, LacksTask, OnlyJobs, Plays, PutsBack, begun, picked, played, TakenView, taken_of, BeginsIn, IsFree, Starts, ExecFault, StateName}
 use Rattle.atomic_table.specs.Seated.{TableId}
-use Rattle.swift_types.specs.declared.id.TaskId.{TaskId}
-use Rattle.swift_events.specs.declared.event.Event.{Event}
-use Rattle.swift_ledger.specs.Levels.{AreLevels}
-use Rattle.swift_script.specs.Scripts.{ScriptView}
-use Rattle.swift_course.specs.Views.{BookFacts, BookKnown, TurnOrder, at_rest, under_way}
 use Rattle.swift_course.specs.Reports.{Knows}
-use Rattle.swift_course.specs.Steps.{order_begun}
-use Rattle.swift_turn.specs.Body.{BodyView}
-use Rattle.swift_tasks.specs.Books.{BookView}
-use Rattle.swift_shared_book.specs.Calls.{facts_of}
-use Rattle.swift_shared_book.specs.Shared.{BookLockView, BookSeatView, IsSeatOf, OpenSeatView, seat_of}
-use Rattle.swift_executor.specs.Account.{HasTaken}
-use Rattle.swift_executor.specs.Exec.{IsAt, IsOf, name_of, site_of, state_name}
-use Rattle.swift_executor.specs.Held.{GoesTogether, HasOpened, IsOfBook, IsResting, IsStateAt, order_of}
-use Rattle.swift_executor.specs.Inbox.{InboxView, TakerView}
-use Rattle.swift_executor.specs.Ready.{HaveCounted, ReadyJobsView}
-use Rattle.swift_executor.specs.Seats.{HaveSeen, IsSeatFor, KeepsOrder}
-use Rattle.swift_executor.specs.Site.{SiteView}
-use Rattle.swift_executor.specs.State.{BeginsTurn, ChosenView, Chooses, ExecStateView, HasChosen, HasNone, IsBegun, IsPicked, IsPlayed, LacksTask, OnlyJobs, Plays, PutsBack, begun, picked, played}
-use Rattle.swift_executor.specs.Taken.{TakenView, taken_of}
-use Rattle.swift_executor.specs.Visits.{BeginsIn, IsFree, Starts}
-use Rattle.swift_executor.specs.declared.fault.ExecFault.{ExecFault}
-use Rattle.swift_executor.specs.declared.state_name.StateName.{StateName}
 use Rattle.swift_executor.proofs.SeatKept.{chose_counted, counted_knows}
 
 -- where an executor has other jobs, only its jobs have changed

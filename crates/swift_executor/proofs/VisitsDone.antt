@@ -1,26 +1,10 @@
 -- What the parts of a visit have done together.
-use Rattle.std.proofs.Common.{◌≡◌, ℕ, ◌*◌, ◌<◌, Option, Some, None, Result, Ok, Err, IfOk, IfErr, OnErr, List, ◌∷◌, ◌⊎◌, inl, inr, refl, ap, sym, subst, ◌∙◌}
-use Rattle.swift_course.specs.Views.{BookKnown}
-use Rattle.swift_history.specs.TurnEnds.{JobFacts}
-use Rattle.swift_script.specs.Scripts.{ScriptView}
-use Rattle.swift_shared_book.specs.Calls.{facts_of}
-use Rattle.swift_shared_book.specs.Shared.{IsInRun}
-use Rattle.swift_tasks.specs.Books.{BookView}
-use Rattle.swift_tasks.specs.declared.fault.BookFault.{BookFault}
+use Rattle.swift_executor.proofs.Prelude.{◌≡◌, ℕ, ◌*◌, ◌<◌, Option, Some, None, Result, Ok, Err, IfOk, IfErr, OnErr, List, ◌∷◌, ◌⊎◌, inl, inr, refl, ap, sym, subst, ◌∙◌, BookKnown, JobFacts, ScriptView, facts_of, IsInRun, BookView, BookFault, DeskView, FoundFree, HasFound, HasLeft, HasTried, IfTurn, IsAt, IsRunFault, image_of, seat_after, InboxView, IsRefusal, fault_of, ChosenView, refusal_to_apply, TakenView, Fails, HasMoved, HasRun, HasStayed, HasStopped, IsFree, IsNotBegun, IsNotEnded, IsRefused, Leaves, RunsNone, RunsTurn, Visited, Visits, ExecFault, Memory, Worker, Full, Refused, Spent, StateName}
 use Rattle.swift_tasks.specs.declared.fault.BookFault.TheVariants as book
 use Rattle.swift_word.specs.Seat.{WordSeatView, last_found, left}
-use Rattle.swift_executor.specs.Exec.{DeskView, FoundFree, HasFound, HasLeft, HasTried, IfTurn, IsAt, IsRunFault, image_of, seat_after}
-use Rattle.swift_executor.specs.Inbox.{InboxView}
-use Rattle.swift_executor.specs.Refusals.{IsRefusal, fault_of}
-use Rattle.swift_executor.specs.State.{ChosenView, refusal_to_apply}
-use Rattle.swift_executor.specs.Taken.{TakenView}
-use Rattle.swift_executor.specs.Visits.{Fails, HasMoved, HasRun, HasStayed, HasStopped, IsFree, IsNotBegun, IsNotEnded, IsRefused, Leaves, RunsNone, RunsTurn, Visited, Visits}
-use Rattle.swift_executor.specs.declared.fault.ExecFault.{ExecFault}
-use Rattle.swift_executor.specs.declared.fault.ExecFault.TheVariants.{Memory, Worker, Full, Refused, Spent}
 use Rattle.swift_executor.specs.declared.ran.VisitOutcome.{VisitOutcome}
 use Rattle.swift_executor.specs.declared.ran.VisitOutcome.TheVariants.{Turn, Busy, Nothing}
 use Rattle.swift_executor.specs.declared.state_name.StateImage.{StateImage}
-use Rattle.swift_executor.specs.declared.state_name.StateName.{StateName}
 
 -- the refusals of a book are those of a visit
 fault_is : (cause : BookFault) → IsRunFault (fault_of cause)

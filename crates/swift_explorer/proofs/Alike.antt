@@ -1,40 +1,13 @@
 -- Histories of one key lead alike, and outcomes of one key are one but for their schedules.
-use Rattle.std.proofs.Common.{◌≡◌, ℕ, zero, suc, ◌+◌, ◌≤◌, ℤ, Bool, false, List, [], ◌∷◌, ◌++◌, length, map, reverse, refl, sym, ◌∙◌, ap, ap₂, subst, arith, inl, inr}
-use Rattle.std.specs.Prelude.{Option, Some, None, slice_get, slice_index_or}
-use Rattle.std.specs.Option.{option_map}
-use Rattle.std.proofs.lemmas.Bool.{cases_lt}
-use Rattle.std.proofs.lemmas.List.{length-map, reverse-reverse}
-use Rattle.script_code.specs.Seen.{rows_of}
-use Rattle.swift_types.specs.declared.outcome.Resume.{Resume}
+use Rattle.swift_explorer.proofs.Prelude.{◌≡◌, ℕ, zero, suc, ◌+◌, ◌≤◌, ℤ, Bool, false, List, [], ◌∷◌, ◌++◌, length, map, reverse, refl, sym, ◌∙◌, ap, ap₂, subst, arith, inl, inr, Option, Some, None, slice_get, slice_index_or, option_map, cases_lt, length-map, reverse-reverse, rows_of, Resume, ScriptView, executor_count, root_count, FrameView, TaskView, tasks_of, RecordView, Block, checkpoint_at, fields_of, records_of, JobFacts, WaitingTaskView, starts, jobs_held, Digest, digest_of, LeadAlike, tasks_of_is, option_numbers, list_numbers, number_numbers, flag_numbers, resume_numbers, origin_numbers, ending_numbers, bindings_numbers, fields_numbers, frame_numbers, digest_numbers, NextTurn, SearchedHistory, RunOutcome, given_at, given_view, IsHistory, has_records, rows_at, IsKeyFor, IsNumbered, ReadyView, body_numbers, end_numbers, frames_left, job_left, job_numbers, outcome_bytes, ready_numbers, ready_view, rest_numbers, rest_of, task_left, with_counts}
 use Rattle.swift_types.specs.declared.outcome.Resume.TheVariants.{Go}
-use Rattle.swift_script.specs.Scripts.{ScriptView, executor_count, root_count}
-use Rattle.swift_interpreter.specs.Frames.{FrameView}
-use Rattle.swift_turn.specs.Body.{TaskView}
-use Rattle.swift_events.specs.Events.{tasks_of}
-use Rattle.swift_journal.specs.Records.{RecordView}
 use Rattle.swift_journal.specs.Replay.{replay}
 use Rattle.swift_laws.proofs.HistoriesApplied.{there}
-use Rattle.swift_history.specs.Histories.{Block, checkpoint_at, fields_of, records_of}
-use Rattle.swift_history.specs.TurnEnds.{JobFacts, WaitingTaskView}
-use Rattle.swift_course.specs.Course.{starts}
-use Rattle.swift_tasks.specs.Books.{jobs_held}
-use Rattle.swift_digest.specs.Digests.{Digest, digest_of}
-use Rattle.swift_digest.specs.Futures.{LeadAlike}
 use Rattle.swift_digest.specs.Plans.{FramePlan, JobPlan, TaskPlan, WaitingTaskPlan, caller_plan, frame_plans, held_plans, job_plan, plan_of, task_plan}
-use Rattle.swift_digest.proofs.Answers.{tasks_of_is}
-use Rattle.swift_explorer.specs.Numbers.{option_numbers, list_numbers, number_numbers, flag_numbers, resume_numbers, origin_numbers, ending_numbers}
-use Rattle.swift_explorer.specs.FrameNumbers.{bindings_numbers, fields_numbers, frame_numbers}
-use Rattle.swift_explorer.specs.DigestNumbers.{digest_numbers}
 use Rattle.swift_explorer.proofs.Bytes.{bytes_read}
 use Rattle.swift_explorer.proofs.Codes.{IsCode, peel, pair_code, option_code, list_code, number_code, flag_code, resume_code, origin_code, ending_code}
 use Rattle.swift_explorer.proofs.FrameCodes.{bindings_code, fields_code, frame_code}
 use Rattle.swift_explorer.proofs.DigestCodes.{digest_read}
-use Rattle.swift_steps.specs.declared.next_turn.NextTurn.{NextTurn}
-use Rattle.swift_explorer.specs.declared.history.SearchedHistory.{SearchedHistory}
-use Rattle.swift_explorer.specs.declared.outcome.RunOutcome.{RunOutcome}
-use Rattle.swift_steps.specs.NextTurns.{given_at, given_view}
-use Rattle.swift_explorer.specs.HistoryInside.{IsHistory, has_records, rows_at}
-use Rattle.swift_explorer.specs.KeysInside.{IsKeyFor, IsNumbered, ReadyView, body_numbers, end_numbers, frames_left, job_left, job_numbers, outcome_bytes, ready_numbers, ready_view, rest_numbers, rest_of, task_left, with_counts}
 
 -- tasks, what they go on with, and jobs can be read again
 

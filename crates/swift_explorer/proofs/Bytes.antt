@@ -1,9 +1,6 @@
 -- Numbers that were written as bytes can be read again.
-use Rattle.std.proofs.Common.{◌≡◌, ℕ, ◌+◌, ◌<◌, ℤ, Bool, true, false, List, [], ◌∷◌, ◌++◌, length, take, get_or, refl, sym, ◌∙◌, ap, arith, append_assoc, append-nil}
-use Rattle.std.specs.Prelude.{pos, negsuc, nat_lt, ◌/◌, ◌%◌, ◌^◌, if◌then◌else◌}
-use Rattle.std.proofs.lemmas.List.{take_more}
+use Rattle.swift_explorer.proofs.Prelude.{◌≡◌, ℕ, ◌+◌, ◌<◌, ℤ, Bool, true, false, List, [], ◌∷◌, ◌++◌, length, take, get_or, refl, sym, ◌∙◌, ap, arith, append_assoc, append-nil, pos, negsuc, nat_lt, ◌/◌, ◌%◌, ◌^◌, if◌then◌else◌, take_more, bytes_2, bytes_4, bytes_8, packed, all_packed, BytesAreRead}
 use Rattle.swift_explorer.proofs.Codes.{halves}
-use Rattle.swift_explorer.specs.Bytes.{bytes_2, bytes_4, bytes_8, packed, all_packed, BytesAreRead}
 
 read_2 : (a b : ℕ) (r s : List ℕ) → bytes_2 a ++ r ≡ bytes_2 b ++ s → (a ≡ b) × (r ≡ s)
 read_2 a b r s e =

@@ -1,19 +1,6 @@
 -- One more event of a log is read.
-use Rattle.std.proofs.Common.{◌≡◌, ℕ, ◌+◌, ◌<◌, ◌≤◌, ℤ, Bool, true, false, List, [], ◌∷◌, ◌++◌, length, take, get_or, refl, sym, ◌∙◌, ap, subst, arith, if◌then◌else◌}
-use Rattle.std.specs.Prelude.{◌==◌, ◌||◌}
-use Rattle.std.specs.List.{cons_option}
-use Rattle.std.proofs.lemmas.List.{take_more}
-use Rattle.swift_types.specs.declared.id.TaskId.{TaskId}
-use Rattle.swift_events.specs.declared.event.Event.{Event}
-use Rattle.swift_events.specs.declared.life.Life.{Life}
-use Rattle.swift_events.specs.Events.{task_of, is_made}
-use Rattle.swift_events.specs.Lives.{lived, unborn}
-use Rattle.swift_events.specs.Relations.{own_in, waiter_in, names_task, opens, child_in, asks, closes, names_group}
-use Rattle.swift_digest.specs.Digests.{Card as CardView, GroupCard as GroupView, Digest, no_digest, digest_of, noted, card_noted, group_noted, one_if, open_ending, own_link, said}
-use Rattle.swift_explorer.specs.Numbers.{some_numbers, task_numbers, link_numbers}
-use Rattle.swift_explorer.specs.DigestNumbers.{ended_numbers, card_numbers, group_numbers, IsWithin, other_of, group_end}
-use Rattle.swift_explorer.specs.CardsInside.{IsCard, IsKeyGroup, card_of_parts, group_of_parts}
-use Rattle.swift_explorer.specs.declared.keys.digest.KeyCard.{KeyCard}
+use Rattle.swift_explorer.proofs.Prelude.{◌≡◌, ℕ, ◌+◌, ◌<◌, ◌≤◌, ℤ, Bool, true, false, List, [], ◌∷◌, ◌++◌, length, take, get_or, refl, sym, ◌∙◌, ap, subst, arith, if◌then◌else◌, ◌==◌, ◌||◌, cons_option, take_more, TaskId, Event, Life, task_of, is_made, lived, unborn, own_in, waiter_in, names_task, opens, child_in, asks, closes, names_group, Digest, no_digest, digest_of, noted, card_noted, group_noted, one_if, open_ending, own_link, said, some_numbers, task_numbers, link_numbers, ended_numbers, card_numbers, group_numbers, IsWithin, other_of, group_end, IsCard, IsKeyGroup, card_of_parts, group_of_parts, KeyCard}
+use Rattle.swift_digest.specs.Digests.{Card as CardView, GroupCard as GroupView}
 use Rattle.swift_explorer.specs.declared.keys.digest.KeyGroup.{KeyGroup}
 use Rattle.swift_digest.proofs.Cards.{digest_of-push, digest_of-none}
 use Rattle.swift_explorer.proofs.Steps.{some-append}

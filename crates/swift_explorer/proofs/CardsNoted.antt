@@ -1,19 +1,8 @@
 -- Cards of tasks while a log is read once for all of them.
-use Rattle.std.proofs.Common.{◌≡◌, ℕ, ◌+◌, ◌<◌, ◌≤◌, List, [], length, set, take, get_or, refl, sym, ◌∙◌, ap, subst, arith, inl, inr, if◌then◌else◌}
-use Rattle.std.specs.Prelude.{All, Option, Some, slice_get, unwrap_or}
-use Rattle.std.proofs.lemmas.Bool.{cases_eq}
+use Rattle.swift_explorer.proofs.Prelude.{◌≡◌, ℕ, ◌+◌, ◌<◌, ◌≤◌, List, [], length, set, take, get_or, refl, sym, ◌∙◌, ap, subst, arith, inl, inr, if◌then◌else◌, All, Option, Some, slice_get, unwrap_or, cases_eq, get_or_from_slice_get, slice_get-get_or, slice_get_within, Event, task_of, lived, names_task, opens, own_in, waiter_in, Digest, digest_of, own_link, link_numbers, task_numbers, other_of, AreCards, AreNoted, IsBlank, IsCard, IsNotedAt, IsPast, OpenAtMost, KeyCard}
 use Rattle.std.proofs.lemmas.List.{length-set}
-use Rattle.std.proofs.lemmas.Option.{get_or_from_slice_get, slice_get-get_or, slice_get_within}
-use Rattle.swift_events.specs.declared.event.Event.{Event}
-use Rattle.swift_events.specs.Events.{task_of}
-use Rattle.swift_events.specs.Lives.{lived}
-use Rattle.swift_events.specs.Relations.{names_task, opens, own_in, waiter_in}
 use Rattle.swift_groups.proofs.Lists.{slice_get_set, slice_get_set_other}
-use Rattle.swift_digest.specs.Digests.{Digest, digest_of, own_link}
-use Rattle.swift_explorer.specs.Numbers.{link_numbers, task_numbers}
-use Rattle.swift_explorer.specs.DigestNumbers.{other_of}
-use Rattle.swift_explorer.specs.CardsInside.{AreCards, AreNoted, IsBlank, IsCard, IsNoted, IsNotedAt, IsPast, OpenAtMost}
-use Rattle.swift_explorer.specs.declared.keys.digest.KeyCard.{KeyCard}
+use Rattle.swift_explorer.specs.CardsInside.{IsNoted}
 use Rattle.swift_explorer.proofs.CardSteps.{card_none, card_step, one_at_most}
 use Rattle.swift_explorer.proofs.Past.{count_stays, flag_stays, numbers_stay, past, unequal}
 

@@ -1,27 +1,15 @@
 -- Values that were written as numbers can be read again.
-use Rattle.std.proofs.Common.{◌≡◌, ℕ, zero, suc, ◌+◌, ◌<◌, ◌*◌, ℤ, List, [], ◌∷◌, ◌++◌, Bool, true, false, refl, sym, ◌∙◌, ap, ap₂, arith, append_assoc, subst, inl, inr}
-use Rattle.std.proofs.lemmas.Bool.{cases_eq}
-use Rattle.std.specs.Prelude.{pos, Option, Some, None, ◌/◌, ◌%◌, ◌^◌}
-use Rattle.swift_types.specs.declared.id.TaskId.{TaskId}
-use Rattle.swift_types.specs.declared.outcome.Fault.{Fault}
+use Rattle.swift_explorer.proofs.Prelude.{◌≡◌, ℕ, zero, suc, ◌+◌, ◌<◌, ◌*◌, ℤ, List, [], ◌∷◌, ◌++◌, Bool, true, false, refl, sym, ◌∙◌, ap, ap₂, arith, append_assoc, subst, inl, inr, cases_eq, pos, Option, Some, None, ◌/◌, ◌%◌, ◌^◌, TaskId, Fault, Ending, Resume, Env, Origin, LastJob, JobStage, Life, pair_numbers, option_numbers, some_numbers, list_numbers, each_numbers, value_numbers, number_numbers, wide_numbers, flag_numbers, task_numbers, priority_numbers, fault_numbers, ending_numbers, resume_numbers, origin_numbers, given_numbers, env_numbers, stage_numbers, life_numbers, link_numbers}
 use Rattle.swift_types.specs.declared.outcome.Fault.TheVariants as fault
-use Rattle.swift_types.specs.declared.outcome.Ending.{Ending}
 use Rattle.swift_types.specs.declared.outcome.Ending.TheVariants as ending
-use Rattle.swift_types.specs.declared.outcome.Resume.{Resume}
 use Rattle.swift_types.specs.declared.outcome.Resume.TheVariants as resume
 use Rattle.swift_types.specs.declared.priority.Priority.{Priority}
 use Rattle.swift_types.specs.declared.priority.Priority.TheVariants.{Background, Low, Medium, High}
 use Rattle.swift_types.specs.Priority.{rank}
-use Rattle.swift_types.specs.declared.env.Env.{Env}
-use Rattle.swift_events.specs.declared.life.Origin.{Origin}
 use Rattle.swift_events.specs.declared.life.Origin.TheVariants as origin
-use Rattle.swift_events.specs.declared.life.LastJob.{LastJob}
-use Rattle.swift_events.specs.declared.life.JobStage.{JobStage}
 use Rattle.swift_events.specs.declared.life.JobStage.TheVariants as stage
-use Rattle.swift_events.specs.declared.life.Life.{Life}
 use Rattle.swift_escalation.specs.declared.waits.PriorityEvent.{PriorityEvent as Link}
 use Rattle.swift_escalation.specs.declared.waits.PriorityEvent.TheVariants as link
-use Rattle.swift_explorer.specs.Numbers.{pair_numbers, option_numbers, some_numbers, list_numbers, each_numbers, value_numbers, number_numbers, wide_numbers, flag_numbers, task_numbers, priority_numbers, fault_numbers, ending_numbers, resume_numbers, origin_numbers, given_numbers, env_numbers, stage_numbers, life_numbers, link_numbers}
 
 abbrev task : ℕ → TaskId
 task n = record { 0 = n }

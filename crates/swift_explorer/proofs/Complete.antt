@@ -1,46 +1,15 @@
 -- A search that has gone on from each history which it has kept has found each outcome.
-use Rattle.std.proofs.Common.{◌≡◌, ◌<◌, ◌≤◌, ℕ, ℤ, List, [], ◌∷◌, ◌++◌, append_assoc, length, refl, sym, subst, ap, ap₂, ◌∙◌, arith, inl, inr}
-use Rattle.std.specs.Prelude.{IsTrue, None, Option, Some, Contains, slice_get, unwrap_or}
-use Rattle.std.specs.Arc.{arc_value}
-use Rattle.std.proofs.lemmas.Bool.{false≢true}
-use Rattle.std.proofs.lemmas.Option.{slice_get_within}
-use Rattle.swift_types.specs.declared.env.Env.{Env}
-use Rattle.swift_script.specs.Scripts.{ScriptView}
-use Rattle.swift_interpreter.specs.Turn.{ExitView}
-use Rattle.swift_journal.specs.Checkpoints.{CheckpointView, FoldedView}
-use Rattle.swift_journal.specs.Records.{RecordView}
-use Rattle.swift_history.specs.Histories.{AllStand, Block, ReportView, added, begun, folded, ran}
+use Rattle.swift_explorer.proofs.Prelude.{◌≡◌, ◌<◌, ◌≤◌, ℕ, ℤ, List, [], ◌∷◌, ◌++◌, append_assoc, length, refl, sym, subst, ap, ap₂, ◌∙◌, arith, inl, inr, IsTrue, None, Option, Some, Contains, slice_get, unwrap_or, arc_value, false≢true, slice_get_within, Env, ScriptView, ExitView, CheckpointView, FoldedView, RecordView, AllStand, Block, ReportView, added, begun, folded, ran, standing, start_of, starts, many_starts, FoldsNone, IsOutcome, StartsFresh, state_of, AreLike, IsOrderly, IsOrderlyLegal, Made, NoneFolded, made, outcome_too, all_push, turn_looks_away, OneTurn, after_turns, AllRunSilently, LeadAsOne, outcome_near, AllTried, Move, RunOutcome, SearchedHistory, Search, HasEachOutcome, NeverBreaks, Tells, AllWhole, StartsHold, AreSteps, BreaksInvariant, IsBroken, IsHistory, IsPath, HasGoneOn, HasLike, IsExpanded, IsExpandedAt, IsSound, Keeps, LeadsTo, MayFollow, TurnWasTried, WasTried, paths_of, allowed_push}
 use Rattle.swift_laws.specs.Laws.{ActorsHaveExecutors}
-use Rattle.swift_course.specs.Course.{standing, start_of, starts}
-use Rattle.swift_course.proofs.Starts.{many_starts}
-use Rattle.swift_digest.specs.Explored.{FoldsNone, IsOutcome, StartsFresh, state_of}
-use Rattle.swift_digest.specs.Futures.{AreLike}
-use Rattle.swift_history.specs.Orderly.{IsOrderly, IsOrderlyLegal}
-use Rattle.swift_digest.proofs.Outcomes.{Made, NoneFolded, made, outcome_too}
-use Rattle.swift_digest.proofs.SameStands.{all_push}
-use Rattle.swift_reordering.specs.Away.{turn_looks_away}
 use Rattle.swift_reordering.specs.FusedSteps.{HasRoom, MayStep}
-use Rattle.swift_reordering.specs.RunAhead.{OneTurn, after_turns, AllRunSilently, LeadAsOne}
 use Rattle.swift_reordering.proofs.AheadWalk.{HasAhead, HasAll, StepsAhead, all_done, first_one, go_run, has_all}
-use Rattle.swift_reordering.proofs.Closed.{outcome_near}
 use Rattle.swift_reordering.proofs.Priorities.{cons_cases, cons_here, none_there}
-use Rattle.swift_reordering.proofs.RunAhead.{AllTried}
 use Rattle.swift_reordering.proofs.SilentEnds.{finished}
 use Rattle.swift_reordering.proofs.Walks.{course_none}
-use Rattle.swift_explorer.specs.declared.moves.Move.{Move}
 use Rattle.swift_explorer.specs.declared.moves.Move.TheVariants as step
-use Rattle.swift_explorer.specs.declared.outcome.RunOutcome.{RunOutcome}
-use Rattle.swift_explorer.specs.declared.history.SearchedHistory.{SearchedHistory}
-use Rattle.swift_explorer.specs.declared.search.Search.{Search}
-use Rattle.swift_explorer.specs.Outcomes.{HasEachOutcome, NeverBreaks, Tells}
-use Rattle.swift_explorer.specs.AheadInside.{AllWhole, StartsHold}
-use Rattle.swift_explorer.specs.Steps.{AreSteps, BreaksInvariant, IsBroken}
-use Rattle.swift_explorer.specs.HistoryInside.{IsHistory, IsPath}
-use Rattle.swift_explorer.specs.SearchInside.{HasGoneOn, HasLike, IsExpanded, IsExpandedAt, IsSound, Keeps, LeadsTo, MayFollow, TurnWasTried, WasTried, paths_of}
 use Rattle.swift_explorer.proofs.Ended.{starts_at}
 use Rattle.swift_explorer.proofs.KnownEnds.{same_list}
 use Rattle.swift_explorer.proofs.Nodes.{paths_length}
-use Rattle.swift_course.proofs.Blocks.{allowed_push}
 use Rattle.swift_explorer.proofs.Paths.{steps_push}
 
 -- fresh checkpoints are those that a run starts with

@@ -1,13 +1,7 @@
 -- A schedule that is followed, up to a step or to its end.
-use Rattle.std.proofs.Common.{◌≡◌, ◌<◌, ℕ, zero, suc, List, [], ◌∷◌, ◌++◌, length, take, refl, arith}
-use Rattle.std.specs.Prelude.{Some, slice_get, slice_index_or}
-use Rattle.swift_script.specs.Scripts.{ScriptView}
-use Rattle.swift_explorer.specs.declared.moves.Move.{Move}
+use Rattle.swift_explorer.proofs.Prelude.{◌≡◌, ◌<◌, ℕ, zero, suc, List, [], ◌∷◌, ◌++◌, length, take, refl, arith, Some, slice_get, slice_index_or, ScriptView, Move, SearchedHistory, IsPath, IsLogOf}
 use Rattle.swift_explorer.specs.declared.completion.StepFault.{StepFault}
-use Rattle.swift_explorer.specs.declared.history.SearchedHistory.{SearchedHistory}
 use Rattle.swift_explorer.specs.Completions.{IsStepFault, IsStopped, IsWhole}
-use Rattle.swift_explorer.specs.HistoryInside.{IsPath}
-use Rattle.swift_explorer.specs.Outcomes.{IsLogOf}
 
 -- the log of a history is that of the steps that were followed
 pub log_of : (script : ScriptView) (path : List Move) (x : SearchedHistory) → IsPath script path x → IsLogOf script path x.steps.book.log

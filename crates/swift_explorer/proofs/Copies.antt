@@ -1,13 +1,5 @@
 -- Copies of histories.
-use Rattle.std.proofs.Common.{◌≡◌, ◌≤◌, Bool, false, List, length, sym, subst, ◌∙◌}
-use Rattle.std.specs.Prelude.{slice_index_or}
-use Rattle.swift_script.specs.Scripts.{ScriptView, executor_count}
-use Rattle.swift_history.specs.Histories.{records_of}
-use Rattle.swift_course.specs.Course.{starts}
-use Rattle.swift_steps.specs.OpenHistories.{IsCopyOf}
-use Rattle.swift_explorer.specs.declared.moves.Move.{Move}
-use Rattle.swift_explorer.specs.declared.history.SearchedHistory.{SearchedHistory}
-use Rattle.swift_explorer.specs.HistoryInside.{IsCopy, IsPath, has_records}
+use Rattle.swift_explorer.proofs.Prelude.{◌≡◌, ◌≤◌, Bool, false, List, length, sym, subst, ◌∙◌, slice_index_or, ScriptView, executor_count, records_of, starts, IsCopyOf, Move, SearchedHistory, IsCopy, IsPath, has_records}
 use Rattle.swift_explorer.proofs.Followed.{many_on}
 
 -- where its parts are copies, a history is a copy

@@ -1,14 +1,7 @@
 -- A digest that was written as numbers can be read again.
-use Rattle.std.proofs.Common.{◌≡◌, ℕ, ◌<◌, ◌≤◌, ℤ, List, [], ◌∷◌, ◌++◌, Bool, sym, ◌∙◌, ap, subst, arith, append_assoc, inl, inr}
-use Rattle.std.proofs.lemmas.Bool.{cases_lt}
+use Rattle.swift_explorer.proofs.Prelude.{◌≡◌, ℕ, ◌<◌, ◌≤◌, ℤ, List, [], ◌∷◌, ◌++◌, Bool, sym, ◌∙◌, ap, subst, arith, append_assoc, inl, inr, cases_lt, TaskId, Ending, Life, Card, GroupCard, Digest, no_card, no_group, list_numbers, each_numbers, wide_numbers, flag_numbers, task_numbers, ending_numbers, life_numbers, link_numbers, card_numbers, ended_numbers, group_numbers, groups_numbers, head_numbers, digest_numbers, IsWithin, IsWritten}
 use Rattle.std.proofs.Math.Path.{fun_ext}
-use Rattle.swift_types.specs.declared.id.TaskId.{TaskId}
-use Rattle.swift_types.specs.declared.outcome.Ending.{Ending}
-use Rattle.swift_events.specs.declared.life.Life.{Life}
 use Rattle.swift_escalation.specs.declared.waits.PriorityEvent.{PriorityEvent as Link}
-use Rattle.swift_digest.specs.Digests.{Card, GroupCard, Digest, no_card, no_group}
-use Rattle.swift_explorer.specs.Numbers.{list_numbers, each_numbers, wide_numbers, flag_numbers, task_numbers, ending_numbers, life_numbers, link_numbers}
-use Rattle.swift_explorer.specs.DigestNumbers.{card_numbers, ended_numbers, group_numbers, groups_numbers, head_numbers, digest_numbers, IsWithin, IsWritten}
 use Rattle.swift_explorer.proofs.Codes.{IsCode, IsCodeTo, AgreeBelow, peel, pair_code, list_code, each_code, wide_code, flag_code, task_code, ending_code, life_code, link_code}
 
 abbrev card_by : Life → List Link → List TaskId → List TaskId → Bool → ℕ → Card

@@ -1,27 +1,6 @@
 -- Each block that may follow a history is what one of the listed steps does.
-use Rattle.std.proofs.Common.{◌≡◌, ◌<◌, ℕ, ◌+◌, true, List, [], ◌∷◌, ◌++◌, length, refl, sym, subst, ap, ◌∙◌, inl, inr}
-use Rattle.std.specs.Prelude.{Option, Some, None, IfSome, is_some, Contains}
-use Rattle.std.specs.Arc.{arc_value}
-use Rattle.std.proofs.lemmas.Bool.{false≢true, ltb-true}
-use Rattle.std.proofs.lemmas.List.Elements.{Contains-append_left, Contains-push}
-use Rattle.swift_types.specs.declared.env.Env.{Env}
-use Rattle.swift_types.specs.declared.id.TaskId.{TaskId}
-use Rattle.swift_script.specs.Scripts.{ScriptView, actor_executor, method_actor, root_count}
-use Rattle.swift_interpreter.specs.Frames.{FrameView}
-use Rattle.swift_events.specs.declared.event.Event.{Event}
-use Rattle.swift_events.specs.Lives.{life_of}
-use Rattle.swift_turn.specs.Body.{HasFrames}
-use Rattle.swift_journal.specs.Records.{RecordView}
-use Rattle.swift_history.specs.Checks.{is_begun}
-use Rattle.swift_history.specs.Histories.{Block, Stands, added, begun, folded, ran}
-use Rattle.swift_history.specs.TurnEnds.{JobFacts}
-use Rattle.swift_course.specs.Course.{standing, starts}
-use Rattle.swift_history.specs.Orderly.{IsOrderly, frames_executor}
-use Rattle.swift_explorer.specs.declared.history.SearchedHistory.{SearchedHistory}
-use Rattle.swift_explorer.specs.declared.moves.Move.{Move}
+use Rattle.swift_explorer.proofs.Prelude.{◌≡◌, ◌<◌, ℕ, ◌+◌, true, List, [], ◌∷◌, ◌++◌, length, refl, sym, subst, ap, ◌∙◌, inl, inr, Option, Some, None, IfSome, is_some, Contains, arc_value, false≢true, ltb-true, Contains-append_left, Contains-push, Env, TaskId, ScriptView, actor_executor, method_actor, root_count, FrameView, Event, life_of, HasFrames, RecordView, is_begun, Block, Stands, added, begun, folded, ran, JobFacts, standing, starts, IsOrderly, frames_executor, SearchedHistory, Move, AreOf, given_at, given_view, seat_if, seat_of, AreThere, HasEach, HasEachMove, IsHistory, IsMissing, IsMoveOf, IsUnderWay, MayBegin}
 use Rattle.swift_explorer.specs.declared.moves.Move.TheVariants as step
-use Rattle.swift_steps.specs.NextTurns.{AreOf, given_at, given_view, seat_if, seat_of}
-use Rattle.swift_explorer.specs.HistoryInside.{AreThere, HasEach, HasEachMove, IsHistory, IsMissing, IsMoveOf, IsUnderWay, MayBegin}
 use Rattle.swift_explorer.proofs.Ended.{lt_or}
 use Rattle.swift_explorer.proofs.First.{mapped}
 use Rattle.swift_explorer.proofs.Orderly.{before_or_past, seat_is, seat_past}

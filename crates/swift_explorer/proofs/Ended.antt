@@ -1,25 +1,5 @@
 -- Where each task has ended, a history has made a legal report.
-use Rattle.std.proofs.Common.{◌≡◌, ◌⊎◌, ◌<◌, ℕ, zero, suc, ◌+◌, List, [], ◌∷◌, ◌++◌, length, map, refl, sym, ap, ◌∙◌, ℤ, arith, inl, inr}
-use Rattle.std.specs.Prelude.{Some, slice_get, unwrap_or}
-use Rattle.std.specs.List.{range_with_len}
-use Rattle.std.proofs.lemmas.List.{length-map}
-use Rattle.std.proofs.lemmas.Option.{none-some, slice_get-map}
-use Rattle.swift_types.specs.declared.outcome.Ending.{Ending}
-use Rattle.swift_script.specs.Scripts.{ScriptView, executor_count, root_count}
-use Rattle.swift_events.specs.declared.event.Event.{Event}
-use Rattle.swift_events.specs.declared.life.Origin.{Origin}
-use Rattle.swift_events.specs.Events.{tasks_of}
-use Rattle.swift_events.specs.Lives.{life_of}
-use Rattle.swift_journal.specs.Records.{RecordView}
-use Rattle.swift_journal.specs.Checkpoints.{CheckpointView}
-use Rattle.swift_history.specs.Histories.{Block, ReportView, records_of}
-use Rattle.swift_course.specs.Course.{start_of, starts}
-use Rattle.swift_course.proofs.Starts.{many_starts}
-use Rattle.swift_explorer.specs.declared.history.SearchedHistory.{SearchedHistory}
-use Rattle.swift_history.specs.Orderly.{IsOrderlyLegal}
-use Rattle.swift_explorer.specs.declared.moves.Move.{Move}
-use Rattle.swift_explorer.specs.Steps.{AreSteps}
-use Rattle.swift_explorer.specs.HistoryInside.{AreEnded, HaveClosed, IsHistory, rows_at}
+use Rattle.swift_explorer.proofs.Prelude.{◌≡◌, ◌⊎◌, ◌<◌, ℕ, zero, suc, ◌+◌, List, [], ◌∷◌, ◌++◌, length, map, refl, sym, ap, ◌∙◌, ℤ, arith, inl, inr, Some, slice_get, unwrap_or, range_with_len, length-map, none-some, slice_get-map, Ending, ScriptView, executor_count, root_count, Event, Origin, tasks_of, life_of, RecordView, CheckpointView, Block, ReportView, records_of, start_of, starts, many_starts, SearchedHistory, IsOrderlyLegal, Move, AreSteps, AreEnded, HaveClosed, IsHistory, rows_at}
 use Rattle.swift_explorer.proofs.First.{mapped, range_at, range_length}
 
 -- what stands at a place of a list with one more

@@ -1,15 +1,5 @@
 -- A history of which nothing was followed.
-use Rattle.std.proofs.Common.{Bool, false, ◌≡◌, ◌<◌, ◌≤◌, ℕ, zero, suc, ◌+◌, List, length, refl, sym, ap, ◌∙◌, ℤ, arith}
-use Rattle.std.specs.Prelude.{Option, Some, None, slice_get, slice_index_or, replicate}
-use Rattle.std.specs.Option.{option_map}
-use Rattle.std.specs.List.{range_with_len}
-use Rattle.std.proofs.lemmas.List.{length-map, length-replicate}
-use Rattle.std.proofs.lemmas.Option.{none-some, slice_get-map}
-use Rattle.swift_script.specs.Scripts.{ScriptView, executor_count, executor_start}
-use Rattle.swift_course.specs.Course.{starts}
-use Rattle.swift_course.proofs.Starts.{start_fields}
-use Rattle.swift_steps.specs.OpenHistories.{StartsFrom}
-use Rattle.swift_explorer.specs.HistoryInside.{AreFirst}
+use Rattle.swift_explorer.proofs.Prelude.{Bool, false, ◌≡◌, ◌<◌, ◌≤◌, ℕ, zero, suc, ◌+◌, List, length, refl, sym, ap, ◌∙◌, ℤ, arith, Option, Some, None, slice_get, slice_index_or, replicate, option_map, range_with_len, length-map, length-replicate, none-some, slice_get-map, ScriptView, executor_count, executor_start, starts, start_fields, StartsFrom, AreFirst}
 
 pub range_length : (a n : ℕ) → length (range_with_len a n) ≡ n
 range_length a zero = refl

@@ -1,15 +1,6 @@
 -- What is read of cancelled tasks off a log.
-use Rattle.std.proofs.Common.{◌≡◌, ◌<◌, ℕ, zero, suc, ◌+◌, List, [], ◌∷◌, length, refl, sym, ◌∙◌, ap, subst, Bool, true, false, arith}
-use Rattle.std.specs.Prelude.{Option, Some, ◌||◌, slice_index_or}
-use Rattle.std.specs.List.{list_any}
-use Rattle.std.proofs.lemmas.Bool.{false≢true}
-use Rattle.swift_types.specs.declared.id.TaskId.{TaskId}
-use Rattle.swift_events.specs.declared.event.Event.{Event}
-use Rattle.swift_events.specs.declared.life.Origin.{Origin}
+use Rattle.swift_explorer.proofs.Prelude.{◌≡◌, ◌<◌, ℕ, zero, suc, ◌+◌, List, [], ◌∷◌, length, refl, sym, ◌∙◌, ap, subst, Bool, true, false, arith, Option, Some, ◌||◌, slice_index_or, list_any, false≢true, TaskId, Event, Origin, life_of, cancelled_below, cancelled_within, is_named, is_named_group, of_parent, parent_by, parent_of}
 use Rattle.swift_events.specs.declared.life.Origin.TheVariants.{Child}
-use Rattle.swift_events.specs.Lives.{life_of}
-use Rattle.swift_explorer.specs.FlagsInside.{cancelled_below}
-use Rattle.swift_events.specs.Relations.{cancelled_within, is_named, is_named_group, of_parent, parent_by, parent_of}
 
 or_first : (a b : Bool) → a ≡ true → (a || b) ≡ true
 or_first true b is = refl

@@ -1,20 +1,5 @@
 -- The steps of a history lead it on.
-use Rattle.std.proofs.Common.{◌≡◌, ℕ, ◌≤◌, ℤ, List, [], ◌∷◌, ◌++◌, Vec, false, length, sym, subst, ◌∙◌}
-use Rattle.std.specs.Prelude.{Result, Ok, Err, IfOk, IfSome, None, Option, Some, slice_index_or}
-use Rattle.std.specs.declared.alloc.AllocError.{AllocError}
-use Rattle.std.specs.declared.alloc.Global.{Global}
-use Rattle.std.proofs.lemmas.List.{length-map}
-use Rattle.script_code.specs.Seen.{rows_of}
-use Rattle.swift_script.specs.Scripts.{ScriptView, executor_count}
-use Rattle.swift_history.specs.Histories.{Block, folded_in, records_of}
-use Rattle.swift_history.specs.Orderly.{IsOrderly}
-use Rattle.swift_course.specs.Course.{starts}
-use Rattle.swift_course.proofs.Blocks.{allowed_push, filter_none}
-use Rattle.swift_steps.specs.OpenHistories.{Follows}
-use Rattle.swift_explorer.specs.declared.history.Followed.{Followed}
-use Rattle.swift_explorer.specs.declared.history.Followed.TheVariants.{Broken, Yes}
-use Rattle.swift_explorer.specs.declared.history.SearchedHistory.{SearchedHistory}
-use Rattle.swift_explorer.specs.HistoryInside.{IsHistory, WasDone, has_records, rows_at}
+use Rattle.swift_explorer.proofs.Prelude.{◌≡◌, ℕ, ◌≤◌, ℤ, List, [], ◌∷◌, ◌++◌, Vec, false, length, sym, subst, ◌∙◌, Result, Ok, Err, IfOk, IfSome, None, Option, Some, slice_index_or, AllocError, Global, length-map, rows_of, ScriptView, executor_count, Block, folded_in, records_of, IsOrderly, starts, allowed_push, filter_none, Follows, Followed, Broken, Yes, SearchedHistory, IsHistory, WasDone, has_records, rows_at}
 
 -- as many executors are told of
 pub many_on : (x y : SearchedHistory) → length y.steps.fields.items ≡ length x.steps.fields.items → length (rows_at y) ≡ length (rows_at x)

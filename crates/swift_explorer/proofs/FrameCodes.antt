@@ -1,11 +1,6 @@
 -- Frames, bindings and fields that were written as numbers can be read again.
-use Rattle.std.proofs.Common.{◌≡◌, ℕ, ℤ, List, ◌++◌, reverse, sym, ◌∙◌, ap}
-use Rattle.std.specs.Prelude.{Option}
-use Rattle.std.proofs.lemmas.List.{reverse-reverse}
-use Rattle.swift_types.specs.declared.outcome.Fault.{Fault}
-use Rattle.swift_interpreter.specs.Frames.{FrameView}
-use Rattle.swift_explorer.specs.Numbers.{option_numbers, list_numbers, value_numbers, number_numbers, wide_numbers, fault_numbers}
-use Rattle.swift_explorer.specs.FrameNumbers.{values_numbers, ids_numbers, binding_numbers, bindings_numbers, groups_numbers, frame_numbers, rows_numbers, fields_numbers}
+use Rattle.swift_explorer.proofs.Prelude.{◌≡◌, ℕ, ℤ, List, ◌++◌, reverse, sym, ◌∙◌, ap, Option, reverse-reverse, Fault, FrameView, option_numbers, list_numbers, value_numbers, number_numbers, wide_numbers, fault_numbers, values_numbers, ids_numbers, binding_numbers, bindings_numbers, frame_numbers, rows_numbers, fields_numbers}
+use Rattle.swift_explorer.specs.FrameNumbers.{groups_numbers}
 use Rattle.swift_explorer.proofs.Codes.{IsCode, peel, pair_code, option_code, list_code, value_code, number_code, wide_code, fault_code}
 
 pub values_code : IsCode values_numbers

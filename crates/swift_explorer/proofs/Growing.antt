@@ -1,16 +1,5 @@
 -- What a search has found stays as it goes on.
-use Rattle.std.proofs.Common.{◌≡◌, ◌<◌, ◌≤◌, ℕ, zero, suc, ◌+◌, true, false, List, [], ◌∷◌, ◌++◌, length, refl, sym, subst, arith, inl, inr, ◌∙◌}
-use Rattle.std.specs.Prelude.{IsTrue}
-use Rattle.std.proofs.lemmas.Bool.{false≢true}
-use Rattle.std.proofs.lemmas.Option.{slice_get_within}
-use Rattle.swift_script.specs.Scripts.{ScriptView}
-use Rattle.swift_history.specs.Histories.{Block}
-use Rattle.swift_reordering.specs.RunAhead.{after_turns}
-use Rattle.swift_explorer.specs.declared.moves.Move.{Move}
-use Rattle.swift_explorer.specs.declared.search.Search.{Search}
-use Rattle.swift_explorer.specs.declared.fused.Step.{Step}
-use Rattle.swift_explorer.specs.declared.fused.Step.TheVariants.{Turn}
-use Rattle.swift_explorer.specs.SearchInside.{HasGoneOn, HasGrown, HasLike, HasLikeAhead, IsExpandedAt, IsKept, IsSound, StepWasTried, TurnWasTried, WasTried, paths_of}
+use Rattle.swift_explorer.proofs.Prelude.{◌≡◌, ◌<◌, ◌≤◌, ℕ, zero, suc, ◌+◌, true, false, List, [], ◌∷◌, ◌++◌, length, refl, sym, subst, arith, inl, inr, ◌∙◌, IsTrue, false≢true, slice_get_within, ScriptView, Block, after_turns, Move, Search, Step, Turn, HasGoneOn, HasGrown, HasLike, HasLikeAhead, IsExpandedAt, IsKept, IsSound, StepWasTried, TurnWasTried, WasTried, paths_of}
 use Rattle.swift_explorer.proofs.Ended.{lt_or}
 use Rattle.swift_explorer.proofs.Nodes.{path_there, paths_length}
 

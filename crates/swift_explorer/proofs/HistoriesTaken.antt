@@ -1,13 +1,5 @@
 -- Histories that are taken from those that were kept.
-use Rattle.std.proofs.Common.{◌≡◌, ◌⊎◌, ℕ, Bool, true, false, List, cond, inl, inr, refl, sym, subst, ap, ◌∙◌}
-use Rattle.std.specs.Prelude.{None, Option, Some, nat_eq, slice_get, unwrap_or}
-use Rattle.std.specs.HashMap.{get}
-use Rattle.swift_script.specs.Scripts.{ScriptView}
-use Rattle.swift_explorer.specs.declared.moves.Move.{Move}
-use Rattle.swift_explorer.specs.declared.queue.KeptHistory.{KeptHistory}
-use Rattle.swift_explorer.specs.declared.search.Search.{Search}
-use Rattle.swift_explorer.specs.HistoryInside.{IsPath}
-use Rattle.swift_explorer.specs.SearchInside.{HasGrown, IsSound, paths_of}
+use Rattle.swift_explorer.proofs.Prelude.{◌≡◌, ◌⊎◌, ℕ, Bool, true, false, List, cond, inl, inr, refl, sym, subst, ap, ◌∙◌, None, Option, Some, nat_eq, slice_get, unwrap_or, get, ScriptView, Move, KeptHistory, Search, IsPath, HasGrown, IsSound, paths_of}
 
 -- a search of which only the kept histories have changed: none is new
 

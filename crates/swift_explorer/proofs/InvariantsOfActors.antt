@@ -1,12 +1,9 @@
 -- Each invariant of an executor's actors is that of an actor which runs on it.
-use Rattle.std.proofs.Common.{◌≡◌, ℕ, zero, suc, ◌+◌, ◌<◌, Bool, true, false, Option, Some, None, List, [], ◌∷◌, ◌++◌, length, refl, sym, ap, subst, ◌∙◌, add-zero, arith, eqb}
-use Rattle.std.specs.Prelude.{Contains, slice_get, if◌then◌else◌}
-use Rattle.std.proofs.lemmas.Bool.{eqb-true}
+use Rattle.swift_explorer.proofs.Prelude.{◌≡◌, ℕ, zero, suc, ◌+◌, ◌<◌, Bool, true, false, Option, Some, None, List, [], ◌∷◌, ◌++◌, length, refl, sym, ap, subst, ◌∙◌, add-zero, arith, eqb, Contains, slice_get, if◌then◌else◌, eqb-true, Term, ActorView, compiled_by, actors_from, executors_from, members_from, members_of, members_if, own_executors, term_list, invariant_if, invariants_among}
 use Rattle.script_grammar.specs.Tree.{ActorTree, ExecutorTree}
 use Rattle.script_printing.specs.Script.{ScriptView}
-use Rattle.script_code.specs.Tree.{Term}
 use Rattle.script_compiler.specs.Plan.{PlanView, executor_at}
-use Rattle.script_compiler.specs.Compiled.{ActorView, compiled_by, actors_from, executors_from, members_from, members_of, members_if, own_executors, term_list, invariant_if, invariants_among, executor_invariants}
+use Rattle.script_compiler.specs.Compiled.{executor_invariants}
 
 there : {X : Type 0} (y : X) (xs : List X) (x : X) → Contains xs x → Contains (y ∷ xs) x
 there y xs x (k, lt, is) = (suc k, omega (arith, lt), is)

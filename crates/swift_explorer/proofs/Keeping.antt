@@ -1,23 +1,6 @@
 -- A history is kept, where none is that has its key.
-use Rattle.std.proofs.Common.{◌≡◌, ◌⊎◌, ◌<◌, ◌≤◌, ℕ, true, false, List, [], ◌∷◌, ◌++◌, Vec, length, refl, sym, subst, ap, ◌∙◌, arith, inl, inr}
-use Rattle.std.specs.Prelude.{IfSome, Option, Some, nat_eq, slice_get, Contains}
-use Rattle.std.specs.HashMap.{get}
-use Rattle.std.specs.declared.alloc.Global.{Global}
-use Rattle.std.specs.Arc.{arc_value}
-use Rattle.std.specs.List.{list_any}
-use Rattle.std.specs.Str.{bytes_eq}
-use Rattle.std.proofs.lemmas.Bool.{false≢true}
-use Rattle.std.proofs.lemmas.List.{length_push}
-use Rattle.swift_script.specs.Scripts.{ScriptView}
-use Rattle.swift_explorer.specs.declared.moves.Move.{Move}
-use Rattle.swift_explorer.specs.declared.history.SearchedHistory.{SearchedHistory}
-use Rattle.swift_explorer.specs.declared.search.Node.{Node}
-use Rattle.swift_explorer.specs.declared.search.Search.{Search}
-use Rattle.swift_explorer.specs.declared.queue.KeptHistory.{KeptHistory}
-use Rattle.swift_explorer.specs.HistoryInside.{IsCopy, IsPath}
+use Rattle.swift_explorer.proofs.Prelude.{◌≡◌, ◌⊎◌, ◌<◌, ◌≤◌, ℕ, true, false, List, [], ◌∷◌, ◌++◌, Vec, length, refl, sym, subst, ap, ◌∙◌, arith, inl, inr, IfSome, Option, Some, nat_eq, slice_get, Contains, get, Global, arc_value, list_any, bytes_eq, false≢true, length_push, ScriptView, Move, SearchedHistory, Node, Search, KeptHistory, IsCopy, IsPath, IsKeyOf, GoOn, HasGrown, IsKept, IsSound, Keeps, LeadsTo, MayGoOn, path_after, paths_of}
 use Rattle.swift_explorer.specs.QueueInside.{AreHistories, WasThere}
-use Rattle.swift_explorer.specs.KeysInside.{IsKeyOf}
-use Rattle.swift_explorer.specs.SearchInside.{GoOn, HasGrown, IsKept, IsSound, Keeps, LeadsTo, MayGoOn, path_after, paths_of}
 use Rattle.swift_explorer.proofs.Alike.{alike_keys}
 use Rattle.swift_explorer.proofs.Copies.{path_copied}
 use Rattle.swift_explorer.proofs.Growing.{grown_full, grown_left, grown_none, kept_grown, sound_full, sound_left}

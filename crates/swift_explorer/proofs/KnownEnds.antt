@@ -1,20 +1,5 @@
 -- What a report says of the end of a history is what is known of it.
-use Rattle.std.proofs.Common.{◌≡◌, ◌<◌, ℕ, suc, List, [], ◌∷◌, length, refl, sym, subst, ap, ap₂, ◌∙◌, arith, inl, inr}
-use Rattle.std.specs.Prelude.{None, Option, Some, slice_get, unwrap_or}
-use Rattle.std.proofs.lemmas.Option.{slice_get_cases}
-use Rattle.swift_types.specs.declared.outcome.Ending.{Ending}
-use Rattle.swift_script.specs.Scripts.{ScriptView, root_count}
-use Rattle.swift_events.specs.declared.event.Event.{Event}
-use Rattle.swift_events.specs.declared.life.Life.{Life}
-use Rattle.swift_events.specs.declared.life.Origin.{Origin}
-use Rattle.swift_events.specs.Events.{tasks_of}
-use Rattle.swift_events.specs.Lives.{life_of}
-use Rattle.swift_history.specs.Histories.{Block, ReportView}
-use Rattle.swift_course.specs.Course.{standing}
-use Rattle.swift_digest.proofs.Answers.{life_of_is, tasks_of_is}
-use Rattle.swift_explorer.specs.declared.history.SearchedHistory.{SearchedHistory}
-use Rattle.swift_explorer.specs.EndsInside.{IsEndedAs, IsReportAfter, SomeGoesOn}
-use Rattle.swift_explorer.specs.HistoryInside.{AreEnded, IsHistory, rows_at}
+use Rattle.swift_explorer.proofs.Prelude.{◌≡◌, ◌<◌, ℕ, suc, List, [], ◌∷◌, length, refl, sym, subst, ap, ap₂, ◌∙◌, arith, inl, inr, None, Option, Some, slice_get, unwrap_or, slice_get_cases, Ending, ScriptView, root_count, Event, Life, Origin, tasks_of, life_of, Block, ReportView, standing, life_of_is, tasks_of_is, SearchedHistory, IsEndedAs, IsReportAfter, SomeGoesOn, AreEnded, IsHistory, rows_at}
 
 pub same_list : {A : Type 0} (xs ys : List A) → length xs ≡ length ys → ((i : ℕ) (x y : A) → slice_get xs i ≡ Some x → slice_get ys i ≡ Some y → x ≡ y) → xs ≡ ys
 same_list [] [] many same = refl

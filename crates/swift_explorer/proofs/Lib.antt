@@ -1,3 +1,4 @@
+pub mod Prelude
 mod Copies
 mod Followed
 mod First

@@ -1,32 +1,6 @@
 -- What is read of turns that look away.
-use Rattle.std.proofs.Common.{◌≡◌, ◌<◌, ℕ, ◌+◌, List, [], ◌∷◌, ◌++◌, drop, length, get_or, refl, sym, subst, ap, ap₂, ◌∙◌, Bool, true, false, inl, inr}
-use Rattle.std.specs.Prelude.{Option, Some, Contains, ◌&&◌}
-use Rattle.std.specs.Option.{option_map}
-use Rattle.std.specs.Arc.{arc_value}
-use Rattle.std.proofs.lemmas.Bool.{false≢true}
-use Rattle.std.proofs.lemmas.List.{drop_more}
-use Rattle.std.proofs.lemmas.List.Elements.{Contains-append_left, Contains-push, Contains-push_cases}
-use Rattle.swift_types.specs.declared.id.TaskId.{TaskId}
-use Rattle.script_code.specs.Tree.{term_of, terms_of}
-use Rattle.script_code.specs.declared.formula.Formula.{Formula}
-use Rattle.swift_script.specs.Scripts.{ScriptView}
-use Rattle.swift_interpreter.specs.Frames.{FrameView}
-use Rattle.swift_events.specs.Relations.{is_cancelled}
-use Rattle.swift_history.specs.TurnEnds.{JobFacts}
-use Rattle.swift_history.specs.Histories.{Block}
-use Rattle.swift_course.specs.Course.{standing}
-use Rattle.swift_steps.specs.declared.next_turn.NextTurn.{NextTurn}
-use Rattle.swift_steps.specs.NextTurns.{given_at, given_view}
-use Rattle.swift_reordering.specs.Away.{frames_look_away, job_looks_away, term_looks_away, terms_look_away, turn_looks_away}
+use Rattle.swift_explorer.proofs.Prelude.{◌≡◌, ◌<◌, ℕ, ◌+◌, List, [], ◌∷◌, ◌++◌, drop, length, get_or, refl, sym, subst, ap, ap₂, ◌∙◌, Bool, true, false, inl, inr, Option, Some, Contains, ◌&&◌, option_map, arc_value, false≢true, drop_more, Contains-append_left, Contains-push, Contains-push_cases, TaskId, term_of, terms_of, Formula, ScriptView, FrameView, is_cancelled, JobFacts, Block, standing, NextTurn, given_at, given_view, frames_look_away, job_looks_away, term_looks_away, terms_look_away, turn_looks_away, Move, Step, SearchedHistory, One, Turn, Away, AwayCancelled, ArePlansOf, HasEachStep, IsChosen, IsPlanOf, LooksAway, HasEachMove, IsHistory, IsMoveOf, NextIs, frames_are}
 use Rattle.swift_reordering.proofs.Flags.{job_stays}
-use Rattle.swift_explorer.specs.declared.moves.Move.{Move}
-use Rattle.swift_explorer.specs.declared.fused.Step.{Step}
-use Rattle.swift_explorer.specs.declared.history.SearchedHistory.{SearchedHistory}
-use Rattle.swift_explorer.specs.declared.fused.Step.TheVariants.{One, Turn}
-use Rattle.swift_explorer.specs.declared.marks.MarkKind.TheVariants.{Away, AwayCancelled}
-use Rattle.swift_explorer.specs.FusedInside.{ArePlansOf, HasEachStep, IsChosen, IsPlanOf, LooksAway}
-use Rattle.swift_explorer.specs.HistoryInside.{HasEachMove, IsHistory, IsMoveOf}
-use Rattle.swift_explorer.specs.MarksInside.{NextIs, frames_are}
 
 pub away_from : (cancelled : Bool) (xs : List Formula) (i : ℕ) (x : Formula) → i < length xs → x ≡ get_or xs i x → terms_look_away cancelled (terms_of (drop i xs)) ≡ (term_looks_away cancelled (term_of x) && terms_look_away cancelled (terms_of (drop (i + 1) xs)))
 away_from cancelled xs i x within is = ap (λ (ys : List Formula). terms_look_away cancelled (terms_of ys)) (drop_more xs i x within ∙ ap (λ (y : Formula). y ∷ drop (i + 1) xs) (sym is))

@@ -1,22 +1,9 @@
 -- What is read of marks of instructions.
-use Rattle.std.proofs.Common.{◌≡◌, ◌<◌, ◌≤◌, ℕ, zero, suc, ◌+◌, List, [], ◌∷◌, ◌++◌, Vec, drop, length, get_or, replicate, refl, sym, subst, ap, ◌∙◌, arith, Bool, true, false, inl, inr}
-use Rattle.std.specs.Prelude.{Some, ◌&&◌, slice_get, unwrap_or}
-use Rattle.std.specs.declared.alloc.Global.{Global}
-use Rattle.std.proofs.lemmas.Bool.{false≢true}
-use Rattle.std.proofs.lemmas.List.{drop_more}
-use Rattle.std.proofs.lemmas.Option.{slice_get-get_or, slice_get_within}
-use Rattle.script_code.specs.Tree.{Operation, Term, term_of, terms_of}
-use Rattle.script_code.specs.Instructions.{FollowsCode}
-use Rattle.script_code.specs.Layout.{code_at}
-use Rattle.script_code.specs.declared.formula.Formula.{Formula}
-use Rattle.script_code.specs.declared.instruction.Instruction.{Instruction}
-use Rattle.swift_script.specs.Scripts.{ScriptView, method_code}
-use Rattle.swift_reordering.specs.Silent.{term_is_own, terms_are_own}
+use Rattle.swift_explorer.proofs.Prelude.{◌≡◌, ◌<◌, ◌≤◌, ℕ, zero, suc, ◌+◌, List, [], ◌∷◌, ◌++◌, Vec, drop, length, get_or, replicate, refl, sym, subst, ap, ◌∙◌, arith, Bool, true, false, inl, inr, Some, ◌&&◌, slice_get, unwrap_or, Global, false≢true, drop_more, slice_get-get_or, slice_get_within, Operation, Term, term_of, terms_of, FollowsCode, code_at, Formula, Instruction, ScriptView, method_code, term_is_own, terms_are_own, HaveMarks, operation_is, term_is}
 use Rattle.swift_reordering.specs.Marks.{AreMarked, is_marked, may_be_marked}
 use Rattle.swift_reordering.specs.Statements.{turn_all}
 use Rattle.swift_reordering.proofs.Marks.{marks_tell}
 use Rattle.swift_explorer.specs.declared.marks.MarkKind.{MarkKind}
-use Rattle.swift_explorer.specs.MarksInside.{HaveMarks, operation_is, term_is}
 use Rattle.swift_explorer.proofs.Ended.{lt_or, push_at}
 
 pub own_from : (xs : List Formula) (i : ℕ) (x : Formula) → i < length xs → x ≡ get_or xs i x → terms_are_own (terms_of (drop i xs)) ≡ (term_is_own (term_of x) && terms_are_own (terms_of (drop (i + 1) xs)))

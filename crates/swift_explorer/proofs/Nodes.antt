@@ -1,11 +1,5 @@
 -- The steps to the nodes of a search.
-use Rattle.std.proofs.Common.{◌≡◌, ◌<◌, ◌≤◌, ℕ, zero, suc, ◌+◌, ◌-◌, List, [], ◌∷◌, ◌++◌, drop, length, get_or, reverse, append_assoc, refl, sym, subst, ap, ◌∙◌, arith, inl, inr}
-use Rattle.std.specs.Prelude.{Option, Some, slice_get, unwrap_or}
-use Rattle.std.proofs.lemmas.List.{drop_more, length_push, reverse-append, reverse-reverse}
-use Rattle.std.proofs.lemmas.Option.{get_or_from_slice_get, none-some, slice_get-get_or, slice_get_within}
-use Rattle.swift_explorer.specs.declared.moves.Move.{Move}
-use Rattle.swift_explorer.specs.declared.search.Node.{Node}
-use Rattle.swift_explorer.specs.SearchInside.{GoOn, MayGoOn, path_after, paths_from, paths_of}
+use Rattle.swift_explorer.proofs.Prelude.{◌≡◌, ◌<◌, ◌≤◌, ℕ, zero, suc, ◌+◌, ◌-◌, List, [], ◌∷◌, ◌++◌, drop, length, get_or, reverse, append_assoc, refl, sym, subst, ap, ◌∙◌, arith, inl, inr, Option, Some, slice_get, unwrap_or, drop_more, length_push, reverse-append, reverse-reverse, get_or_from_slice_get, none-some, slice_get-get_or, slice_get_within, Move, Node, GoOn, MayGoOn, path_after, paths_from, paths_of}
 use Rattle.swift_explorer.proofs.Ended.{push_at}
 
 at_front : {A : Type 0} (xs ys : List A) (i : ℕ) (x : A) → slice_get xs i ≡ Some x → slice_get (xs ++ ys) i ≡ Some x

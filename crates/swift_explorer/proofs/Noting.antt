@@ -1,26 +1,6 @@
 -- An outcome or a broken turn is noted.
-use Rattle.std.proofs.Common.{◌≡◌, ◌⊎◌, ℕ, ℤ, true, false, List, [], ◌∷◌, ◌++◌, Vec, get_or, map, refl, sym, subst, ap, ◌∙◌, inl, inr}
-use Rattle.std.specs.Prelude.{All, Err, IfSome, None, Ok, OnOk, Option, Result, is_some, Contains}
-use Rattle.std.specs.List.{list_any}
-use Rattle.std.specs.Str.{bytes_eq}
-use Rattle.std.specs.declared.alloc.Global.{Global}
-use Rattle.std.proofs.lemmas.Bool.{false≢true}
-use Rattle.std.proofs.lemmas.List.Elements.{Contains-append_left, Contains-get_or, Contains-push, Contains-push_cases}
+use Rattle.swift_explorer.proofs.Prelude.{◌≡◌, ◌⊎◌, ℕ, ℤ, true, false, List, [], ◌∷◌, ◌++◌, Vec, get_or, map, refl, sym, subst, ap, ◌∙◌, inl, inr, All, Err, IfSome, None, Ok, OnOk, Option, Result, is_some, Contains, list_any, bytes_eq, Global, false≢true, Contains-append_left, Contains-get_or, Contains-push, Contains-push_cases, rows_of, Origin, Ending, ScriptView, ReportView, Move, RunOutcome, Search, all_packed, fields_numbers, list_numbers, Differ, EachOnce, IsBrokenAfter, IsOutcomeOf, Tells, end_numbers, outcome_bytes, AreKeyed, HasGrown, IsNoted, IsSound}
 use Rattle.std.proofs.lemmas.List.Quantifiers.{all_pairs_push}
-use Rattle.script_code.specs.Seen.{rows_of}
-use Rattle.swift_events.specs.declared.life.Origin.{Origin}
-use Rattle.swift_types.specs.declared.outcome.Ending.{Ending}
-use Rattle.swift_script.specs.Scripts.{ScriptView}
-use Rattle.swift_history.specs.Histories.{ReportView}
-use Rattle.swift_explorer.specs.declared.moves.Move.{Move}
-use Rattle.swift_explorer.specs.declared.outcome.RunOutcome.{RunOutcome}
-use Rattle.swift_explorer.specs.declared.search.Search.{Search}
-use Rattle.swift_explorer.specs.Bytes.{all_packed}
-use Rattle.swift_explorer.specs.FrameNumbers.{fields_numbers}
-use Rattle.swift_explorer.specs.Numbers.{list_numbers}
-use Rattle.swift_explorer.specs.Outcomes.{Differ, EachOnce, IsBrokenAfter, IsOutcomeOf, Tells}
-use Rattle.swift_explorer.specs.KeysInside.{end_numbers, outcome_bytes}
-use Rattle.swift_explorer.specs.SearchInside.{AreKeyed, HasGrown, IsNoted, IsSound}
 use Rattle.swift_explorer.proofs.Alike.{outcome_read}
 use Rattle.swift_explorer.proofs.KeySets.{among_there, there_among}
 

@@ -1,24 +1,5 @@
 -- Steps that are in order.
-use Rattle.std.proofs.Common.{◌≡◌, ◌≢◌, ◌⊎◌, ◌<◌, ◌≤◌, true, false, ℕ, zero, suc, List, [], ◌∷◌, length, refl, sym, subst, ap, ◌∙◌, arith}
-use Rattle.std.specs.Prelude.{Option, None, Some}
-use Rattle.std.specs.Option.{option_map}
-use Rattle.std.specs.Arc.{arc_value}
-use Rattle.std.proofs.lemmas.Option.{none-some}
-use Rattle.swift_types.specs.declared.env.Env.{Env}
-use Rattle.swift_script.specs.Scripts.{ScriptView, root_count}
-use Rattle.swift_events.specs.declared.event.Event.{Event}
-use Rattle.swift_events.specs.declared.life.JobStage.{JobStage}
-use Rattle.swift_events.specs.declared.life.JobStage.TheVariants.{Given, Begun, Applied, Waits, Asks, Closes}
-use Rattle.swift_events.specs.Lives.{life_of}
-use Rattle.swift_history.specs.Checks.{is_begun}
-use Rattle.swift_history.specs.Histories.{Block, added, begun}
-use Rattle.swift_history.specs.TurnEnds.{JobFacts}
-use Rattle.swift_course.specs.Course.{standing}
-use Rattle.swift_history.specs.Orderly.{IsOrderly, job_executor}
-use Rattle.swift_steps.specs.declared.next_turn.NextTurn.{NextTurn}
-use Rattle.swift_explorer.specs.declared.history.SearchedHistory.{SearchedHistory}
-use Rattle.swift_steps.specs.NextTurns.{AreGiven, given_at, given_view, seat_if, seat_of}
-use Rattle.swift_explorer.specs.HistoryInside.{AreThere, IsHistory, MayBegin}
+use Rattle.swift_explorer.proofs.Prelude.{◌≡◌, ◌≢◌, ◌⊎◌, ◌<◌, ◌≤◌, true, false, ℕ, zero, suc, List, [], ◌∷◌, length, refl, sym, subst, ap, ◌∙◌, arith, Option, None, Some, option_map, arc_value, none-some, Env, ScriptView, root_count, Event, JobStage, Given, Begun, Applied, Waits, Asks, Closes, life_of, is_begun, Block, added, begun, JobFacts, standing, IsOrderly, job_executor, NextTurn, SearchedHistory, AreGiven, given_at, given_view, seat_if, seat_of, AreThere, IsHistory, MayBegin}
 
 seat_by : (script : ScriptView) (u : ℕ) (o : Option NextTurn) → seat_if script o ≡ job_executor script (option_map (given_view u) o)
 seat_by script u None = refl

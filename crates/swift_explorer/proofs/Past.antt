@@ -1,16 +1,5 @@
 -- Events that change no card of a task, or of a group.
-use Rattle.std.proofs.Common.{◌≡◌, ℕ, ◌+◌, ℤ, Bool, true, false, List, [], ◌++◌, refl, sym, ◌∙◌, ap, append-nil, add-zero, if◌then◌else◌}
-use Rattle.std.specs.Prelude.{◌==◌, ◌||◌, Option, Some, None}
-use Rattle.std.proofs.lemmas.Bool.{ne_eqb}
-use Rattle.std.specs.List.{cons_option}
-use Rattle.swift_events.specs.declared.event.Event.{Event}
-use Rattle.swift_events.specs.declared.event.Event.TheVariants.{Root, Begin, Apply, Free, Open, Child, Skip, CancelTask, CancelGroup, Wait, Next, Close, End, Give}
-use Rattle.swift_events.specs.Events.{task_of}
-use Rattle.swift_events.specs.Relations.{link_in}
-use Rattle.swift_digest.specs.Digests.{one_if}
-use Rattle.swift_explorer.specs.Numbers.{some_numbers}
-use Rattle.swift_explorer.specs.DigestNumbers.{other_of}
-use Rattle.swift_explorer.specs.CardsInside.{IsPast}
+use Rattle.swift_explorer.proofs.Prelude.{◌≡◌, ℕ, ◌+◌, ℤ, Bool, true, false, List, [], ◌++◌, refl, sym, ◌∙◌, ap, append-nil, add-zero, if◌then◌else◌, ◌==◌, ◌||◌, Option, Some, None, ne_eqb, cons_option, Event, Root, Begin, Apply, Free, Open, Child, Skip, CancelTask, CancelGroup, Wait, Next, Close, End, Give, task_of, link_in, one_if, some_numbers, other_of, IsPast}
 
 pub unequal : (a b : ℕ) → (a ≡ b → ⊥) → (a == b) ≡ false
 unequal a b ne = ne_eqb a b ne

@@ -1,17 +1,5 @@
 -- Steps that were followed one after another.
-use Rattle.std.proofs.Common.{◌≡◌, ℕ, List, [], ◌∷◌, ◌++◌, refl, sym, subst, ap, ◌∙◌}
-use Rattle.std.specs.Prelude.{Result, Ok, Err, IfOk}
-use Rattle.std.specs.declared.alloc.AllocError.{AllocError}
-use Rattle.std.specs.Arc.{arc_value}
-use Rattle.swift_script.specs.Scripts.{ScriptView}
-use Rattle.swift_history.specs.Histories.{Block}
-use Rattle.swift_explorer.specs.declared.moves.Move.{Move}
-use Rattle.swift_explorer.specs.declared.history.SearchedHistory.{SearchedHistory}
-use Rattle.swift_explorer.specs.Steps.{AreSteps, IsStep, roots_after, roots_over}
-use Rattle.swift_explorer.specs.declared.history.Followed.{Followed}
-use Rattle.swift_explorer.specs.declared.history.Followed.TheVariants.{Broken, No, Yes}
-use Rattle.swift_explorer.specs.Outcomes.{IsBrokenAfter}
-use Rattle.swift_explorer.specs.HistoryInside.{GoesOn, IsHistory, IsPath, IsSomeHistory, WasDone}
+use Rattle.swift_explorer.proofs.Prelude.{◌≡◌, ℕ, List, [], ◌∷◌, ◌++◌, refl, sym, subst, ap, ◌∙◌, Result, Ok, Err, IfOk, AllocError, arc_value, ScriptView, Block, Move, SearchedHistory, AreSteps, IsStep, roots_after, roots_over, Followed, Broken, No, Yes, IsBrokenAfter, GoesOn, IsHistory, IsPath, IsSomeHistory, WasDone}
 
 pub steps_push : (ms : List Move) (n : ℕ) (bs : List Block) (m : Move) (b : Block) → AreSteps n ms bs → IsStep (roots_over n ms) m b → AreSteps n (ms ++ m ∷ []) (bs ++ b ∷ [])
 steps_push [] n [] m b done is = (is, tt)

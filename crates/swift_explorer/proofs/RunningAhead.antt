@@ -1,54 +1,15 @@
 -- Silent turns run ahead of a history that is followed.
-use Rattle.std.proofs.Common.{◌≡◌, ℕ, ℤ, List, [], ◌∷◌, ◌++◌, append_assoc, append-nil, refl, sym, subst, ap, ◌∙◌, true, false}
-use Rattle.std.specs.Prelude.{Option, Some, None}
-use Rattle.std.specs.Arc.{arc_value}
-use Rattle.std.proofs.lemmas.Option.{same_Some}
-use Rattle.std.proofs.lemmas.Bool.{false≢true}
-use Rattle.swift_types.specs.declared.env.Env.{Env}
-use Rattle.swift_types.specs.declared.id.TaskId.{TaskId}
-use Rattle.swift_types.specs.declared.outcome.Resume.{Resume}
-use Rattle.swift_script.specs.Scripts.{ScriptView, actor_executor, executor_invariants, method_actor}
-use Rattle.swift_interpreter.specs.Frames.{FrameView}
-use Rattle.swift_interpreter.specs.Turn.{Played, all_hold}
-use Rattle.swift_events.specs.declared.event.Event.TheVariants.{Begin}
-use Rattle.swift_events.specs.declared.life.JobStage.{JobStage}
-use Rattle.swift_events.specs.declared.life.JobStage.TheVariants.{Given, Begun, Applied, Waits, Asks, Closes}
-use Rattle.swift_events.specs.declared.life.Life.{Life}
-use Rattle.swift_events.specs.Lives.{life_of}
+use Rattle.swift_explorer.proofs.Prelude.{◌≡◌, ℕ, ℤ, List, [], ◌∷◌, ◌++◌, append_assoc, append-nil, refl, sym, subst, ap, ◌∙◌, true, false, Option, Some, None, arc_value, same_Some, false≢true, Env, TaskId, Resume, ScriptView, actor_executor, executor_invariants, method_actor, FrameView, Played, all_hold, Begin, JobStage, Given, Begun, Applied, Waits, Asks, Closes, Life, life_of, CheckpointView, RecordView, IfRunning, invariants_at, kept_turn, is_begun, is_under_way, JobFacts, task, Block, Standing, Stands, added, begun, folded, ran, at_first, after_block, fields_of, IsOrderly, standing, starts, fields_push, OneTurn, after_turn, after_turns, frame_is_silent, run_more, turns_more, Silent, frames_are, Move, NextTurn, SearchedHistory, Followed, AllWhole, AreTurns, GoesAlone, GoesOnAtOnce, IsAsBefore, IsNotLost, IsQuietAt, RanAhead, RanTurn, RunsAhead, RunsTurn, StartsHold, TurnGoesOn, any_env, given_at, given_view, RunsAt, GoesOn, IsHistory, IsPath, IsSomeHistory, IsFollowedAhead, IsFollowedBy, AreSteps, BreaksInvariant, IsStep, roots_over}
 use Rattle.swift_events.proofs.LogLemmas.{life_of-push_same}
-use Rattle.swift_journal.specs.Checkpoints.{CheckpointView}
-use Rattle.swift_journal.specs.Records.{RecordView}
-use Rattle.swift_turn.specs.Body.{IfRunning, invariants_at, kept_turn}
-use Rattle.swift_history.specs.Checks.{is_begun, is_under_way}
-use Rattle.swift_history.specs.TurnEnds.{JobFacts, task}
-use Rattle.swift_history.specs.Histories.{Block, Standing, Stands, added, begun, folded, ran, at_first, after_block, fields_of}
-use Rattle.swift_history.specs.Orderly.{IsOrderly}
 use Rattle.swift_laws.proofs.HistoriesCounted.{HasNumber}
 use Rattle.swift_laws.proofs.HistoriesTurns.{after_push, current_is}
-use Rattle.swift_course.specs.Course.{standing, starts}
-use Rattle.swift_digest.proofs.SameStands.{fields_push}
-use Rattle.swift_reordering.specs.RunAhead.{OneTurn, after_turn, after_turns}
-use Rattle.swift_reordering.specs.Silent.{frame_is_silent}
 use Rattle.swift_reordering.proofs.Apart.{all_plain, always_apart, apart_first}
 use Rattle.swift_reordering.proofs.Bringing.{number_one}
 use Rattle.swift_reordering.proofs.Holding.{hold_always}
-use Rattle.swift_reordering.proofs.RunAhead.{run_more, turns_more}
 use Rattle.swift_reordering.proofs.SilentPlay.{silent_turn}
-use Rattle.swift_explorer.specs.declared.marks.MarkKind.TheVariants.{Silent}
-use Rattle.swift_explorer.specs.MarksInside.{frames_are}
 use Rattle.swift_explorer.specs.declared.ahead.TurnAhead.{TurnAhead}
 use Rattle.swift_explorer.specs.declared.ahead.TurnAhead.TheVariants.{Lost, Ran, Stays}
-use Rattle.swift_explorer.specs.declared.moves.Move.{Move}
 use Rattle.swift_explorer.specs.declared.moves.Move.TheVariants as step
-use Rattle.swift_steps.specs.declared.next_turn.NextTurn.{NextTurn}
-use Rattle.swift_explorer.specs.declared.history.SearchedHistory.{SearchedHistory}
-use Rattle.swift_explorer.specs.declared.history.Followed.{Followed}
-use Rattle.swift_explorer.specs.AheadInside.{AllWhole, AreTurns, GoesAlone, GoesOnAtOnce, IsAsBefore, IsNotLost, IsQuietAt, RanAhead, RanTurn, RunsAhead, RunsTurn, StartsHold, TurnGoesOn, any_env}
-use Rattle.swift_steps.specs.NextTurns.{given_at, given_view}
-use Rattle.swift_steps.specs.OpenHistories.{RunsAt}
-use Rattle.swift_explorer.specs.HistoryInside.{GoesOn, IsHistory, IsPath, IsSomeHistory}
-use Rattle.swift_explorer.specs.SearchInside.{IsFollowedAhead, IsFollowedBy}
-use Rattle.swift_explorer.specs.Steps.{AreSteps, BreaksInvariant, IsStep, roots_over}
 use Rattle.swift_explorer.proofs.LooksAway.{looks_there}
 use Rattle.swift_explorer.proofs.First.{mapped}
 use Rattle.swift_explorer.proofs.Paths.{roots_push, steps_push}

@@ -1,29 +1,8 @@
 -- The same steps after one history lead alike.
-use Rattle.std.proofs.Common.{◌≡◌, ◌<◌, ℕ, true, List, [], ◌∷◌, ◌++◌, append_assoc, append-nil, refl, sym, subst, subst₂, ap, ap₂, ◌∙◌, arith, inl, inr}
-use Rattle.std.specs.Prelude.{Option, Some, None, is_some}
-use Rattle.std.proofs.lemmas.Bool.{eqb-true, false≢true}
-use Rattle.swift_types.specs.declared.env.Env.{Env}
-use Rattle.swift_types.specs.declared.id.TaskId.{TaskId}
-use Rattle.swift_types.specs.declared.outcome.Resume.{Resume}
-use Rattle.swift_script.specs.Scripts.{ScriptView, root_count}
-use Rattle.swift_events.specs.declared.event.Event.{Event}
-use Rattle.swift_events.specs.declared.life.LastJob.{LastJob}
-use Rattle.swift_events.specs.Lives.{life_of}
-use Rattle.swift_journal.specs.Records.{RecordView}
-use Rattle.swift_history.specs.Checks.{was_given}
-use Rattle.swift_history.specs.Histories.{AllStand, Block, Stands, added, begun, folded, ran}
-use Rattle.swift_history.specs.TurnEnds.{task}
-use Rattle.swift_course.specs.Course.{standing, starts}
-use Rattle.swift_history.specs.Orderly.{AllAllowed, IsOrderly}
-use Rattle.swift_digest.specs.Futures.{IsLike, LeadAlike}
+use Rattle.swift_explorer.proofs.Prelude.{◌≡◌, ◌<◌, ℕ, true, List, [], ◌∷◌, ◌++◌, append_assoc, append-nil, refl, sym, subst, subst₂, ap, ap₂, ◌∙◌, arith, inl, inr, Option, Some, None, is_some, eqb-true, false≢true, Env, TaskId, Resume, ScriptView, root_count, Event, LastJob, life_of, RecordView, was_given, AllStand, Block, Stands, added, begun, folded, ran, task, standing, starts, AllAllowed, IsOrderly, IsLike, LeadAlike, lead_on, orderly_too, all_push, block_stands, lead_push, Move, AreSteps, BreaksInvariant, IsBroken, IsStep, roots_after, AreThere, IsMoveOf}
 use Rattle.swift_digest.proofs.Determined.{determined, determined_exit}
 use Rattle.swift_digest.proofs.Lines.{one_env}
-use Rattle.swift_digest.proofs.Outcomes.{lead_on, orderly_too}
-use Rattle.swift_digest.proofs.SameStands.{all_push, block_stands, lead_push}
-use Rattle.swift_explorer.specs.declared.moves.Move.{Move}
 use Rattle.swift_explorer.specs.declared.moves.Move.TheVariants as step
-use Rattle.swift_explorer.specs.Steps.{AreSteps, BreaksInvariant, IsBroken, IsStep, roots_after}
-use Rattle.swift_explorer.specs.HistoryInside.{AreThere, IsMoveOf}
 use Rattle.swift_steps.proofs.Led.{first_of_both}
 use Rattle.swift_explorer.proofs.Orderly.{before_or_past}
 

@@ -1,12 +1,5 @@
 -- A search sees more.
-use Rattle.std.proofs.Common.{◌≡◌, ◌∙◌, ℕ, List, refl, sym, subst, ap}
-use Rattle.std.specs.Prelude.{All, Contains}
-use Rattle.std.specs.Arc.{arc_value}
-use Rattle.swift_script.specs.Scripts.{ScriptView}
-use Rattle.swift_explorer.specs.declared.outcome.RunOutcome.{RunOutcome}
-use Rattle.swift_explorer.specs.declared.search.Search.{Search}
-use Rattle.swift_explorer.specs.Outcomes.{EachOnce, IsOutcomeOf}
-use Rattle.swift_explorer.specs.SearchInside.{AreKeyed, HasGoneOn, HasSeen, IsNoted, IsSound}
+use Rattle.swift_explorer.proofs.Prelude.{◌≡◌, ◌∙◌, ℕ, List, refl, sym, subst, ap, All, Contains, arc_value, ScriptView, RunOutcome, Search, EachOnce, IsOutcomeOf, AreKeyed, HasGoneOn, HasSeen, IsNoted, IsSound}
 use Rattle.swift_explorer.proofs.Growing.{gone_still, grown_none, grown_on}
 use Rattle.swift_explorer.proofs.Noting.{sound_noted}
 

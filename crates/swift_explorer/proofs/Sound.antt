@@ -1,21 +1,6 @@
 -- What a search has found stays so.
-use Rattle.std.proofs.Common.{◌≡◌, ℕ, List, [], ◌∷◌, ◌++◌, Vec, length, sym, subst, ap, ◌∙◌, arith}
-use Rattle.std.specs.Prelude.{All, Contains, IfSome, IsTrue, None, Option, nat_eq, slice_get}
+use Rattle.swift_explorer.proofs.Prelude.{◌≡◌, ℕ, List, [], ◌∷◌, ◌++◌, Vec, length, sym, subst, ap, ◌∙◌, arith, All, Contains, IfSome, IsTrue, None, Option, nat_eq, slice_get, arc_value, Global, All-nil, All-push, none-some, Move, KeptHistory, Node, Search, StartsHold, AreTold, HaveSilentMarks, IsSound, ScriptView, RunOutcome, EachOnce, IsBrokenAfter, IsOutcomeOf}
 use Rattle.std.specs.Map.{lookup}
-use Rattle.std.specs.Arc.{arc_value}
-use Rattle.std.specs.declared.alloc.Global.{Global}
-use Rattle.std.proofs.lemmas.List.Elements.{All-nil, All-push}
-use Rattle.std.proofs.lemmas.Option.{none-some}
-use Rattle.swift_explorer.specs.declared.moves.Move.{Move}
-use Rattle.swift_explorer.specs.declared.queue.KeptHistory.{KeptHistory}
-use Rattle.swift_explorer.specs.declared.search.Node.{Node}
-use Rattle.swift_explorer.specs.declared.search.Search.{Search}
-use Rattle.swift_explorer.specs.AheadInside.{StartsHold}
-use Rattle.swift_explorer.specs.MarksInside.{AreTold, HaveSilentMarks}
-use Rattle.swift_explorer.specs.SearchInside.{IsSound}
-use Rattle.swift_script.specs.Scripts.{ScriptView}
-use Rattle.swift_explorer.specs.declared.outcome.RunOutcome.{RunOutcome}
-use Rattle.swift_explorer.specs.Outcomes.{EachOnce, IsBrokenAfter, IsOutcomeOf}
 
 pub listed_push : (script : ScriptView) (os ps : List RunOutcome) (o : RunOutcome) → ps ≡ os ++ o ∷ [] → All (IsOutcomeOf script) os → IsOutcomeOf script o → All (IsOutcomeOf script) ps
 listed_push script os ps o more all is = subst (All (IsOutcomeOf script)) (sym more) (All-push (IsOutcomeOf script) os o all is)

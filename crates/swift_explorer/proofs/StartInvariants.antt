@@ -1,19 +1,8 @@
 -- Each invariant of an executor's actors holds at the start.
-use Rattle.std.proofs.Common.{◌≡◌, ℕ, ℤ, suc, ◌<◌, ◌≤◌, ◌∙◌, Option, Some, None, List, [], ◌∷◌, true, false, subst, refl, ap, arith, inl, inr}
-use Rattle.std.specs.Prelude.{IsTrue, Contains, if◌then◌else◌, slice_get, unwrap_or}
-use Rattle.std.proofs.lemmas.Option.{slice_get_cases}
-use Rattle.script_code.specs.Tree.{Term}
+use Rattle.swift_explorer.proofs.Prelude.{◌≡◌, ℕ, ℤ, suc, ◌<◌, ◌≤◌, ◌∙◌, Option, Some, None, List, [], ◌∷◌, true, false, subst, refl, ap, arith, inl, inr, IsTrue, Contains, if◌then◌else◌, slice_get, unwrap_or, slice_get_cases, Term, ActorView, plan_in, invariant_if, ExecutorView, invariants_among, members_if, CheckpointView, all_hold, checkpoint_at, no_checkpoint, start_of, starts, many_starts, StartsHold, ScriptView, executor_count, no_actor, actor_count, actor_executor, actor_invariant, executor_invariants, executor_start}
 use Rattle.script_code.specs.Value.{holds}
-use Rattle.script_compiler.specs.Compiled.{ActorView, plan_in, invariant_if}
-use Rattle.script_compiler.specs.Compiled.{ExecutorView, invariants_among, members_if}
-use Rattle.swift_journal.specs.Checkpoints.{CheckpointView}
-use Rattle.swift_interpreter.specs.Turn.{all_hold}
-use Rattle.swift_history.specs.Histories.{checkpoint_at, no_checkpoint}
-use Rattle.swift_course.specs.Course.{start_of, starts}
-use Rattle.swift_course.proofs.Starts.{many_starts}
-use Rattle.swift_explorer.specs.AheadInside.{StartsHold}
 use Rattle.swift_explorer.proofs.Ended.{starts_at}
-use Rattle.swift_script.specs.Scripts.{ScriptView, executor_count, parts_of, no_actor, actor_count, actor_executor, actor_invariant, executor_invariants, executor_start}
+use Rattle.swift_script.specs.Scripts.{parts_of}
 use Rattle.swift_explorer.proofs.InvariantsOfActors.{of_actor}
 
 -- each actor's invariant holds at the start

@@ -1,10 +1,7 @@
 -- One more turn of a loop that writes numbers.
-use Rattle.std.proofs.Common.{◌≡◌, ℕ, ◌+◌, ◌<◌, ◌≤◌, ℤ, List, [], ◌∷◌, ◌++◌, length, map, reverse, take, get_or, refl, sym, ◌∙◌, ap, add-one, append_assoc, append-nil}
-use Rattle.std.specs.Prelude.{pos}
-use Rattle.std.proofs.lemmas.List.{take_more, take_all, map-append, reverse-append, reverse-reverse}
-use Rattle.script_code.specs.Seen.{pair_of, pairs_of}
+use Rattle.swift_explorer.proofs.Prelude.{◌≡◌, ℕ, ◌+◌, ◌<◌, ◌≤◌, ℤ, List, [], ◌∷◌, ◌++◌, length, map, reverse, take, get_or, refl, sym, ◌∙◌, ap, add-one, append_assoc, append-nil, pos, take_more, map-append, reverse-append, reverse-reverse, pair_of, pairs_of, some_numbers, list_numbers, each_numbers}
+use Rattle.std.proofs.lemmas.List.{take_all}
 use Rattle.script_code.specs.declared.sight.Binding.{Binding}
-use Rattle.swift_explorer.specs.Numbers.{some_numbers, list_numbers, each_numbers}
 
 pub some-append : {A : Type 0} (f : A → List ℤ) (xs ys : List A) → some_numbers f (xs ++ ys) ≡ some_numbers f xs ++ some_numbers f ys
 some-append f [] ys = refl

@@ -1,13 +1,5 @@
 -- Texts of what was found.
-use Rattle.std.proofs.Common.{◌≡◌, ℕ, ℤ, zero, suc, ◌+◌, Vec, List, [], ◌∷◌, ◌++◌, map, refl, sym, ap, ◌∙◌}
-use Rattle.std.specs.Prelude.{◌==◌, if◌then◌else◌, Option, Some, None, Result, Ok, Err, OnOk, codes, is_ok, slice_get}
-use Rattle.std.specs.Option.{option_map}
-use Rattle.std.specs.declared.alloc.Global.{Global}
-use Rattle.std.proofs.lemmas.Option.{slice_get-map}
-use Rattle.script_code.specs.Seen.{rows_of}
-use Rattle.swift_events.specs.declared.life.Origin.{Origin}
-use Rattle.swift_types.specs.declared.outcome.Ending.{Ending}
-use Rattle.swift_script.specs.Scripts.{ScriptView, actor_count, actor_executor, executor_actors}
+use Rattle.swift_explorer.proofs.Prelude.{◌≡◌, ℕ, ℤ, zero, suc, ◌+◌, Vec, List, [], ◌∷◌, ◌++◌, map, refl, sym, ap, ◌∙◌, ◌==◌, if◌then◌else◌, Option, Some, None, Result, Ok, Err, OnOk, codes, is_ok, slice_get, option_map, Global, slice_get-map, rows_of, Origin, Ending, ScriptView, actor_count, actor_executor, executor_actors}
 use Rattle.swift_report.specs.Text.{fields_text, row_among, row_in, row_of, tasks_text, values_text}
 
 -- a last piece, which is this one

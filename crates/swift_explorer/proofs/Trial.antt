@@ -1,29 +1,6 @@
 -- A turn is tried, and its task has what it had before.
-use Rattle.std.proofs.Common.{◌≡◌, ℕ, ℤ, List, [], ◌∷◌, ◌++◌, Vec, refl, sym, subst, ap, ap₂, ◌∙◌, inl, inr}
-use Rattle.std.specs.Prelude.{◌⊎◌, Option, Some, None, if◌then◌else◌}
-use Rattle.std.specs.Option.{option_map}
-use Rattle.std.specs.declared.alloc.Global.{Global}
-use Rattle.std.proofs.lemmas.Bool.{cases_eq, false≢true}
-use Rattle.swift_types.specs.declared.env.Env.{Env}
-use Rattle.swift_types.specs.declared.outcome.Fault.{Fault}
-use Rattle.swift_types.specs.declared.outcome.Resume.{Resume}
-use Rattle.swift_script.specs.Scripts.{ScriptView}
-use Rattle.swift_interpreter.specs.Frames.{FrameView}
-use Rattle.swift_interpreter.specs.Turn.{EffectView, ExitView, Played, failing, returning}
+use Rattle.swift_explorer.proofs.Prelude.{◌≡◌, ℕ, ℤ, List, [], ◌∷◌, ◌++◌, Vec, refl, sym, subst, ap, ap₂, ◌∙◌, inl, inr, ◌⊎◌, Option, Some, None, if◌then◌else◌, option_map, Global, cases_eq, false≢true, Env, Fault, Resume, ScriptView, FrameView, EffectView, ExitView, Played, failing, returning, Advanced, AdvancesTo, HasFrames, IfRunning, Polls, TaskView, callers_of, entered, left, JobFacts, IsUnnamed, NextTurn, SearchedHistory, arc_value, Move, Followed, GoesOnAtOnce, IsAsBefore, TurnGoesOn, any_env, AreGiven, IsReadyOf, given_at, given_view, with_given, GoesOn, IsHistory, IsSomeHistory, BreaksInvariant, equal, of_put, of_taken, unequal}
 use Rattle.swift_turn.specs.declared.step.Step.{Step}
-use Rattle.swift_turn.specs.Body.{Advanced, AdvancesTo, HasFrames, IfRunning, Polls, TaskView, callers_of, entered, left}
-use Rattle.swift_history.specs.TurnEnds.{JobFacts}
-use Rattle.swift_reordering.specs.Unnamed.{IsUnnamed}
-use Rattle.swift_steps.specs.declared.next_turn.NextTurn.{NextTurn}
-use Rattle.swift_explorer.specs.declared.history.SearchedHistory.{SearchedHistory}
-use Rattle.std.specs.Arc.{arc_value}
-use Rattle.swift_explorer.specs.declared.moves.Move.{Move}
-use Rattle.swift_explorer.specs.declared.history.Followed.{Followed}
-use Rattle.swift_explorer.specs.AheadInside.{GoesOnAtOnce, IsAsBefore, TurnGoesOn, any_env}
-use Rattle.swift_steps.specs.NextTurns.{AreGiven, IsReadyOf, given_at, given_view, with_given}
-use Rattle.swift_explorer.specs.HistoryInside.{GoesOn, IsHistory, IsSomeHistory}
-use Rattle.swift_explorer.specs.Steps.{BreaksInvariant}
-use Rattle.swift_steps.proofs.Given.{equal, of_put, of_taken, unequal}
 
 given_near : (seen : ℕ → Option JobFacts) (tasks between tasks' : List (Option NextTurn)) (t : ℕ) (g k : NextTurn) → given_at tasks t ≡ Some g → ((u : ℕ) → given_at between u ≡ with_given t None (given_at tasks) u)
     → ((u : ℕ) → given_at tasks' u ≡ with_given t (Some k) (given_at between) u) → given_view t g ≡ given_view t k → AreGiven seen tasks → AreGiven seen tasks'

@@ -1,40 +1,8 @@
 -- A step is tried after others.
-use Rattle.std.proofs.Common.{◌≡◌, ◌⊎◌, ◌↔◌, ◌<◌, ◌≤◌, ◌+◌, ◌*◌, ◌∙◌, ℕ, List, [], ◌∷◌, ◌++◌, append_assoc, append-nil, sym, subst, ap, arith, inl, inr}
-use Rattle.std.specs.Prelude.{All, IsTrue, None}
-use Rattle.std.proofs.lemmas.Bool.{false≢true}
-use Rattle.std.specs.Arc.{arc_value}
-use Rattle.std.proofs.lemmas.List.Elements.{All-contains}
+use Rattle.swift_explorer.proofs.Prelude.{◌≡◌, ◌⊎◌, ◌↔◌, ◌<◌, ◌≤◌, ◌+◌, ◌*◌, ◌∙◌, ℕ, List, [], ◌∷◌, ◌++◌, append_assoc, append-nil, sym, subst, ap, arith, inl, inr, All, IsTrue, None, false≢true, arc_value, All-contains, ScriptView, executor_count, root_count, Event, tasks_of, CheckpointView, AllStand, Block, ReportView, Stands, added, begun, folded, ran, standing, starts, IsNotFolded, AllAllowed, IsOrderly, LeadAlike, lead_on, orderly_too, outcome_too, unfolded_too, all_push, block_stands, OneTurn, after_turns, LeadAsOne, same_away, AllEndAs, same_back, same_on, same_push, turns_too, Move, One, Turn, SearchedHistory, Followed, Yes, Ahead, Search, IfReached, IsOutcomeOf, HasEachStep, IsChosen, IsRoomy, AllWhole, BreaksInvariant, IsBroken, GoesOn, IsHistory, IsMoveOf, IsPath, HasEnd, IsKnownEnd, IsReportAfter, GoesFrom, HasLike, HasLikeAhead, IsAhead, IsExpanded, IsFollowedAhead, IsFollowedBy, LeadsTo, MayFollow, StepWasTried, TurnWasTried, WasTried, WasTriedLast, path_after, paths_of}
 use Rattle.swift_types.specs.declared.limits.TheConstants.{TASKS, MADE}
-use Rattle.swift_script.specs.Scripts.{ScriptView, executor_count, root_count}
-use Rattle.swift_events.specs.declared.event.Event.{Event}
-use Rattle.swift_events.specs.Events.{tasks_of}
-use Rattle.swift_journal.specs.Checkpoints.{CheckpointView}
-use Rattle.swift_history.specs.Histories.{AllStand, Block, ReportView, Stands, added, begun, folded, ran}
-use Rattle.swift_course.specs.Course.{standing, starts}
-use Rattle.swift_digest.specs.Explored.{IsNotFolded}
-use Rattle.swift_history.specs.Orderly.{AllAllowed, IsOrderly}
-use Rattle.swift_digest.specs.Futures.{LeadAlike}
-use Rattle.swift_digest.proofs.Outcomes.{lead_on, orderly_too, outcome_too, unfolded_too}
 use Rattle.swift_digest.proofs.SameLogs.{same_tasks}
-use Rattle.swift_digest.proofs.SameStands.{all_push, block_stands}
-use Rattle.swift_reordering.specs.RunAhead.{OneTurn, after_turns, LeadAsOne}
-use Rattle.swift_reordering.proofs.Closed.{same_away}
-use Rattle.swift_reordering.proofs.RunAhead.{AllEndAs, same_back, same_on, same_push, turns_too}
-use Rattle.swift_explorer.specs.declared.moves.Move.{Move}
 use Rattle.swift_explorer.specs.declared.moves.Move.TheVariants as step
-use Rattle.swift_explorer.specs.declared.fused.Step.TheVariants.{One, Turn}
-use Rattle.swift_explorer.specs.declared.history.SearchedHistory.{SearchedHistory}
-use Rattle.swift_explorer.specs.declared.history.Followed.{Followed}
-use Rattle.swift_explorer.specs.declared.history.Followed.TheVariants.{Yes}
-use Rattle.swift_explorer.specs.declared.search.Ahead.{Ahead}
-use Rattle.swift_explorer.specs.declared.search.Search.{Search}
-use Rattle.swift_explorer.specs.Outcomes.{IfReached, IsOutcomeOf}
-use Rattle.swift_explorer.specs.FusedInside.{HasEachStep, IsChosen, IsRoomy}
-use Rattle.swift_explorer.specs.AheadInside.{AllWhole}
-use Rattle.swift_explorer.specs.Steps.{BreaksInvariant, IsBroken}
-use Rattle.swift_explorer.specs.HistoryInside.{GoesOn, IsHistory, IsMoveOf, IsPath}
-use Rattle.swift_explorer.specs.EndsInside.{HasEnd, IsKnownEnd, IsReportAfter}
-use Rattle.swift_explorer.specs.SearchInside.{GoesFrom, HasLike, HasLikeAhead, IsAhead, IsExpanded, IsFollowedAhead, IsFollowedBy, LeadsTo, MayFollow, StepWasTried, TurnWasTried, WasTried, WasTriedLast, path_after, paths_of}
 use Rattle.swift_explorer.proofs.Keeping.{path_leads}
 use Rattle.swift_explorer.proofs.Nodes.{path_on}
 use Rattle.swift_explorer.proofs.Orderly.{before_or_past}

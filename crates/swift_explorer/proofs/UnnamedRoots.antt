@@ -1,14 +1,5 @@
 -- What is read of roots that no line names.
-use Rattle.std.proofs.Common.{◌≡◌, ◌<◌, ◌≤◌, ℕ, ◌+◌, List, [], ◌∷◌, ◌++◌, length, get_or, take, sym, subst, ap, ◌∙◌, true, inl, inr, arith}
-use Rattle.std.specs.Prelude.{All, Option, unwrap_or}
-use Rattle.std.proofs.lemmas.Bool.{cases_eq, cases_lt}
-use Rattle.std.proofs.lemmas.List.{take_more}
-use Rattle.std.proofs.lemmas.List.Elements.{All-push}
-use Rattle.std.proofs.lemmas.Option.{slice_get_past}
-use Rattle.script_code.specs.declared.instruction.Instruction.{Instruction}
-use Rattle.swift_script.specs.Scripts.{ScriptView, method_code, method_count, no_method, parts_of, root_count}
-use Rattle.script_compiler.specs.Compiled.{MethodView}
-use Rattle.swift_reordering.specs.Unnamed.{IsUnnamed, code_spares, instruction_spares}
+use Rattle.swift_explorer.proofs.Prelude.{◌≡◌, ◌<◌, ◌≤◌, ℕ, ◌+◌, List, [], ◌∷◌, ◌++◌, length, get_or, take, sym, subst, ap, ◌∙◌, true, inl, inr, arith, All, Option, unwrap_or, cases_eq, cases_lt, take_more, All-push, slice_get_past, Instruction, ScriptView, method_code, method_count, no_method, parts_of, root_count, MethodView, IsUnnamed, code_spares, instruction_spares}
 
 pub spared_push : (t : ℕ) (xs : List Instruction) (i : ℕ) (x : Instruction) → i < length xs → x ≡ get_or xs i x → All (λ (line : Instruction). instruction_spares t line ≡ true) (take i xs) → instruction_spares t x ≡ true
     → All (λ (line : Instruction). instruction_spares t line ≡ true) (take (i + 1) xs)

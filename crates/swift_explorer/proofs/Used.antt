@@ -1,13 +1,5 @@
 -- Which executors have run a turn.
-use Rattle.std.proofs.Common.{◌≡◌, ℕ, ◌<◌, ◌≤◌, List, [], ◌∷◌, ◌++◌, length, set, get_or-set_same, get_or-set_other, length-set, sym, subst, ap, ◌∙◌, refl, Bool, true, false, inl, inr}
-use Rattle.std.specs.Prelude.{None, Some, if◌then◌else◌, slice_index_or}
-use Rattle.std.proofs.lemmas.Bool.{cases_eq}
-use Rattle.swift_script.specs.Scripts.{ScriptView, executor_count}
-use Rattle.swift_journal.specs.Records.{RecordView}
-use Rattle.swift_history.specs.Histories.{Block, ran, record_in, records_of}
-use Rattle.swift_course.proofs.Blocks.{filter_none, filter_some}
-use Rattle.swift_explorer.specs.HistoryInside.{has_records}
-use Rattle.swift_steps.proofs.Given.{equal, unequal}
+use Rattle.swift_explorer.proofs.Prelude.{◌≡◌, ℕ, ◌<◌, ◌≤◌, List, [], ◌∷◌, ◌++◌, length, set, get_or-set_same, get_or-set_other, length-set, sym, subst, ap, ◌∙◌, refl, Bool, true, false, inl, inr, None, Some, if◌then◌else◌, slice_index_or, cases_eq, ScriptView, executor_count, RecordView, Block, ran, record_in, records_of, filter_none, filter_some, has_records, equal, unequal}
 
 abbrev pub AreUsed : List Bool → List Block → Type 0
 AreUsed used blocks = (e : ℕ) → slice_index_or used e false ≡ has_records (records_of e blocks)

@@ -1,12 +1,5 @@
 -- Past the tasks and groups that a log names all cards are blank.
-use Rattle.std.proofs.Common.{◌≡◌, ℕ, ◌<◌, ◌≤◌, Bool, true, false, refl, ◌∙◌, ap, arith}
-use Rattle.std.specs.Prelude.{◌==◌, ◌&&◌}
-use Rattle.std.proofs.lemmas.Bool.{ne_eqb}
-use Rattle.swift_events.specs.declared.event.Event.{Event}
-use Rattle.swift_events.specs.declared.event.Event.TheVariants.{Root, Begin, Apply, Free, Open, Child, Skip, CancelTask, CancelGroup, Wait, Next, Close, End, Give}
-use Rattle.swift_events.specs.Events.{task_of}
-use Rattle.swift_digest.specs.Digests.{Card, GroupCard, Digest, no_card, no_group, no_digest, card_noted, group_noted, noted}
-use Rattle.swift_explorer.specs.DigestNumbers.{IsWithin, other_of, group_end}
+use Rattle.swift_explorer.proofs.Prelude.{◌≡◌, ℕ, ◌<◌, ◌≤◌, Bool, true, false, refl, ◌∙◌, ap, arith, ◌==◌, ◌&&◌, ne_eqb, Event, Root, Begin, Apply, Free, Open, Child, Skip, CancelTask, CancelGroup, Wait, Next, Close, End, Give, task_of, Card, GroupCard, Digest, no_card, no_group, no_digest, card_noted, group_noted, noted, IsWithin, other_of, group_end}
 
 -- an event that does not name a task leaves its card blank
 blank_card : (t : ℕ) (e : Event) → (task_of e ≡ t → ⊥) → (other_of e ≡ t → ⊥) → card_noted t no_card e ≡ no_card

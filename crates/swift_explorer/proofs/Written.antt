@@ -1,17 +1,7 @@
 -- What is written of a history that is followed.
-use Rattle.std.proofs.Common.{◌≡◌, ℕ, ◌<◌, ℤ, Bool, List, [], ◌∷◌, ◌++◌, length, map, reverse, sym, ◌∙◌, ap, arith, append_assoc}
-use Rattle.std.specs.Prelude.{Option, pos}
-use Rattle.std.proofs.lemmas.List.{map-append, reverse-append}
-use Rattle.swift_script.specs.Scripts.{ScriptView}
-use Rattle.swift_interpreter.specs.Frames.{FrameView}
-use Rattle.swift_interpreter.specs.Turn.{returning}
+use Rattle.swift_explorer.proofs.Prelude.{◌≡◌, ℕ, ◌<◌, ℤ, Bool, List, [], ◌∷◌, ◌++◌, length, map, reverse, sym, ◌∙◌, ap, arith, append_assoc, Option, pos, map-append, reverse-append, ScriptView, FrameView, returning, Advanced, AdvancesTo, HasFrames, IfRunning, TaskView, JobFacts, flag_numbers, list_numbers, option_numbers, some_numbers, fields_numbers, ReadyView, frames_left, job_numbers, ready_numbers, rest_numbers}
 use Rattle.swift_turn.specs.declared.step.Step.{Step}
-use Rattle.swift_turn.specs.Body.{Advanced, AdvancesTo, HasFrames, IfRunning, TaskView}
-use Rattle.swift_history.specs.TurnEnds.{JobFacts}
-use Rattle.swift_explorer.specs.Numbers.{flag_numbers, list_numbers, option_numbers, some_numbers}
-use Rattle.swift_explorer.specs.FrameNumbers.{fields_numbers}
 use Rattle.swift_explorer.proofs.Steps.{two_writes}
-use Rattle.swift_explorer.specs.KeysInside.{ReadyView, frames_left, job_numbers, ready_numbers, rest_numbers}
 
 -- the next entry of a list is written, and the others are left
 pub one_more : {A : Type 0} (f : A → List ℤ) (x : A) (ys : List A) (before after : List ℤ) → after ≡ before ++ (pos 1 ∷ f x) → after ++ list_numbers f ys ≡ before ++ list_numbers f (x ∷ ys)

@@ -1,3 +1,4 @@
+pub mod Prelude
 pub mod SavedLists
 pub mod Arguments
 pub mod Settling

@@ -1,15 +1,7 @@
 -- Saved rows, one more or one less.
-use Rattle.std.proofs.Common.{◌≡◌, ℕ, zero, suc, ◌+◌, ◌-◌, ◌<◌, ◌≤◌, ℤ, Bool, true, if◌then◌else◌, List, [], ◌∷◌, ◌==◌, length, reverse, take, set, get_or, refl, sym, ap, subst, ◌∙◌, add-one, inl, inr, arith}
-use Rattle.std.proofs.lemmas.List.{get_or-map, get_or-reverse, get_or-set_other, get_or-take, length-reverse, length-set, length-take-le, reverse-append, set-set, set_comm, set-get_or, take_more_set, map-set}
-use Rattle.std.proofs.lemmas.Bool.{cases_eq, cond-false, eq-eqb, ne_eqb}
+use Rattle.swift_interpreter.proofs.Prelude.{◌≡◌, ℕ, zero, suc, ◌+◌, ◌-◌, ◌<◌, ◌≤◌, ℤ, Bool, true, if◌then◌else◌, List, [], ◌∷◌, ◌==◌, length, reverse, take, set, get_or, refl, sym, ap, subst, ◌∙◌, add-one, inl, inr, arith, get_or-map, get_or-reverse, get_or-set_other, get_or-take, length-reverse, length-set, length-take-le, reverse-append, set-set, set_comm, set-get_or, take_more_set, map-set, cases_eq, cond-false, eq-eqb, ne_eqb, Vec, rows_of, set_field_of, restored, is_saved, newest_first, oldest, row_of, SavedRow}
 use Rattle.std.proofs.Math.Seq.{take-suc}
-use Rattle.std.specs.Global.{Vec}
-use Rattle.script_code.specs.Seen.{rows_of}
 use Rattle.script_code.specs.declared.formula.FieldPlace.{FieldPlace}
-use Rattle.swift_interpreter.specs.Turn.{set_field_of}
-use Rattle.swift_interpreter.specs.Saved.{restored, is_saved}
-use Rattle.swift_interpreter.specs.SavedInside.{newest_first, oldest, row_of}
-use Rattle.swift_interpreter.specs.declared.saved.SavedRow.{SavedRow}
 
 -- the last of some rows is the newest
 pub newest_more : (rows : List SavedRow) (k : ℕ) (d : SavedRow) → k < length rows → newest_first (take (k + 1) rows) ≡ row_of (get_or rows k d) ∷ newest_first (take k rows)

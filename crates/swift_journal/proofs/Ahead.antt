@@ -1,9 +1,5 @@
 -- The turns of a journal that are written ahead, one more at a time.
-use Rattle.std.proofs.Common.{◌≡◌, ℕ, ◌+◌, ◌<◌, List, [], ◌∷◌, ◌++◌, length, map, take, get_or, sym, ap, ◌∙◌, arith, append_assoc}
-use Rattle.std.specs.Prelude.{false, Result, Ok, Err, OnOk, is_err}
-use Rattle.std.proofs.lemmas.List.{map_more}
-use Rattle.swift_journal.specs.Checkpoints.{FoldedView, folded_of}
-use Rattle.swift_journal.specs.Records.{RecordView}
+use Rattle.swift_journal.proofs.Prelude.{◌≡◌, ℕ, ◌+◌, ◌<◌, List, [], ◌∷◌, ◌++◌, length, map, take, get_or, sym, ap, ◌∙◌, arith, append_assoc, false, Result, Ok, Err, OnOk, is_err, map_more, FoldedView, folded_of, RecordView}
 
 -- an element of a list that has one
 element_of : {X : Type 0} (xs : List X) (k : ℕ) → k < length xs → X

@@ -1,17 +1,8 @@
 -- What is written of effects reads back.
-use Rattle.std.proofs.Common.{◌≡◌, ℕ, ℤ, ◌+◌, ◌<◌, List, [], ◌∷◌, ◌++◌, length, reverse, take, get_or, refl, sym, ap, subst, ◌∙◌, append_assoc}
-use Rattle.std.proofs.Math.Seq.{drop-append_seam, take-append_seam}
-use Rattle.std.proofs.lemmas.List.{append-nil, take_more, map_more, drop_at, length-reverse, reverse-reverse}
+use Rattle.swift_journal.proofs.Prelude.{◌≡◌, ℕ, ℤ, ◌+◌, ◌<◌, List, [], ◌∷◌, ◌++◌, length, reverse, take, get_or, refl, sym, ap, subst, ◌∙◌, append_assoc, drop-append_seam, take-append_seam, append-nil, take_more, map_more, drop_at, length-reverse, reverse-reverse, invocation_view, effect_view, effect_views, InvocationView, EffectView, Effect, invocation_of, skip_args, stored_invocation, bound_of, skip_bound, bound_words, effect_of, skip_effect, effect_words, effects_words, effects_of, skip_effects, since, ReadsBack, AreNarrow, pair_words, bindings_of, skip_bindings, StoredEffect}
 use Rattle.std.proofs.lemmas.Grind.{flat_map-append}
-use Rattle.swift_interpreter.specs.Frames.{invocation_view, effect_view, effect_views}
-use Rattle.swift_interpreter.specs.Turn.{InvocationView, EffectView}
 use Rattle.swift_interpreter.specs.declared.effect.Invocation.{Invocation}
-use Rattle.swift_interpreter.specs.declared.effect.Effect.{Effect}
-use Rattle.swift_journal.specs.EffectWordsInside.{invocation_of, skip_args, stored_invocation, bound_of, skip_bound, bound_words, effect_of, skip_effect, effect_words, effects_words, effects_of, skip_effects}
-use Rattle.swift_journal.specs.TailInside.{since}
-use Rattle.swift_journal.specs.Words.{ReadsBack, AreNarrow, pair_words, bindings_of, skip_bindings}
 use Rattle.swift_journal.specs.declared.stored.StoredInvocation.{StoredInvocation}
-use Rattle.swift_journal.specs.declared.stored.StoredEffect.{StoredEffect}
 use Rattle.swift_journal.proofs.Gained.{since_same}
 use Rattle.swift_journal.proofs.Pairs.{pairs_back, length-pair_words}
 

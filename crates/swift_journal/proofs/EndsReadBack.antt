@@ -1,19 +1,11 @@
 -- What is written reads back: faults, resumes and exits.
-use Rattle.std.proofs.Common.{◌≡◌, ℕ, ℤ, pos, Option, Some, None, List, ◌++◌, length, take, drop, refl, sym, ap, subst, ◌∙◌}
-use Rattle.std.proofs.Math.Seq.{drop-append_seam, take-append_seam}
-use Rattle.swift_types.specs.declared.outcome.Fault.{Fault}
+use Rattle.swift_journal.proofs.Prelude.{◌≡◌, ℕ, ℤ, pos, Option, Some, None, List, ◌++◌, length, take, drop, refl, sym, ap, subst, ◌∙◌, drop-append_seam, take-append_seam, Fault, Resume, ExitView, calling, waiting, asking_next, closing, exit_view, StoredExit, fault_of, fault_kind, fault_words, fault_size, pending_of, pending_kind, pending_words, skip_pending, resume_of, resume_kind, resume_words, skip_resume, exit_of, exit_kind, exit_words, skip_exit, IsNarrowExit, ReadsBack, first_word, narrowed}
 use Rattle.swift_types.specs.declared.outcome.Fault.TheVariants as fault
-use Rattle.swift_types.specs.declared.outcome.Resume.{Resume}
 use Rattle.swift_types.specs.declared.outcome.Resume.TheVariants as resume
-use Rattle.swift_interpreter.specs.Turn.{ExitView, calling, waiting, asking_next, closing}
-use Rattle.swift_interpreter.specs.TurnStates.{exit_view}
 use Rattle.swift_interpreter.specs.declared.effect.TaskName.TheVariants as name
 use Rattle.swift_interpreter.specs.declared.exit.Exit.{Exit}
 use Rattle.swift_interpreter.specs.declared.exit.Exit.TheVariants as exit
 use Rattle.swift_journal.specs.declared.stored.StoredResume.{StoredResume}
-use Rattle.swift_journal.specs.declared.stored.StoredExit.{StoredExit}
-use Rattle.swift_journal.specs.Ends.{fault_of, fault_kind, fault_words, fault_size, pending_of, pending_kind, pending_words, skip_pending, resume_of, resume_kind, resume_words, skip_resume, exit_of, exit_kind, exit_words, skip_exit, IsNarrowExit}
-use Rattle.swift_journal.specs.Words.{ReadsBack, first_word, narrowed}
 
 fault_reads : (f : Fault) (rest : List ℤ) → fault_of (fault_kind f) (first_word (fault_words f ++ rest)) ≡ f
 fault_reads (fault.Thrown v) rest = refl

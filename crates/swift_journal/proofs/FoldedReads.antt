@@ -1,21 +1,8 @@
 -- A turn that is folded reads as what was kept of it.
-use Rattle.std.proofs.Common.{◌≡◌, ℕ, ℤ, Bool, true, false, Option, List, refl, ap, ◌∙◌}
+use Rattle.swift_journal.proofs.Prelude.{◌≡◌, ℕ, ℤ, Bool, true, false, Option, List, refl, ap, ◌∙◌, FrameView, EffectView, after_kind, folded_from, has_counts, is_there, FoldedView, effects_of, exit_of, skip_exit, frame_if_of, skip_frame_if, effect_part, FoldedHead, FrameHead, StoredEffect, StoredExit, StoredFault}
 use Rattle.swift_types.specs.declared.id.MethodId.{MethodId}
 use Rattle.swift_types.specs.declared.id.TaskId.{TaskId}
-use Rattle.swift_interpreter.specs.Frames.{FrameView}
-use Rattle.swift_interpreter.specs.Turn.{EffectView}
-use Rattle.swift_journal.specs.CheckpointInside.{after_kind, folded_from, has_counts, is_there}
-use Rattle.swift_journal.specs.Checkpoints.{FoldedView}
-use Rattle.swift_journal.specs.EffectWordsInside.{effects_of}
-use Rattle.swift_journal.specs.Ends.{exit_of, skip_exit}
-use Rattle.swift_journal.specs.FrameWordsInside.{frame_if_of, skip_frame_if}
-use Rattle.swift_journal.specs.JournalInside.{effect_part}
-use Rattle.swift_journal.specs.declared.stored.FoldedHead.{FoldedHead}
-use Rattle.swift_journal.specs.declared.stored.FrameHead.{FrameHead}
 use Rattle.swift_journal.specs.declared.stored.StoredAfter.{StoredAfter}
-use Rattle.swift_journal.specs.declared.stored.StoredEffect.{StoredEffect}
-use Rattle.swift_journal.specs.declared.stored.StoredExit.{StoredExit}
-use Rattle.swift_journal.specs.declared.stored.StoredFault.{StoredFault}
 
 abbrev head_of : MethodId → ℕ → ℕ → StoredFault → Bool → Bool → FrameHead
 head_of m l v p counted stands = record { method = m; instruction = l; variables = v; pending = p; counted = counted; stands = stands }

@@ -1,11 +1,5 @@
 -- Turns that were folded stay as they are when one is put after them, and when the last ones are dropped.
-use Rattle.std.proofs.Common.{◌≡◌, ℕ, ℤ, ◌+◌, ◌-◌, ◌<◌, List, [], ◌∷◌, ◌++◌, length, map, reverse, take, drop, get_or, refl, sym, ap, subst, ◌∙◌, arith, length-append}
-use Rattle.std.proofs.lemmas.List.{get_or-map, length-map, length-take-le}
-use Rattle.swift_journal.specs.CheckpointInside.{PlacedFold, folded_at, folded_from, next_effect, next_start, placed, placed_from, placed_span}
-use Rattle.swift_journal.specs.Checkpoints.{FoldedView}
-use Rattle.swift_journal.specs.LaidInside.{AreLaid}
-use Rattle.swift_journal.specs.declared.stored.FoldedHead.{FoldedHead}
-use Rattle.swift_journal.specs.declared.stored.StoredEffect.{StoredEffect}
+use Rattle.swift_journal.proofs.Prelude.{◌≡◌, ℕ, ℤ, ◌+◌, ◌-◌, ◌<◌, List, [], ◌∷◌, ◌++◌, length, map, reverse, take, drop, get_or, refl, sym, ap, subst, ◌∙◌, arith, length-append, get_or-map, length-map, length-take-le, PlacedFold, folded_at, folded_from, next_effect, next_start, placed, placed_from, placed_span, FoldedView, AreLaid, FoldedHead, StoredEffect}
 use Rattle.swift_journal.proofs.TurnsStay.{cut_before, dropped_from, laid_before, pushed, pushed_laid, split_at}
 
 start_split : (kept rest : List FoldedHead) (h : FoldedHead) (n : ℕ) → next_start (kept ++ h ∷ rest) n ≡ next_start kept h.start

@@ -1,17 +1,7 @@
 -- What is written of a frame reads back.
-use Rattle.std.proofs.Common.{◌≡◌, ℕ, ℤ, pos, ◌+◌, Option, List, ◌++◌, length, map, reverse, take, drop, sym, ap, ◌∙◌, append_assoc}
-use Rattle.std.proofs.lemmas.List.{drop_at, take_at, length-map}
-use Rattle.swift_types.specs.declared.outcome.Fault.{Fault}
-use Rattle.script_code.specs.Seen.{pair_of, pairs_of}
-use Rattle.script_code.specs.declared.sight.Binding.{Binding}
-use Rattle.swift_interpreter.specs.Frames.{FrameView, frame_view}
+use Rattle.swift_journal.proofs.Prelude.{◌≡◌, ℕ, ℤ, pos, ◌+◌, Option, List, ◌++◌, length, map, reverse, take, drop, sym, ap, ◌∙◌, append_assoc, drop_at, take_at, length-map, Fault, pair_of, pairs_of, Binding, FrameView, frame_view, pending_of, pending_kind, pending_words, skip_pending, skip_handles, skip_own, skip_groups, skip_frame, skip_counts, counts_of, counts_words, frame_counts, frame_from, frame_of, frame_words, list_words, ReadsBack, numbers_of, pair_words, pairs_from, AreNarrow, StoredFault, FrameHead}
 use Rattle.swift_interpreter.specs.declared.frame.Frame.{Frame}
-use Rattle.swift_journal.specs.Ends.{pending_of, pending_kind, pending_words, skip_pending}
-use Rattle.swift_journal.specs.FrameWordsInside.{skip_handles, skip_own, skip_groups, skip_frame, skip_counts, counts_of, counts_words, frame_counts, frame_from, frame_of, frame_words, list_words}
-use Rattle.swift_journal.specs.Words.{ReadsBack, numbers_of, pair_words, pairs_from, AreNarrow}
-use Rattle.swift_journal.specs.declared.stored.StoredFault.{StoredFault}
 use Rattle.swift_journal.specs.declared.stored.FrameCounts.{FrameCounts}
-use Rattle.swift_journal.specs.declared.stored.FrameHead.{FrameHead}
 use Rattle.swift_journal.proofs.EndsReadBack.{pending_reads_back}
 use Rattle.swift_journal.proofs.Pairs.{own_reversed, pairs_back, length-pair_words}
 

@@ -1,7 +1,5 @@
 -- What a list has gained.
-use Rattle.std.proofs.Common.{◌≡◌, ◌+◌, List, [], ◌∷◌, ◌++◌, length, drop, refl, sym, ap, ◌∙◌, arith, append_assoc, length-append}
-use Rattle.std.proofs.lemmas.List.{append-nil, drop_at, drop_all}
-use Rattle.swift_journal.specs.TailInside.{since}
+use Rattle.swift_journal.proofs.Prelude.{◌≡◌, ◌+◌, List, [], ◌∷◌, ◌++◌, length, drop, refl, sym, ap, ◌∙◌, arith, append_assoc, length-append, append-nil, drop_at, drop_all, since}
 
 pub since_same : {X : Type 0} (xs : List X) → since xs xs ≡ []
 since_same xs = drop_all (length xs) xs (omega arith)

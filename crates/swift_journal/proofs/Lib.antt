@@ -1,3 +1,4 @@
+pub mod Prelude
 pub mod Ahead
 pub mod EffectsReadBack
 pub mod EndsReadBack

@@ -1,10 +1,6 @@
 -- Bindings and numbers of 32 bits as words, one more at a time.
-use Rattle.std.proofs.Common.{◌≡◌, ℕ, zero, suc, ℤ, pos, ◌+◌, ◌<◌, ◌^◌, List, [], ◌∷◌, ◌++◌, length, map, reverse, take, drop, get_or, ltb, refl, sym, ap, subst, ◌∙◌, arith, append_assoc, add-one}
-use Rattle.std.proofs.lemmas.List.{map-append, drop-drop, reverse-append, take_more}
+use Rattle.swift_journal.proofs.Prelude.{◌≡◌, ℕ, zero, suc, ℤ, pos, ◌+◌, ◌<◌, ◌^◌, List, [], ◌∷◌, ◌++◌, length, map, reverse, take, drop, get_or, ltb, refl, sym, ap, subst, ◌∙◌, arith, append_assoc, add-one, map-append, drop-drop, reverse-append, take_more, pair_of, pairs_of, Binding, narrowed, pair_words, pairs_from, first_pair, rounded, AreNarrow}
 use Rattle.std.proofs.lemmas.Bool.{cond-true, lt-ltb}
-use Rattle.script_code.specs.Seen.{pair_of, pairs_of}
-use Rattle.script_code.specs.declared.sight.Binding.{Binding}
-use Rattle.swift_journal.specs.Words.{narrowed, pair_words, pairs_from, first_pair, rounded, AreNarrow}
 
 pub narrowed_same : (n : ℕ) → n < 2 ^ 32 → narrowed (pos n) ≡ n
 narrowed_same n h = cond-true (ltb n (2 ^ 32)) n 0 (lt-ltb n (2 ^ 32) h)

@@ -1,18 +1,5 @@
 -- What is written of a turn reads back.
-use Rattle.std.proofs.Common.{◌≡◌, ℕ, ℤ, Option, List, [], ◌++◌, length, drop, ap, ◌∙◌, sym, append_assoc}
-use Rattle.std.proofs.lemmas.List.{append-nil, drop_at}
-use Rattle.swift_types.specs.declared.outcome.Resume.{Resume}
-use Rattle.swift_interpreter.specs.Frames.{FrameView}
-use Rattle.swift_interpreter.specs.Turn.{EffectView, ExitView}
-use Rattle.swift_journal.specs.EffectWordsInside.{effects_of, skip_effects}
-use Rattle.swift_journal.specs.Ends.{resume_of, skip_resume, exit_of, skip_exit}
-use Rattle.swift_journal.specs.FrameWordsInside.{frame_of, skip_frame, frame_if_of, skip_frame_if}
-use Rattle.swift_journal.specs.JournalInside.{exit_part, frame_part, outer_part, effect_part, record_of}
-use Rattle.swift_journal.specs.LaidInside.{TurnSpan}
-use Rattle.swift_journal.specs.Records.{RecordView}
-use Rattle.swift_journal.specs.Words.{ReadsBack, bindings_of, skip_bindings}
-use Rattle.swift_journal.specs.declared.stored.StoredEffect.{StoredEffect}
-use Rattle.swift_journal.specs.declared.stored.TurnHead.{TurnHead}
+use Rattle.swift_journal.proofs.Prelude.{◌≡◌, ℕ, ℤ, Option, List, [], ◌++◌, length, drop, ap, ◌∙◌, sym, append_assoc, append-nil, drop_at, Resume, FrameView, EffectView, ExitView, effects_of, skip_effects, resume_of, skip_resume, exit_of, skip_exit, frame_of, skip_frame, frame_if_of, skip_frame_if, exit_part, frame_part, outer_part, effect_part, record_of, TurnSpan, RecordView, ReadsBack, bindings_of, skip_bindings, StoredEffect, TurnHead}
 
 -- the words of a turn, written one part after another
 pub begun : (w0 w1 w2 w3 r f o : List ℤ) → w0 ≡ [] → w1 ≡ w0 ++ r → w2 ≡ w1 ++ f → w3 ≡ w2 ++ o → w3 ≡ (r ++ f) ++ o

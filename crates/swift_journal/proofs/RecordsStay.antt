@@ -1,12 +1,5 @@
 -- A journal to which a turn was put.
-use Rattle.std.proofs.Common.{◌≡◌, ℕ, ℤ, ◌-◌, ◌<◌, List, [], ◌∷◌, ◌++◌, length, map, reverse, get_or, refl, sym, ap, ◌∙◌, arith}
-use Rattle.std.proofs.lemmas.List.{get_or-map, get_or_push, length_push}
-use Rattle.swift_journal.specs.JournalInside.{IsPut, record_at, record_of, span_of}
-use Rattle.swift_journal.specs.LaidInside.{AreLaid, TurnSpan}
-use Rattle.swift_journal.specs.Records.{RecordView}
-use Rattle.swift_journal.specs.TailInside.{TailView, since, whole}
-use Rattle.swift_journal.specs.declared.stored.TurnHead.{TurnHead}
-use Rattle.swift_journal.specs.declared.stored.StoredEffect.{StoredEffect}
+use Rattle.swift_journal.proofs.Prelude.{◌≡◌, ℕ, ℤ, ◌-◌, ◌<◌, List, [], ◌∷◌, ◌++◌, length, map, reverse, get_or, refl, sym, ap, ◌∙◌, arith, get_or-map, get_or_push, length_push, IsPut, record_at, record_of, span_of, AreLaid, TurnSpan, RecordView, TailView, since, whole, TurnHead, StoredEffect}
 use Rattle.swift_journal.proofs.TurnsStay.{pushed}
 
 pub put_view : (hs hs' : List TurnHead) (ws : List ℤ) (begun t : TailView) (es es' : List StoredEffect) (r : RecordView)

@@ -1,8 +1,5 @@
 -- Turns that are laid one after another stay as they are when one is put after them, and when the last ones are dropped.
-use Rattle.std.proofs.Common.{◌≡◌, ℕ, ℤ, ◌+◌, ◌-◌, ◌≤◌, ◌<◌, List, [], ◌∷◌, ◌++◌, length, map, reverse, take, drop, get_or, refl, sym, ap, subst, ◌∙◌, arith, append_assoc, length-append}
-use Rattle.std.proofs.lemmas.List.{map-append, reverse-append, reverse-reverse, take-take, take_at, take_all, take-append-le, take-append-drop, take-map, drop-take, drop_at, drop_more, length_push, length-take-le, length-map}
-use Rattle.swift_journal.specs.LaidInside.{TurnSpan, AreLaid, read_at}
-use Rattle.swift_journal.specs.declared.stored.StoredEffect.{StoredEffect}
+use Rattle.swift_journal.proofs.Prelude.{◌≡◌, ℕ, ℤ, ◌+◌, ◌-◌, ◌≤◌, ◌<◌, List, [], ◌∷◌, ◌++◌, length, map, reverse, take, drop, get_or, refl, sym, ap, subst, ◌∙◌, arith, append_assoc, length-append, map-append, reverse-append, reverse-reverse, take-take, take_at, take_all, take-append-le, take-append-drop, take-map, drop-take, drop_at, drop_more, length_push, length-take-le, length-map, TurnSpan, AreLaid, read_at, StoredEffect}
 use Rattle.swift_journal.proofs.Pairs.{map_reverse}
 
 take_less : {X : Type 0} (m n : ℕ) (xs ys : List X) → m ≤ n → take n xs ≡ take n ys → take m xs ≡ take m ys

@@ -1,29 +1,5 @@
 -- A search that runs silent turns ahead, after each step, comes to each history with some turns of it ahead.
-use Rattle.std.proofs.Common.{◌≡◌, ◌⊎◌, ℕ, ◌≤◌, List, [], ◌∷◌, ◌++◌, refl, sym, ◌∙◌, ap, subst, subst₂, Bool, true, false, inl, inr, append_assoc, append-nil, arith}
-use Rattle.std.specs.Prelude.{Contains}
-use Rattle.std.proofs.lemmas.Bool.{false≢true}
-use Rattle.swift_types.specs.declared.env.Env.{Env}
-use Rattle.swift_script.specs.Scripts.{ScriptView, root_count, executor_invariants}
-use Rattle.swift_interpreter.specs.Turn.{ExitView, all_hold}
-use Rattle.swift_journal.specs.Records.{RecordView}
-use Rattle.swift_journal.specs.Checkpoints.{CheckpointView}
-use Rattle.swift_events.specs.Events.{tasks_of}
-use Rattle.swift_history.specs.Checks.{is_begun, is_under_way}
-use Rattle.swift_history.specs.Histories.{Block, added, begun, ran, Standing, at_first, after_blocks, checkpoint_at, folded_in, folded_of, Stands, AllStand, ReportView}
-use Rattle.swift_history.specs.Orderly.{AllAllowed, IsOrderly, IsOrderlyLegal}
-use Rattle.swift_laws.specs.Laws.{ActorsHaveExecutors}
-use Rattle.swift_laws.proofs.HistoriesGrow.{log_grows}
-use Rattle.swift_laws.proofs.OpenLogs.{tasks_grow}
-use Rattle.swift_digest.specs.Futures.{AreLike, LeadAlike}
-use Rattle.swift_digest.specs.Explored.{FoldsNone, IsNotFolded, IsOutcome, state_of}
-use Rattle.swift_digest.proofs.Outcomes.{Made, NoneFolded, made, none_in, not_folded, outcome_too}
-use Rattle.swift_digest.proofs.SameLogs.{same_tasks}
-use Rattle.swift_digest.proofs.SameStands.{all_push}
-use Rattle.swift_reordering.specs.Away.{turn_looks_away}
-use Rattle.swift_reordering.specs.Blurred.{stage_at}
-use Rattle.swift_reordering.specs.FusedSteps.{HasRoom, IsFusedStep, MayStep}
-use Rattle.swift_reordering.specs.RunAhead.{OneTurn, after_turn, after_turns, AllRunSilently, LeadAsOne, AllEndAsTried, AreClosedAhead, ClosedAheadHasEachOutcome, ClosedAheadHasEachExit}
-use Rattle.swift_reordering.specs.SilentSearch.{InvariantsStart}
+use Rattle.swift_reordering.proofs.Prelude.{◌≡◌, ◌⊎◌, ℕ, ◌≤◌, List, [], ◌∷◌, ◌++◌, refl, sym, ◌∙◌, ap, subst, subst₂, Bool, true, false, inl, inr, append_assoc, append-nil, arith, Contains, false≢true, Env, ScriptView, root_count, executor_invariants, ExitView, all_hold, RecordView, CheckpointView, tasks_of, is_begun, is_under_way, Block, added, begun, ran, Standing, at_first, after_blocks, checkpoint_at, folded_in, folded_of, Stands, AllStand, ReportView, AllAllowed, IsOrderly, IsOrderlyLegal, ActorsHaveExecutors, log_grows, tasks_grow, AreLike, LeadAlike, FoldsNone, IsNotFolded, IsOutcome, state_of, Made, NoneFolded, made, none_in, not_folded, outcome_too, same_tasks, all_push, turn_looks_away, stage_at, HasRoom, IsFusedStep, MayStep, OneTurn, after_turn, after_turns, AllRunSilently, LeadAsOne, AllEndAsTried, AreClosedAhead, ClosedAheadHasEachOutcome, ClosedAheadHasEachExit, InvariantsStart}
 use Rattle.swift_reordering.proofs.Closed.{allowed_after, exit_too, outcome_near, same_away, stand_after}
 use Rattle.swift_reordering.proofs.Fusing.{AnyTask, ArePutOff, GoesOn, any_task, goes_on}
 use Rattle.swift_reordering.proofs.Near.{near_tasks}

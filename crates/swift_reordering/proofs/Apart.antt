@@ -1,46 +1,10 @@
 -- A root that no line names: no task has to do with it but itself, whichever blocks of others follow.
-use Rattle.std.proofs.Common.{◌≡◌, ◌≢◌, ℕ, zero, suc, ◌+◌, ◌<◌, List, [], ◌∷◌, ◌++◌, length, refl, sym, ◌∙◌, ap, ap₂, subst, Bool, true, false, append_assoc, append-nil, arith}
-use Rattle.std.specs.Prelude.{Option, Some, None, ◌==◌, ◌&&◌, nat_lt, is_some, not, if◌then◌else◌, unwrap_or, slice_get}
-use Rattle.std.specs.List.{AllByRecursion, cons_option}
-use Rattle.std.proofs.lemmas.Bool.{eq-eqb, eqb-true, false≢true, ltb-true, ne_eqb}
+use Rattle.swift_reordering.proofs.Prelude.{◌≡◌, ◌≢◌, ℕ, zero, suc, ◌+◌, ◌<◌, List, [], ◌∷◌, ◌++◌, length, refl, sym, ◌∙◌, ap, ap₂, subst, Bool, true, false, append_assoc, append-nil, arith, Option, Some, None, ◌==◌, ◌&&◌, nat_lt, is_some, not, if◌then◌else◌, unwrap_or, slice_get, AllByRecursion, cons_option, eq-eqb, eqb-true, false≢true, ltb-true, ne_eqb, TaskId, Env, Ending, Fault, Priority, Background, next_of, ScriptView, root_count, root_priority, FrameView, TaskName, Own, EffectView, spawning, detaching, opening, adding, cancelling_task, cancelling_group, ExitView, calling, waiting, asking_next, closing, yielding, returning, failing, Step, Run, Ended, Await, Advanced, advanced, RecordView, turn_of, CheckpointView, FoldedView, Event, Root, Begin, Apply, Free, Open, Child, Skip, CancelTask, CancelGroup, Wait, Next, Close, End, Give, Life, task_of, tasks_of, life_of, lived, own_tasks, own_in, waiter_in, child_in, opened_by, parent_by, group_of, own_tasks-push_none, own_tasks-push_same, Counters, can_name, counters, counted, fits_effect, fits_exit, fits_turn, JobFacts, TurnEnd, task, gives, named_task, is_left_out, effect_events, log_after, wait_events, next_events, close_events, end_events, exit_events, turn_end, root_job, Block, added, begun, ran, folded, Standing, at_first, after_block, after_blocks, begun_priority, folded_in, folded_of, left_as, turn_applied, fields_of, TurnStands, Stands, AllStand, after_push, all_append, applied_is, both, Digest, noted, said, IsNotFolded, own_tasks_is, tasks_of_is, digest_of-push, stage_at, name_spares, EffectSpares, exit_spares, IsApart, IsOther, IsUnnamed, PlaySpares}
 use Rattle.std.proofs.lemmas.List.{length-append}
-use Rattle.swift_types.specs.declared.id.TaskId.{TaskId}
-use Rattle.swift_types.specs.declared.env.Env.{Env}
-use Rattle.swift_types.specs.declared.outcome.Ending.{Ending}
-use Rattle.swift_types.specs.declared.outcome.Fault.{Fault}
-use Rattle.swift_types.specs.declared.priority.Priority.{Priority}
-use Rattle.swift_types.specs.declared.priority.Priority.TheVariants.{Background}
 use Rattle.swift_groups.specs.declared.answer.NextResult.{NextResult as Answer}
 use Rattle.swift_groups.specs.declared.answer.NextResult.TheVariants as answer
-use Rattle.swift_groups.specs.Next.{next_of}
-use Rattle.swift_script.specs.Scripts.{ScriptView, root_count, root_priority}
-use Rattle.swift_interpreter.specs.Frames.{FrameView}
-use Rattle.swift_interpreter.specs.declared.effect.TaskName.{TaskName}
-use Rattle.swift_interpreter.specs.declared.effect.TaskName.TheVariants.{Root as RootName, Own}
-use Rattle.swift_interpreter.specs.Turn.{EffectView, spawning, detaching, opening, adding, cancelling_task, cancelling_group, ExitView, calling, waiting, asking_next, closing, yielding, returning, failing}
-use Rattle.swift_turn.specs.declared.step.Step.{Step}
-use Rattle.swift_turn.specs.declared.step.Step.TheVariants.{Run, Ended, Await}
-use Rattle.swift_turn.specs.Body.{Advanced, advanced}
-use Rattle.swift_journal.specs.Records.{RecordView}
-use Rattle.swift_journal.specs.Replay.{turn_of}
-use Rattle.swift_journal.specs.Checkpoints.{CheckpointView, FoldedView}
-use Rattle.swift_events.specs.declared.event.Event.{Event}
-use Rattle.swift_events.specs.declared.event.Event.TheVariants.{Root, Begin, Apply, Free, Open, Child, Skip, CancelTask, CancelGroup, Wait, Next, Close, End, Give}
-use Rattle.swift_events.specs.declared.life.Life.{Life}
-use Rattle.swift_events.specs.Events.{task_of, tasks_of}
-use Rattle.swift_events.specs.Lives.{life_of, lived}
-use Rattle.swift_events.specs.Relations.{own_tasks, own_in, waiter_in, child_in, opened_by, parent_by, group_of}
-use Rattle.swift_events.proofs.LogLemmas.{own_tasks-push_none, own_tasks-push_same}
-use Rattle.swift_history.specs.Checks.{Counters, can_name, counters, counted, fits_effect, fits_exit, fits_turn}
-use Rattle.swift_history.specs.TurnEnds.{JobFacts, TurnEnd, task, gives, named_task, is_left_out, effect_events, log_after, wait_events, next_events, close_events, end_events, exit_events, turn_end, root_job}
-use Rattle.swift_history.specs.Histories.{Block, added, begun, ran, folded, Standing, at_first, after_block, after_blocks, begun_priority, folded_in, folded_of, left_as, turn_applied, fields_of, TurnStands, Stands, AllStand}
-use Rattle.swift_laws.proofs.HistoriesTurns.{after_push, all_append, applied_is, both}
-use Rattle.swift_digest.specs.Digests.{Digest, digest_of, noted, said}
-use Rattle.swift_digest.specs.Explored.{IsNotFolded}
-use Rattle.swift_digest.proofs.Answers.{own_tasks_is, tasks_of_is}
-use Rattle.swift_digest.proofs.Cards.{digest_of-push}
-use Rattle.swift_reordering.specs.Blurred.{stage_at}
-use Rattle.swift_reordering.specs.Unnamed.{name_spares, EffectSpares, exit_spares, IsApart, IsOther, IsUnnamed, PlaySpares}
+use Rattle.swift_interpreter.specs.declared.effect.TaskName.TheVariants.{Root as RootName}
+use Rattle.swift_digest.specs.Digests.{digest_of}
 use Rattle.swift_reordering.proofs.Naming.{turns_spare}
 use Rattle.swift_reordering.proofs.Sights.{ChildrenShown, IsShown}
 use Rattle.swift_reordering.proofs.SeenEnds.{EffectShown, EffectsShown, ExitShown, TurnShown}

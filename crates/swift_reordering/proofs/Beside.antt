@@ -1,24 +1,6 @@
 -- Logs that are one but for which job one task has, where it waits for nothing, and whether and how it has ended, where nobody looks.
-use Rattle.std.proofs.Common.{◌≡◌, ◌≢◌, ℕ, ◌+◌, List, [], ◌∷◌, ◌++◌, refl, sym, ◌∙◌, ap, ap₂, subst, Bool, true, false, inl, inr, append-nil, arith}
-use Rattle.std.specs.Prelude.{Option, Some, None, ◌==◌, ◌&&◌, ◌||◌, if◌then◌else◌}
-use Rattle.std.specs.List.{AllByRecursion, cons_option}
-use Rattle.std.proofs.lemmas.Bool.{cases_eq, eq-eqb, false≢true, ne_eqb}
+use Rattle.swift_reordering.proofs.Prelude.{◌≡◌, ◌≢◌, ℕ, ◌+◌, List, [], ◌∷◌, ◌++◌, refl, sym, ◌∙◌, ap, ap₂, subst, Bool, true, false, inl, inr, append-nil, arith, Option, Some, None, ◌==◌, ◌&&◌, ◌||◌, if◌then◌else◌, AllByRecursion, cons_option, cases_eq, eq-eqb, false≢true, ne_eqb, Event, Begin, Apply, End, Give, Life, JobStage, Given, Begun, Applied, Waits, Asks, Closes, task_of, later, is_made, life_of, lived, stage_in, ending_in, is_among, TaskId, Ending, Card, GroupCard, Digest, digest_of, noted, card_noted, group_noted, one_if, open_ending, digest_of-push, life_of_is, stage_at, IsApart, IsOther}
 use Rattle.swift_escalation.specs.declared.waits.PriorityEvent.{PriorityEvent as Link}
-use Rattle.swift_events.specs.declared.event.Event.{Event}
-use Rattle.swift_events.specs.declared.event.Event.TheVariants.{Begin, Apply, End, Give}
-use Rattle.swift_events.specs.declared.life.Life.{Life}
-use Rattle.swift_events.specs.declared.life.JobStage.{JobStage}
-use Rattle.swift_events.specs.declared.life.JobStage.TheVariants.{Given, Begun, Applied, Waits, Asks, Closes}
-use Rattle.swift_events.specs.Events.{task_of, later, is_made}
-use Rattle.swift_events.specs.Lives.{life_of, lived, stage_in, ending_in}
-use Rattle.swift_groups.specs.Groups.{is_among}
-use Rattle.swift_types.specs.declared.id.TaskId.{TaskId}
-use Rattle.swift_types.specs.declared.outcome.Ending.{Ending}
-use Rattle.swift_digest.specs.Digests.{Card, GroupCard, Digest, digest_of, noted, card_noted, group_noted, one_if, open_ending}
-use Rattle.swift_digest.proofs.Cards.{digest_of-push}
-use Rattle.swift_digest.proofs.Answers.{life_of_is}
-use Rattle.swift_reordering.specs.Blurred.{stage_at}
-use Rattle.swift_reordering.specs.Unnamed.{IsApart, IsOther}
 use Rattle.swift_reordering.proofs.Sights.{waited, IsSight, seen, AreSeen, seen_life}
 
 -- what is seen of lives where the job of task `t` is not, nor, where `ends` says so, its ending

@@ -1,30 +1,6 @@
 -- A silent turn is brought to the front.
-use Rattle.std.proofs.Common.{◌≡◌, ◌≢◌, ℕ, List, [], ◌∷◌, ◌++◌, length, refl, sym, ◌∙◌, ap, ap₂, subst, subst₂, true, inl, inr, append_assoc, arith}
-use Rattle.std.specs.Prelude.{Option, Some, None}
-use Rattle.swift_types.specs.declared.env.Env.{Env}
-use Rattle.swift_script.specs.Scripts.{ScriptView, root_count, executor_invariants}
-use Rattle.swift_interpreter.specs.Turn.{ExitView, all_hold}
-use Rattle.swift_journal.specs.Records.{RecordView}
-use Rattle.swift_journal.specs.Checkpoints.{CheckpointView}
-use Rattle.swift_events.specs.declared.life.LastJob.{LastJob}
-use Rattle.swift_events.specs.Lives.{life_of}
-use Rattle.swift_history.specs.TurnEnds.{task}
-use Rattle.swift_history.specs.Histories.{Block, added, begun, ran, folded, at_first, after_blocks, checkpoint_at, Stands, AllStand}
-use Rattle.swift_history.specs.Orderly.{AllAllowed, IsOrderly}
-use Rattle.swift_laws.specs.Laws.{ActorsHaveExecutors}
-use Rattle.swift_laws.proofs.HistoriesCounted.{HasNumber}
-use Rattle.swift_laws.proofs.HistoriesTurns.{current_is}
-use Rattle.swift_digest.specs.Futures.{AreLike, LeadAlike}
-use Rattle.swift_digest.proofs.Determined.{determined, determined_exit}
-use Rattle.swift_digest.proofs.Lines.{one_env}
-use Rattle.swift_digest.proofs.Outcomes.{lead_on}
-use Rattle.swift_digest.proofs.SameStands.{all_push}
-use Rattle.swift_reordering.specs.Fused.{RunsNext, BeginLate}
-use Rattle.swift_reordering.specs.FusedSteps.{HasExit}
-use Rattle.swift_reordering.specs.Waiting.{IsOfOther}
-use Rattle.swift_reordering.specs.SilentTurns.{IsSilentTurn, Commutes, OwnNext, GoesFirst, SilentTurnsMayGoFirst}
+use Rattle.swift_reordering.proofs.Prelude.{◌≡◌, ◌≢◌, ℕ, List, [], ◌∷◌, ◌++◌, length, refl, sym, ◌∙◌, ap, ap₂, subst, subst₂, true, inl, inr, append_assoc, arith, Option, Some, None, Env, ScriptView, root_count, executor_invariants, ExitView, all_hold, RecordView, CheckpointView, LastJob, life_of, task, Block, added, begun, ran, folded, at_first, after_blocks, checkpoint_at, Stands, AllStand, AllAllowed, IsOrderly, ActorsHaveExecutors, HasNumber, current_is, AreLike, LeadAlike, determined, determined_exit, one_env, lead_on, all_push, RunsNext, BeginLate, HasExit, IsOfOther, IsSilentTurn, Commutes, OwnNext, GoesFirst, SilentTurnsMayGoFirst, turn_looks_away}
 use Rattle.swift_reordering.proofs.Walks.{IsCourse, course_push}
-use Rattle.swift_reordering.specs.Away.{turn_looks_away}
 use Rattle.swift_reordering.proofs.Priorities.{cons_cases, cons_here, cons_more}
 use Rattle.swift_reordering.proofs.Carrying.{carry, late_rest, runs_like, plain_like}
 use Rattle.swift_reordering.proofs.Closed.{stand_after, allowed_after, exit_too}

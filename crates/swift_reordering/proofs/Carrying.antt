@@ -1,15 +1,5 @@
 -- What goes on in order after one history goes on so after another that it leads alike.
-use Rattle.std.proofs.Common.{ℕ, List, [], ◌∷◌, ◌++◌, sym, ◌∙◌, subst, subst₂, append_assoc, append-nil}
-use Rattle.std.specs.List.{AllByRecursion}
-use Rattle.swift_script.specs.Scripts.{ScriptView}
-use Rattle.swift_digest.specs.Explored.{IsNotFolded}
-use Rattle.swift_journal.specs.Checkpoints.{CheckpointView}
-use Rattle.swift_history.specs.Histories.{Block, added, begun, ran, folded, AllStand}
-use Rattle.swift_history.specs.Orderly.{AllAllowed, IsOrderly}
-use Rattle.swift_digest.specs.Futures.{LeadAlike, IsLike, AreLike}
-use Rattle.swift_digest.proofs.Outcomes.{orderly_too, unfolded_too}
-use Rattle.swift_digest.proofs.SameStands.{all_push, block_stands, lead_push}
-use Rattle.swift_reordering.specs.Fused.{RunsNext, BeginLate}
+use Rattle.swift_reordering.proofs.Prelude.{ℕ, List, [], ◌∷◌, ◌++◌, sym, ◌∙◌, subst, subst₂, append_assoc, append-nil, AllByRecursion, ScriptView, IsNotFolded, CheckpointView, Block, added, begun, ran, folded, AllStand, AllAllowed, IsOrderly, LeadAlike, IsLike, AreLike, orderly_too, unfolded_too, all_push, block_stands, lead_push, RunsNext, BeginLate}
 use Rattle.swift_reordering.proofs.Closed.{same_away}
 
 -- a turn runs next in both

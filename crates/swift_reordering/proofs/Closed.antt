@@ -1,26 +1,5 @@
 -- A list of histories that is closed under steps in which turns that look away begin and run has the outcome of each report.
-use Rattle.std.proofs.Common.{◌≡◌, ◌⊎◌, ℕ, ◌+◌, List, [], ◌∷◌, ◌++◌, refl, sym, ◌∙◌, ap, subst, Bool, inl, inr, append_assoc, append-nil, arith}
-use Rattle.std.specs.Prelude.{Option, Some, None, Contains, is_some, ◌||◌}
-use Rattle.std.specs.Option.{option_map}
-use Rattle.swift_script.specs.Scripts.{ScriptView, root_count}
-use Rattle.swift_interpreter.specs.Frames.{FrameView}
-use Rattle.swift_interpreter.specs.Turn.{ExitView}
-use Rattle.swift_journal.specs.Records.{RecordView}
-use Rattle.swift_journal.specs.Checkpoints.{CheckpointView}
-use Rattle.swift_events.specs.Relations.{is_cancelled}
-use Rattle.swift_history.specs.TurnEnds.{JobFacts}
-use Rattle.swift_history.specs.Histories.{Block, added, begun, ran, at_first, after_blocks, folded_in, folded_of, Stands, AllStand, ReportView}
-use Rattle.swift_history.specs.Orderly.{AllAllowed, IsOrderly, IsOrderlyLegal}
-use Rattle.swift_laws.specs.Laws.{ActorsHaveExecutors}
-use Rattle.swift_digest.specs.Digests.{Digest}
-use Rattle.swift_digest.specs.Plans.{FramePlan, JobPlan, plan_of, frame_plans, job_plan}
-use Rattle.swift_digest.specs.Futures.{LeadAlike, IsLike, AreLike}
-use Rattle.swift_digest.specs.Explored.{IsOutcome, state_of, FoldsNone, IsNotFolded}
-use Rattle.swift_digest.proofs.SameStands.{same_futures}
-use Rattle.swift_digest.proofs.SameLogs.{same_tasks, same_cancelled}
-use Rattle.swift_digest.proofs.Outcomes.{NoneFolded, Made, made, none_in, not_folded, lead_on, orderly_too, outcome_too}
-use Rattle.swift_reordering.specs.Away.{frames_look_away, job_looks_away, turn_looks_away, code_looks_away}
-use Rattle.swift_reordering.specs.FusedSteps.{IsFusedStep, MayStep, HasRoom, AreClosed, HasExit, ClosedHasEachOutcome, ClosedHasEachExit}
+use Rattle.swift_reordering.proofs.Prelude.{◌≡◌, ◌⊎◌, ℕ, ◌+◌, List, [], ◌∷◌, ◌++◌, refl, sym, ◌∙◌, ap, subst, Bool, inl, inr, append_assoc, append-nil, arith, Option, Some, None, Contains, is_some, ◌||◌, option_map, ScriptView, root_count, FrameView, ExitView, RecordView, CheckpointView, is_cancelled, JobFacts, Block, added, begun, ran, at_first, after_blocks, folded_in, folded_of, Stands, AllStand, ReportView, AllAllowed, IsOrderly, IsOrderlyLegal, ActorsHaveExecutors, Digest, FramePlan, JobPlan, plan_of, frame_plans, job_plan, LeadAlike, IsLike, AreLike, IsOutcome, state_of, FoldsNone, IsNotFolded, same_futures, same_tasks, same_cancelled, NoneFolded, Made, made, none_in, not_folded, lead_on, orderly_too, outcome_too, frames_look_away, job_looks_away, turn_looks_away, code_looks_away, IsFusedStep, MayStep, HasRoom, AreClosed, HasExit, ClosedHasEachOutcome, ClosedHasEachExit}
 use Rattle.swift_reordering.proofs.Near.{near_tasks}
 use Rattle.swift_reordering.proofs.Walks.{IsCourse, course_none, course_push}
 use Rattle.swift_reordering.proofs.Priorities.{cons_cases, cons_here, cons_more, none_there}

@@ -1,52 +1,8 @@
 -- A silent turn, and a block of another task after it or before it.
-use Rattle.std.proofs.Common.{◌≡◌, ◌≢◌, ℕ, ℤ, List, [], ◌∷◌, ◌++◌, map, refl, sym, ◌∙◌, ap, ap₂, subst, subst₂, Bool, true, false, inl, inr}
+use Rattle.swift_reordering.proofs.Prelude.{◌≡◌, ◌≢◌, ℕ, ℤ, List, [], ◌∷◌, ◌++◌, map, refl, sym, ◌∙◌, ap, ap₂, subst, subst₂, Bool, true, false, inl, inr, Option, Some, None, is_some, ◌==◌, ◌&&◌, ◌||◌, ◌-◌, ◌^◌, nat_lt, min, sum_by, if◌then◌else◌, AllByRecursion, cons_option, range_with_len, cases_eq, false≢true, Env, TASKS, MADE, Priority, Resume, ScriptView, root_count, FrameView, EffectView, ExitView, calling, waiting, asking_next, closing, yielding, returning, failing, Played, TurnStateView, Advanced, advanced, RecordView, CheckpointView, replay, IsAfter, StandsFor, IsLawfulRecord, Event, Begin, Life, LastJob, Given, Begun, tasks_of, life_of, room_held, room_in, links_of, is_cancelled, life_of-push_same, IsPriority, log_grows, IsEnv, reserved_of, room_of, Counters, is_begun, is_current, is_under_way, was_given, counters, fits_exit, fits_turn, JobFacts, TurnEnd, task, root_job, turn_end, Block, added, begun, ran, folded, Standing, at_first, after_block, after_blocks, with_jobs, taken, begun_priority, left_as, turn_applied, fields_of, records_of, record_in, TurnStands, Stands, AllStand, IsOrderly, job_executor, AreCounted, unbegun, after_push, all_keep, applied_is, first_counted, AreInPlace, digest_of, IsNotFolded, LeadAlike, job_plan, held_plans, option_map, histories_new, same_priority, all_push, fields_push, records_push, front_none, stage_at, IsSilentTurn, SilentTurnsCommute, goes_on_alone, IsApart, IsUnnamed, ends_task, IsOfOther}
 use Rattle.std.proofs.Math.Path.{fun_ext}
-use Rattle.std.specs.Prelude.{Option, Some, None, is_some, ◌==◌, ◌&&◌, ◌||◌, ◌-◌, ◌^◌, nat_lt, min, sum_by, if◌then◌else◌}
-use Rattle.std.specs.List.{AllByRecursion, cons_option, range_with_len}
-use Rattle.std.proofs.lemmas.Bool.{cases_eq, false≢true}
-use Rattle.swift_types.specs.declared.env.Env.{Env}
-use Rattle.swift_types.specs.declared.limits.TheConstants.{TASKS, MADE}
-use Rattle.swift_types.specs.declared.priority.Priority.{Priority}
-use Rattle.swift_types.specs.declared.outcome.Resume.{Resume}
-use Rattle.swift_script.specs.Scripts.{ScriptView, root_count}
-use Rattle.swift_interpreter.specs.Frames.{FrameView}
-use Rattle.swift_interpreter.specs.Turn.{EffectView, ExitView, calling, waiting, asking_next, closing, yielding, returning, failing, Played, TurnStateView}
-use Rattle.swift_turn.specs.Body.{Advanced, advanced}
-use Rattle.swift_journal.specs.Records.{RecordView}
-use Rattle.swift_journal.specs.Checkpoints.{CheckpointView}
-use Rattle.swift_journal.specs.Replay.{replay, IsAfter, StandsFor, IsLawfulRecord}
-use Rattle.swift_events.specs.declared.event.Event.{Event}
-use Rattle.swift_events.specs.declared.event.Event.TheVariants.{Begin}
-use Rattle.swift_events.specs.declared.life.Life.{Life}
-use Rattle.swift_events.specs.declared.life.LastJob.{LastJob}
-use Rattle.swift_events.specs.declared.life.JobStage.TheVariants.{Given, Begun}
-use Rattle.swift_events.specs.Events.{tasks_of}
-use Rattle.swift_events.specs.Lives.{life_of, room_held, room_in}
-use Rattle.swift_events.specs.Relations.{links_of, is_cancelled}
-use Rattle.swift_events.proofs.LogLemmas.{life_of-push_same}
-use Rattle.swift_escalation.specs.Waits.{IsPriority}
-use Rattle.swift_laws.proofs.HistoriesGrow.{log_grows}
-use Rattle.swift_events.specs.Room.{IsEnv, lives_of, reserved_of, room_of}
-use Rattle.swift_history.specs.Checks.{Counters, is_begun, is_current, is_under_way, was_given, counters, fits_exit, fits_turn}
-use Rattle.swift_history.specs.TurnEnds.{JobFacts, TurnEnd, task, root_job, turn_end}
-use Rattle.swift_history.specs.Histories.{Block, added, begun, ran, folded, Standing, at_first, after_block, after_blocks, with_jobs, taken, begun_priority, left_as, turn_applied, fields_of, records_of, record_in, TurnStands, Stands, AllStand}
-use Rattle.swift_history.specs.Orderly.{IsOrderly, job_executor}
-use Rattle.swift_laws.proofs.HistoriesCounted.{AreCounted, unbegun}
-use Rattle.swift_laws.proofs.HistoriesTurns.{after_push, all_keep, applied_is, first_counted}
-use Rattle.swift_digest.specs.Digests.{AreInPlace, digest_of}
-use Rattle.swift_digest.specs.Explored.{IsNotFolded}
-use Rattle.swift_digest.specs.Futures.{LeadAlike}
-use Rattle.swift_digest.specs.Plans.{job_plan, held_plans}
-use Rattle.std.specs.Option.{option_map}
-use Rattle.swift_digest.proofs.NewChildren.{histories_new}
-use Rattle.swift_digest.proofs.Links.{same_priority}
-use Rattle.swift_digest.proofs.SameStands.{all_push, fields_push, records_push, front_none}
-use Rattle.swift_reordering.specs.Blurred.{stage_at}
-use Rattle.swift_reordering.specs.SilentTurns.{IsSilentTurn, SilentTurnsCommute}
+use Rattle.swift_events.specs.Room.{lives_of}
 use Rattle.swift_reordering.proofs.Holding.{hold_always}
-use Rattle.swift_reordering.specs.Silent.{goes_on_alone}
-use Rattle.swift_reordering.specs.Unnamed.{IsApart, IsUnnamed, ends_task}
-use Rattle.swift_reordering.specs.Waiting.{IsOfOther}
 use Rattle.swift_reordering.proofs.Apart.{block_apart, record_spares, turn_shown}
 use Rattle.swift_reordering.proofs.Sights.{waited, AreSeen, seen_on, seen_tasks, seen_origin, seen_links, seen_cancelled}
 use Rattle.swift_reordering.proofs.SeenFits.{seen_fits, seen_counters}

@@ -1,31 +1,7 @@
 -- A task that is cancelled stays so as a history goes on, and a turn of it that looks away goes on looking away.
-use Rattle.std.proofs.Common.{◌≡◌, ℕ, List, [], ◌∷◌, ◌++◌, refl, sym, ◌∙◌, ap, subst, Bool, true, false, inl, inr, append_assoc, append-nil, arith}
-use Rattle.std.specs.Prelude.{Option, Some, None, ◌&&◌, ◌||◌, is_some}
-use Rattle.std.proofs.lemmas.Bool.{false≢true}
-use Rattle.swift_types.specs.declared.priority.Priority.{Priority}
-use Rattle.script_code.specs.Tree.{Term, Wanted, Operation, Code}
+use Rattle.swift_reordering.proofs.Prelude.{◌≡◌, ℕ, List, [], ◌∷◌, ◌++◌, refl, sym, ◌∙◌, ap, subst, Bool, true, false, inl, inr, append_assoc, append-nil, arith, Option, Some, None, ◌&&◌, ◌||◌, is_some, false≢true, Priority, Term, Wanted, Operation, Code, code_at, ScriptView, method_code, root_count, root_priority, FrameView, EffectView, ExitView, Advanced, advanced, CheckpointView, Env, Event, Root, Begin, Apply, Free, Open, Child, Skip, CancelTask, CancelGroup, Wait, Next, Close, End, Give, origin_in, is_cancelled, cancelled_stays, JobFacts, WaitingTaskView, task, gives, root_job, log_after, turn_end, Block, added, begun, ran, folded, Standing, at_first, begun_priority, left_as, turn_applied, after_block, after_blocks, TurnStands, Stands, AllStand, Beyond, beyond_push, written_within, both, all_keep, applied_is, first_counted, after_push, IsWritten, keeps_effects, keeps_exit, term_looks_away, terms_look_away, term_if_looks_away, wanted_looks_away, operation_looks_away, code_looks_away, frames_look_away, job_looks_away, turn_looks_away, stage_at, ends_turn, turn_all}
 use Rattle.script_code.specs.Tree as code
-use Rattle.script_code.specs.Layout.{code_at}
-use Rattle.swift_script.specs.Scripts.{ScriptView, method_code, root_count, root_priority}
-use Rattle.swift_interpreter.specs.Frames.{FrameView}
-use Rattle.swift_interpreter.specs.Turn.{EffectView, ExitView}
-use Rattle.swift_turn.specs.Body.{Advanced, advanced}
-use Rattle.swift_journal.specs.Checkpoints.{CheckpointView}
-use Rattle.swift_types.specs.declared.env.Env.{Env}
-use Rattle.swift_events.specs.declared.event.Event.{Event}
-use Rattle.swift_events.specs.declared.event.Event.TheVariants.{Root, Begin, Apply, Free, Open, Child, Skip, CancelTask, CancelGroup, Wait, Next, Close, End, Give}
 use Rattle.swift_events.specs.Laws.{MakesNew}
-use Rattle.swift_events.specs.Lives.{origin_in}
-use Rattle.swift_events.specs.Relations.{is_cancelled}
-use Rattle.swift_events.proofs.Cancels.{cancelled_stays}
-use Rattle.swift_history.specs.TurnEnds.{JobFacts, WaitingTaskView, task, gives, root_job, log_after, turn_end}
-use Rattle.swift_history.specs.Histories.{Block, added, begun, ran, folded, Standing, at_first, begun_priority, left_as, turn_applied, after_block, after_blocks, TurnStands, Stands, AllStand}
-use Rattle.swift_laws.proofs.HistoriesCounted.{Beyond, beyond_push, written_within}
-use Rattle.swift_laws.proofs.HistoriesTurns.{both, all_keep, applied_is, first_counted, after_push}
-use Rattle.swift_laws.proofs.HistoriesWritten.{IsWritten, keeps_effects, keeps_exit}
-use Rattle.swift_reordering.specs.Away.{term_looks_away, terms_look_away, term_if_looks_away, wanted_looks_away, operation_looks_away, code_looks_away, frames_look_away, job_looks_away, turn_looks_away}
-use Rattle.swift_reordering.specs.Blurred.{stage_at}
-use Rattle.swift_reordering.specs.Statements.{ends_turn, turn_all}
 
 -- what holds of each statement of a turn holds of it where it says less
 

@@ -1,25 +1,8 @@
 -- Each job of a history has a frame that runs, so it is of an executor of the script.
-use Rattle.std.proofs.Common.{◌≡◌, ℕ, ℤ, ◌<◌, List, [], ◌∷◌, ◌++◌, length, refl, sym, ◌∙◌, subst, Bool, true, false}
-use Rattle.std.specs.Prelude.{Option, Some, nat_lt, if◌then◌else◌}
-use Rattle.std.specs.List.{AllByRecursion}
-use Rattle.std.proofs.lemmas.Option.{none-some}
-use Rattle.swift_types.specs.declared.env.Env.{Env}
-use Rattle.swift_types.specs.declared.limits.TheConstants.{FRAMES}
-use Rattle.swift_types.specs.declared.priority.Priority.{Priority}
-use Rattle.swift_script.specs.Scripts.{ScriptView, root_count, actor_executor, method_actor}
-use Rattle.swift_interpreter.specs.Frames.{FrameView}
-use Rattle.swift_interpreter.specs.Turn.{InvocationView, EffectView, spawning, detaching, opening, adding, cancelling_task, cancelling_group, ExitView, calling, waiting, asking_next, closing, yielding, returning, failing}
-use Rattle.swift_turn.specs.Body.{TaskView, Advanced, advanced, called, HasFrames}
-use Rattle.swift_journal.specs.Checkpoints.{CheckpointView}
-use Rattle.swift_events.specs.declared.event.Event.{Event}
-use Rattle.swift_events.specs.declared.event.Event.TheVariants.{Apply}
-use Rattle.swift_history.specs.TurnEnds.{JobFacts, WaitingTaskView, TurnEnd, task, root_job, effect_events, effect_jobs, is_left_out, jobs_made, turn_end}
-use Rattle.swift_history.specs.Histories.{Block, added, begun, ran, folded, Standing, at_first, after_block, after_blocks, taken, begun_priority, left_as, turn_applied, TurnStands, Stands}
-use Rattle.swift_history.specs.Orderly.{job_executor, frames_executor}
+use Rattle.swift_reordering.proofs.Prelude.{◌≡◌, ℕ, ℤ, ◌<◌, List, [], ◌∷◌, ◌++◌, length, refl, sym, ◌∙◌, subst, Bool, true, false, Option, Some, nat_lt, if◌then◌else◌, AllByRecursion, none-some, Env, FRAMES, Priority, ScriptView, root_count, actor_executor, method_actor, FrameView, InvocationView, EffectView, spawning, detaching, opening, adding, cancelling_task, cancelling_group, ExitView, calling, waiting, asking_next, closing, yielding, returning, failing, TaskView, Advanced, advanced, called, HasFrames, CheckpointView, Event, Apply, JobFacts, WaitingTaskView, TurnEnd, task, root_job, effect_events, effect_jobs, is_left_out, jobs_made, turn_end, Block, added, begun, ran, folded, Standing, at_first, after_block, after_blocks, taken, begun_priority, left_as, turn_applied, TurnStands, Stands, job_executor, frames_executor, after_push, all_append, applied_is, stage_at}
 use Rattle.swift_laws.proofs.HistoriesApplied.{some_root}
 use Rattle.swift_laws.proofs.HistoriesFrames.{JobHas, HeldHave, JobsHave, turn_has, taken_jobs_have, with_jobs_have}
-use Rattle.swift_laws.proofs.HistoriesTurns.{after_push, all_append, applied_is, none_in}
-use Rattle.swift_reordering.specs.Blurred.{stage_at}
+use Rattle.swift_laws.proofs.HistoriesTurns.{none_in}
 use Rattle.swift_reordering.proofs.Walks.{IsCourse, along}
 
 abbrev pub Framed : ℕ → TaskView → Type 0

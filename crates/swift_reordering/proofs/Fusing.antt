@@ -1,45 +1,5 @@
 -- A history goes on in one in which begins of turns that look away have been left out for later.
-use Rattle.std.proofs.Common.{◌≡◌, ◌≢◌, ◌⊎◌, ℕ, ℤ, ◌+◌, ◌*◌, ◌<◌, ◌≤◌, List, [], ◌∷◌, ◌++◌, refl, sym, ◌∙◌, ap, ap₂, subst, subst₂, Bool, true, false, inl, inr, append_assoc, append-nil, arith}
-use Rattle.std.specs.Prelude.{Option, Some, None, Contains, ◌==◌, is_some, if◌then◌else◌}
-use Rattle.std.specs.List.{cons_option}
-use Rattle.std.proofs.lemmas.Bool.{cases_Bool, cases_eq, false≢true}
-use Rattle.std.proofs.lemmas.List.Elements.{filter_map-append}
-use Rattle.swift_types.specs.declared.limits.TheConstants.{TASKS, MADE}
-use Rattle.swift_types.specs.declared.env.Env.{Env}
-use Rattle.swift_script.specs.Scripts.{ScriptView, root_count, executor_count}
-use Rattle.swift_interpreter.specs.Frames.{FrameView}
-use Rattle.swift_interpreter.specs.Turn.{Played}
-use Rattle.swift_journal.specs.Records.{RecordView}
-use Rattle.swift_journal.specs.Replay.{replay}
-use Rattle.swift_journal.specs.Checkpoints.{CheckpointView}
-use Rattle.swift_events.specs.declared.event.Event.{Event}
-use Rattle.swift_events.specs.declared.event.Event.TheVariants.{Begin}
-use Rattle.swift_events.specs.declared.life.Life.{Life}
-use Rattle.swift_events.specs.declared.life.JobStage.{JobStage}
-use Rattle.swift_events.specs.declared.life.JobStage.TheVariants.{Given, Begun, Applied, Waits, Asks, Closes}
-use Rattle.swift_events.specs.Events.{tasks_of}
-use Rattle.swift_events.specs.Lives.{life_of}
-use Rattle.swift_events.specs.Relations.{is_cancelled, links_of}
-use Rattle.swift_events.specs.Room.{IsEnv, room_of}
-use Rattle.swift_history.specs.Checks.{is_begun, is_under_way}
-use Rattle.swift_history.specs.TurnEnds.{JobFacts, task, root_job, root_events}
-use Rattle.swift_history.specs.Histories.{Block, added, begun, ran, folded, Standing, at_first, after_block, after_blocks, with_jobs, record_in, fields_of, RecordStands, Stands}
-use Rattle.swift_history.specs.Orderly.{IsOrderly, job_executor}
-use Rattle.swift_escalation.specs.Waits.{IsPriority}
-use Rattle.swift_laws.specs.Laws.{ActorsHaveExecutors}
-use Rattle.swift_laws.proofs.HistoriesBegun.{all_begun}
-use Rattle.swift_laws.proofs.HistoriesGrow.{keeps_block}
-use Rattle.swift_laws.proofs.HistoriesTurns.{after_push, current_is}
-use Rattle.swift_laws.proofs.OpenLogs.{has_origin, origin_stays}
-use Rattle.swift_digest.specs.Digests.{AreInPlace}
-use Rattle.swift_digest.specs.Explored.{IsNotFolded}
-use Rattle.swift_digest.proofs.NewChildren.{histories_new}
-use Rattle.swift_digest.proofs.Links.{same_priority}
-use Rattle.swift_digest.proofs.SameStands.{fields_push}
-use Rattle.swift_reordering.specs.Blurred.{AreNear, AreClose, blurred_stage, stage_at}
-use Rattle.swift_reordering.specs.Away.{frame_looks_away, frames_look_away, job_looks_away, turn_looks_away}
-use Rattle.swift_reordering.specs.Fused.{RunsNext, BeginLate, done_in, done_by, no_env}
-use Rattle.swift_reordering.specs.FusedSteps.{IsFusedStep, HasExit}
+use Rattle.swift_reordering.proofs.Prelude.{◌≡◌, ◌≢◌, ◌⊎◌, ℕ, ℤ, ◌+◌, ◌*◌, ◌<◌, ◌≤◌, List, [], ◌∷◌, ◌++◌, refl, sym, ◌∙◌, ap, ap₂, subst, subst₂, Bool, true, false, inl, inr, append_assoc, append-nil, arith, Option, Some, None, Contains, ◌==◌, is_some, if◌then◌else◌, cons_option, cases_Bool, cases_eq, false≢true, filter_map-append, TASKS, MADE, Env, ScriptView, root_count, executor_count, FrameView, Played, RecordView, replay, CheckpointView, Event, Begin, Life, JobStage, Given, Begun, Applied, Waits, Asks, Closes, tasks_of, life_of, is_cancelled, links_of, IsEnv, room_of, is_begun, is_under_way, JobFacts, task, root_job, root_events, Block, added, begun, ran, folded, Standing, at_first, after_block, after_blocks, with_jobs, record_in, fields_of, RecordStands, Stands, IsOrderly, job_executor, IsPriority, ActorsHaveExecutors, all_begun, keeps_block, after_push, current_is, has_origin, origin_stays, AreInPlace, IsNotFolded, histories_new, same_priority, fields_push, AreNear, AreClose, blurred_stage, stage_at, frame_looks_away, frames_look_away, job_looks_away, turn_looks_away, RunsNext, BeginLate, done_in, done_by, no_env, IsFusedStep, HasExit, unborn_without}
 use Rattle.swift_reordering.proofs.Near.{near_on, near_begin, near_origin, near_tasks, near_stage, near_cancelled, near_links, near_current}
 use Rattle.swift_reordering.proofs.NearEnds.{AreJoint, joint_first, joint_on}
 use Rattle.swift_reordering.proofs.Turning.{LooksAwayIn, MayPlayIn, AppliedClose, in_own, applied_close, record_stands_too, same_play, takes_none}
@@ -48,7 +8,6 @@ use Rattle.swift_reordering.proofs.Flags.{begin_keeps_flag, block_keeps_flag, jo
 use Rattle.swift_reordering.proofs.Seats.{HasBegun, OnlyStay, turn_stays, root_stays, begin_other, begin_same, all_apart}
 use Rattle.swift_reordering.proofs.Rooms.{room_free}
 use Rattle.swift_reordering.proofs.Priorities.{priority_later}
-use Rattle.swift_events.proofs.LogLemmas.{unborn_without}
 
 -- where a turn has begun, each root is there
 

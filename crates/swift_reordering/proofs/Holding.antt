@@ -1,20 +1,5 @@
 -- Invariants that hold of the fields of a checkpoint hold of those of each history from it.
-use Rattle.std.proofs.Common.{◌≡◌, ℕ, ℤ, List, [], ◌∷◌, ◌++◌, refl, sym, ◌∙◌, ap, subst, Bool, true, false, append_assoc, append-nil}
-use Rattle.std.specs.Prelude.{Some, None, ◌==◌, if◌then◌else◌}
-use Rattle.std.specs.List.{cons_option}
-use Rattle.std.proofs.lemmas.Bool.{eqb-true}
-use Rattle.swift_types.specs.declared.outcome.Fault.{Fault}
-use Rattle.swift_types.specs.declared.outcome.Fault.TheVariants.{Invariant}
-use Rattle.swift_types.specs.declared.limits.TheConstants.{STEPS}
-use Rattle.script_code.specs.Tree.{Term}
-use Rattle.swift_script.specs.Scripts.{ScriptView, executor_invariants, actor_executor, method_actor}
-use Rattle.swift_interpreter.specs.Turn.{ExitView, failing, TurnStateView, TurnInputView, Played, left_by, exits, undoes, all_hold, kept_of, whole_turn}
-use Rattle.swift_turn.specs.Body.{invariants_at, state_at}
-use Rattle.swift_journal.specs.Records.{RecordView}
-use Rattle.swift_journal.specs.Replay.{turn_of, replay}
-use Rattle.swift_journal.specs.Checkpoints.{CheckpointView}
-use Rattle.swift_history.specs.Histories.{Block, added, begun, ran, folded, checkpoint_at, fields_of, record_in, Stands, AllStand}
-use Rattle.swift_digest.proofs.SameStands.{fields_push}
+use Rattle.swift_reordering.proofs.Prelude.{◌≡◌, ℕ, ℤ, List, [], ◌∷◌, ◌++◌, refl, sym, ◌∙◌, ap, subst, Bool, true, false, append_assoc, append-nil, Some, None, ◌==◌, if◌then◌else◌, cons_option, eqb-true, Fault, Invariant, STEPS, Term, ScriptView, executor_invariants, actor_executor, method_actor, ExitView, failing, TurnStateView, TurnInputView, Played, left_by, exits, undoes, all_hold, kept_of, whole_turn, invariants_at, state_at, RecordView, turn_of, replay, CheckpointView, Block, added, begun, ran, folded, checkpoint_at, fields_of, record_in, Stands, AllStand, fields_push}
 
 left_fields : (f : Fault) (gs : List ℕ) (s : TurnStateView) → (left_by f gs s).state.fields ≡ s.fields
 left_fields f [] s = refl

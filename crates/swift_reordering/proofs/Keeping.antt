@@ -1,15 +1,5 @@
 -- Where a turn of a task is under way, a block of another one leaves its job.
-use Rattle.std.proofs.Common.{◌≡◌, ℕ, List, [], ◌∷◌, ◌++◌, refl, sym, ◌∙◌, ap, subst, true}
-use Rattle.std.proofs.lemmas.Bool.{false≢true}
-use Rattle.swift_script.specs.Scripts.{ScriptView, root_count}
-use Rattle.swift_journal.specs.Checkpoints.{CheckpointView}
-use Rattle.swift_events.specs.Lives.{life_of}
-use Rattle.swift_history.specs.Checks.{is_under_way}
-use Rattle.swift_history.specs.Histories.{Block, added, begun, ran, folded, Standing, at_first, after_block, after_blocks, Stands, AllStand}
-use Rattle.swift_laws.proofs.HistoriesCounted.{AreCounted, unbegun}
-use Rattle.swift_laws.proofs.HistoriesTurns.{all_keep, first_counted, after_push}
-use Rattle.swift_reordering.specs.Blurred.{stage_at}
-use Rattle.swift_reordering.specs.Waiting.{IsOfOther}
+use Rattle.swift_reordering.proofs.Prelude.{◌≡◌, ℕ, List, [], ◌∷◌, ◌++◌, refl, sym, ◌∙◌, ap, subst, true, false≢true, ScriptView, root_count, CheckpointView, life_of, is_under_way, Block, added, begun, ran, folded, Standing, at_first, after_block, after_blocks, Stands, AllStand, AreCounted, unbegun, all_keep, first_counted, after_push, stage_at, IsOfOther}
 use Rattle.swift_reordering.proofs.Others.{KeepsJob, turn_keeps_job, root_keeps_job, begin_keeps_job}
 
 pub block_keeps_job : (script : ScriptView) (cps : List CheckpointView) (bs : List Block) (b : Block) (t : ℕ) → AllStand script cps [] bs → Stands script cps bs b → IsOfOther t b → is_under_way (stage_at (after_blocks script (at_first script) bs).log t) ≡ true

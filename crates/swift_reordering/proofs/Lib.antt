@@ -1,3 +1,4 @@
+pub mod Prelude
 pub mod Statements
 pub mod Marks
 pub mod Flags

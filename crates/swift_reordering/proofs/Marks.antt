@@ -1,16 +1,8 @@
 -- From an instruction that has a mark each statement is so up to each end of the turn.
-use Rattle.std.proofs.Common.{◌≡◌, ◌⊎◌, ℕ, List, refl, sym, ◌∙◌, ap, Bool, true, false, inl, inr}
-use Rattle.std.specs.Prelude.{Option, Some, None, ◌&&◌, ◌||◌, slice_get}
-use Rattle.std.proofs.lemmas.Bool.{false≢true}
-use Rattle.script_code.specs.Tree.{Code, Operation, Term, followed}
+use Rattle.swift_reordering.proofs.Prelude.{◌≡◌, ◌⊎◌, ℕ, List, refl, sym, ◌∙◌, ap, Bool, true, false, inl, inr, Option, Some, None, ◌&&◌, ◌||◌, slice_get, false≢true, Code, Operation, Term, followed, NextAction, does, tests, first, first_by, first_if, FollowsCode, Act, Instruction, both, action_is, ends_turn, here, instruction_is, turn_all}
 use Rattle.script_code.specs.Tree as code
-use Rattle.script_code.specs.Instructions.{NextAction, does, tests, first, first_by, first_if, FollowsCode}
-use Rattle.script_code.specs.declared.instruction.Act.{Act}
 use Rattle.script_code.specs.declared.instruction.Act.TheVariants as acts
-use Rattle.script_code.specs.declared.instruction.Instruction.{Instruction}
-use Rattle.swift_laws.proofs.HistoriesTurns.{both}
 use Rattle.swift_reordering.specs.Marks.{AreMarked, MarksTell, action_ends, followers_marked, is_marked, may_be_marked, turn_ends}
-use Rattle.swift_reordering.specs.Statements.{action_is, ends_turn, here, instruction_is, turn_all}
 
 -- what follows a statement, and each side of a test; else this
 abbrev rest_of : NextAction → Code → Code

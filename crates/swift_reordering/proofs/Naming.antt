@@ -1,27 +1,10 @@
 -- The turns of a method that neither waits for a root nor cancels it by its name.
-use Rattle.std.proofs.Common.{◌≡◌, ℕ, zero, suc, ℤ, List, [], ◌∷◌, ◌++◌, refl, subst, Bool, true, false}
-use Rattle.std.specs.Prelude.{Option, Some, None, ◌&&◌, pos, if◌then◌else◌, nat_lt, ◌^◌, slice_get, unwrap_or}
-use Rattle.std.specs.List.{AllByRecursion}
-use Rattle.std.proofs.lemmas.Bool.{false≢true}
-use Rattle.swift_types.specs.declared.outcome.Fault.{Fault}
-use Rattle.swift_types.specs.declared.outcome.Fault.TheVariants.{Turns, Invariant}
-use Rattle.swift_types.specs.declared.outcome.Resume.{Resume}
-use Rattle.swift_types.specs.declared.outcome.Resume.TheVariants.{Start, Go, Value, Fault as Raise}
-use Rattle.swift_types.specs.declared.limits.TheConstants.{STEPS}
-use Rattle.script_code.specs.Tree.{Term, CallTarget, Wanted, Operation, Code, followed}
+use Rattle.swift_reordering.proofs.Prelude.{◌≡◌, ℕ, zero, suc, ℤ, List, [], ◌∷◌, ◌++◌, refl, subst, Bool, true, false, Option, Some, None, ◌&&◌, pos, if◌then◌else◌, nat_lt, ◌^◌, slice_get, unwrap_or, AllByRecursion, false≢true, Fault, Turns, Invariant, Resume, Start, Go, Value, STEPS, Term, CallTarget, Wanted, Operation, Code, followed, entry, stands_for, exchanged, ev, evs, is_zero, NextAction, first, ends, does, tests, NumberPlace, Variable, Field, method_code, InvocationView, EffectView, opening, ExitView, calling, waiting, asking_next, closing, yielding, returning, failing, TurnStateView, TurnInputView, AfterStatement, goes, leaves, Played, scene, with_value, invoked, with_invocation, given, make, close_group, wait_for, perform, act, settled, at_limit, on, end_of, caught, raised_by, taken_by, whole_turn, left_by, exits, undoes, all_hold, kept_of, kept, invariants_at, state_at, all_append, both, wanted_spares, cancelled_spares, operation_spares, code_spares, exit_spares, EffectSpares, PlaySpares, TurnsSpare, Cancelled}
+use Rattle.swift_types.specs.declared.outcome.Resume.TheVariants.{Fault as Raise}
 use Rattle.script_code.specs.Tree as code
-use Rattle.script_code.specs.Layout.{entry, stands_for, exchanged, code_at}
-use Rattle.script_code.specs.Value.{ev, evs, is_zero}
-use Rattle.script_code.specs.Instructions.{NextAction, first, ends, does, tests}
-use Rattle.script_code.specs.declared.instruction.NumberPlace.{NumberPlace}
-use Rattle.script_code.specs.declared.instruction.NumberPlace.TheVariants.{Variable, Field}
-use Rattle.swift_script.specs.Scripts.{method_code}
-use Rattle.swift_interpreter.specs.Turn.{InvocationView, EffectView, opening, ExitView, calling, waiting, asking_next, closing, yielding, returning, failing, TurnStateView, TurnInputView, AfterStatement, goes, leaves, Played, scene, with_value, invoked, with_invocation, given, make, close_group, wait_for, perform, act, settled, at_limit, on, end_of, turn, caught, raised_by, taken_by, taken, whole_turn, left_by, exits, undoes, all_hold, kept_of, kept}
+use Rattle.script_code.specs.Layout.{code_at}
+use Rattle.swift_interpreter.specs.Turn.{turn, taken}
 use Rattle.swift_interpreter.specs.Turn as Turn
-use Rattle.swift_turn.specs.Body.{invariants_at, state_at}
-use Rattle.swift_laws.proofs.HistoriesTurns.{all_append, both}
-use Rattle.swift_reordering.specs.Unnamed.{wanted_spares, cancelled_spares, operation_spares, code_spares, exit_spares, EffectSpares, PlaySpares, TurnsSpare}
-use Rattle.script_code.specs.declared.instruction.Cancelled.{Cancelled}
 use Rattle.script_code.specs.declared.instruction.Cancelled.TheVariants as subject
 
 module _ (root : ℕ) where

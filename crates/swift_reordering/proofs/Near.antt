@@ -1,28 +1,7 @@
 -- Digests that are one but for which turns under way have begun, and in which environments.
-use Rattle.std.proofs.Common.{◌≡◌, ℕ, ◌+◌, List, [], ◌∷◌, ◌++◌, refl, sym, ◌∙◌, ap, ap₂, subst, Bool, true, false, append-nil, arith}
-use Rattle.std.specs.Prelude.{Option, Some, None, ◌==◌, ◌||◌, ◌&&◌, ◌-◌, ◌^◌, nat_lt, if◌then◌else◌}
-use Rattle.std.proofs.lemmas.Bool.{eqb-true}
-use Rattle.swift_types.specs.declared.env.Env.{Env}
-use Rattle.swift_types.specs.declared.outcome.Resume.{Resume}
+use Rattle.swift_reordering.proofs.Prelude.{◌≡◌, ℕ, ◌+◌, List, [], ◌∷◌, ◌++◌, refl, sym, ◌∙◌, ap, ap₂, subst, Bool, true, false, append-nil, arith, Option, Some, None, ◌==◌, ◌||◌, ◌&&◌, ◌-◌, ◌^◌, nat_lt, if◌then◌else◌, eqb-true, Env, Resume, Event, Begin, Life, LastJob, JobStage, Given, Begun, Applied, Waits, Asks, Closes, later, tasks_of, life_of, lived, stage_in, opened_by, is_closed, is_cancelled, links_of, is_under_way, is_current, was_given, task, Card, GroupCard, Digest, digest_of, noted, card_noted, group_noted, digest_of-push, life_of_is, blurred_stage, blurred_life, blurred, AreNear, AreWithin, cons_option}
 use Rattle.swift_escalation.specs.declared.waits.PriorityEvent.{PriorityEvent as Link}
-use Rattle.swift_events.specs.declared.event.Event.{Event}
-use Rattle.swift_events.specs.declared.event.Event.TheVariants.{Begin}
-use Rattle.swift_events.specs.declared.life.Life.{Life}
-use Rattle.swift_events.specs.declared.life.LastJob.{LastJob}
-use Rattle.swift_events.specs.declared.life.JobStage.{JobStage}
-use Rattle.swift_events.specs.declared.life.JobStage.TheVariants.{Given, Begun, Applied, Waits, Asks, Closes}
-use Rattle.swift_events.specs.Events.{later, tasks_of}
-use Rattle.swift_events.specs.Lives.{life_of, lived, stage_in}
-use Rattle.swift_events.specs.Relations.{opened_by, is_closed, is_cancelled, links_of}
-use Rattle.swift_history.specs.Checks.{is_under_way, is_current, was_given}
-use Rattle.swift_history.specs.TurnEnds.{task}
-use Rattle.swift_digest.specs.Digests.{Card, GroupCard, Digest, digest_of, noted, card_noted, group_noted}
-use Rattle.swift_digest.proofs.Cards.{digest_of-push}
-use Rattle.swift_digest.proofs.Answers.{life_of_is}
-use Rattle.swift_reordering.specs.Blurred.{blurred_stage, blurred_life, blurred, AreNear}
 use Rattle.swift_reordering.proofs.Sights.{waited, IsSight, seen_on, seen_tasks, seen_life, seen_origin, seen_ending, seen_opened, seen_closed, seen_cancelled, seen_links}
-use Rattle.swift_digest.proofs.Links.{AreWithin}
-use Rattle.std.specs.List.{cons_option}
 
 -- where a turn that has begun counts as one that was given, enough is seen
 

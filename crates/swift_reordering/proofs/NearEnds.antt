@@ -1,15 +1,5 @@
 -- The end of a turn on two logs that differ only in which turns under way have begun, and in which environments.
-use Rattle.std.proofs.Common.{◌≡◌, ◌⊎◌, ℕ, List, ◌++◌, false, refl}
-use Rattle.std.specs.Prelude.{Option}
-use Rattle.std.specs.List.{AllByRecursion}
-use Rattle.swift_types.specs.declared.priority.Priority.{Priority}
-use Rattle.swift_script.specs.Scripts.{ScriptView, root_count}
-use Rattle.swift_interpreter.specs.Turn.{EffectView, ExitView}
-use Rattle.swift_turn.specs.Body.{Advanced}
-use Rattle.swift_events.specs.declared.event.Event.{Event}
-use Rattle.swift_history.specs.TurnEnds.{WaitingTaskView, TurnEnd, turn_end}
-use Rattle.swift_digest.specs.Digests.{AreInPlace}
-use Rattle.swift_reordering.specs.Blurred.{AreNear}
+use Rattle.swift_reordering.proofs.Prelude.{◌≡◌, ◌⊎◌, ℕ, List, ◌++◌, false, refl, Option, AllByRecursion, Priority, ScriptView, root_count, EffectView, ExitView, Advanced, Event, WaitingTaskView, TurnEnd, turn_end, AreInPlace, AreNear}
 use Rattle.swift_reordering.proofs.Near.{blurs, blurs_sight}
 use Rattle.swift_reordering.proofs.SeenEnds as seen
 

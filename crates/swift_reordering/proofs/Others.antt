@@ -1,30 +1,5 @@
 -- A turn changes nothing of the job of another task that has one: neither how far it is, nor what it is.
-use Rattle.std.proofs.Common.{◌≡◌, ◌≢◌, ℕ, List, [], ◌∷◌, ◌++◌, refl, sym, ◌∙◌, ap, subst, Bool, true, inl, inr, append_assoc, append-nil}
-use Rattle.std.specs.Prelude.{Option, Some, None, ◌==◌, if◌then◌else◌}
-use Rattle.std.specs.List.{AllByRecursion}
-use Rattle.std.proofs.lemmas.Bool.{cases_eq, ne_eqb, false≢true}
-use Rattle.swift_types.specs.declared.env.Env.{Env}
-use Rattle.swift_types.specs.declared.outcome.Ending.{Ending}
-use Rattle.swift_types.specs.declared.priority.Priority.{Priority}
-use Rattle.swift_script.specs.Scripts.{ScriptView, root_count, root_priority}
-use Rattle.swift_interpreter.specs.Frames.{FrameView}
-use Rattle.swift_interpreter.specs.Turn.{EffectView, ExitView}
-use Rattle.swift_turn.specs.Body.{Advanced, advanced}
-use Rattle.swift_events.specs.declared.event.Event.{Event}
-use Rattle.swift_events.specs.declared.event.Event.TheVariants.{Root, Begin, Apply, Free, Open, Child, Skip, CancelTask, CancelGroup, Wait, Next, Close, End, Give}
-use Rattle.swift_events.specs.declared.life.Life.{Life}
-use Rattle.swift_events.specs.declared.life.LastJob.{LastJob}
-use Rattle.swift_events.specs.declared.life.JobStage.{JobStage}
-use Rattle.swift_events.specs.Events.{later, task_of}
-use Rattle.swift_events.specs.Lives.{life_of, stage_in, given_in, ending_in}
-use Rattle.swift_events.proofs.LogLemmas.{life_of-push_same, life_of-push_other}
-use Rattle.swift_history.specs.Checks.{is_under_way}
-use Rattle.swift_history.specs.TurnEnds.{JobFacts, TurnEnd, task, gives, root_job, exit_events, log_after, turn_end}
-use Rattle.swift_history.specs.Histories.{added, Standing, after_block, with_jobs, taken, begun_priority, left_as, turn_applied, TurnStands}
-use Rattle.swift_laws.proofs.HistoriesCounted.{AreCounted}
-use Rattle.swift_laws.proofs.HistoriesTurns.{Resting, applied_is, current_is, turn_follows}
-use Rattle.swift_laws.proofs.HistoriesWritten.{IsWritten, keeps_effects, keeps_exit}
-use Rattle.swift_reordering.specs.Blurred.{stage_at}
+use Rattle.swift_reordering.proofs.Prelude.{◌≡◌, ◌≢◌, ℕ, List, [], ◌∷◌, ◌++◌, refl, sym, ◌∙◌, ap, subst, Bool, true, inl, inr, append_assoc, append-nil, Option, Some, None, ◌==◌, if◌then◌else◌, AllByRecursion, cases_eq, ne_eqb, false≢true, Env, Ending, Priority, ScriptView, root_count, root_priority, FrameView, EffectView, ExitView, Advanced, advanced, Event, Root, Begin, Apply, Free, Open, Child, Skip, CancelTask, CancelGroup, Wait, Next, Close, End, Give, Life, LastJob, JobStage, later, task_of, life_of, stage_in, given_in, ending_in, life_of-push_same, life_of-push_other, is_under_way, JobFacts, TurnEnd, task, gives, root_job, exit_events, log_after, turn_end, added, Standing, after_block, with_jobs, taken, begun_priority, left_as, turn_applied, TurnStands, AreCounted, Resting, applied_is, current_is, turn_follows, IsWritten, keeps_effects, keeps_exit, stage_at}
 
 -- what events of other tasks, or that say nothing of a job, leave of it
 

@@ -1,31 +1,12 @@
 -- A turn that looks away plays the same in each environment with the same room, and, where it is settled, with the same flag.
-use Rattle.std.proofs.Common.{◌≡◌, ℕ, zero, suc, ℤ, List, [], ◌∷◌, ◌++◌, refl, ◌∙◌, ap, ap₂, subst, Bool, true, false}
-use Rattle.std.specs.Prelude.{Option, Some, None, ◌||◌, is_some, pos, if◌then◌else◌, nat_lt, ◌^◌, neg_ℤ}
-use Rattle.std.specs.List.{AllByRecursion}
-use Rattle.swift_types.specs.declared.outcome.Fault.{Fault}
-use Rattle.swift_types.specs.declared.outcome.Fault.TheVariants.{Turns, Invariant, Cancelled as WasCancelled}
-use Rattle.swift_types.specs.declared.outcome.Resume.{Resume}
-use Rattle.swift_types.specs.declared.outcome.Resume.TheVariants.{Start, Go, Value, Fault as Raise}
-use Rattle.swift_types.specs.declared.limits.TheConstants.{STEPS}
-use Rattle.swift_types.specs.declared.priority.Priority.{Priority}
-use Rattle.swift_types.specs.declared.env.Env.{Env}
-use Rattle.script_code.specs.Tree.{Term, CallTarget, Wanted, Operation, Code}
+use Rattle.swift_reordering.proofs.Prelude.{◌≡◌, ℕ, zero, suc, ℤ, List, [], ◌∷◌, ◌++◌, refl, ◌∙◌, ap, ap₂, subst, Bool, true, false, Option, Some, None, ◌||◌, is_some, pos, if◌then◌else◌, nat_lt, ◌^◌, neg_ℤ, AllByRecursion, Fault, Turns, Invariant, Resume, Start, Go, Value, STEPS, Priority, Env, Term, CallTarget, Wanted, Operation, Code, Scene, and_then, joined, ev, evs, in_front, is_zero, flag, within, NextAction, first, ends, does, tests, NumberPlace, Variable, Field, ScriptView, FrameView, InvocationView, EffectView, spawning, detaching, opening, adding, cancelling_task, cancelling_group, ExitView, returning, failing, TurnStateView, TurnInputView, AfterStatement, goes, leaves, Played, standing, scene, with_value, invoked, with_invocation, put, given, keep, with_room, numbered, make, add_child, open_group, close_group, cancels, wait_for, perform, act, settled, at_limit, on, end_of, caught, raised_by, received, taken_by, whole_turn, left_by, exits, undoes, all_hold, kept_of, kept, kept_turn, invariants_at, state_at, all_append, both, term_looks_away, terms_look_away, term_if_looks_away, wanted_looks_away, operation_looks_away, code_looks_away, frame_looks_away, ends_turn, Cancelled}
+use Rattle.swift_types.specs.declared.outcome.Fault.TheVariants.{Cancelled as WasCancelled}
+use Rattle.swift_types.specs.declared.outcome.Resume.TheVariants.{Fault as Raise}
 use Rattle.script_code.specs.Tree as code
-use Rattle.script_code.specs.Value.{Scene, and_then, joined, ev, evs, in_front, is_zero, flag, within}
-use Rattle.script_code.specs.Instructions.{NextAction, first, ends, does, tests}
-use Rattle.script_code.specs.declared.instruction.NumberPlace.{NumberPlace}
-use Rattle.script_code.specs.declared.instruction.NumberPlace.TheVariants.{Variable, Field}
-use Rattle.swift_script.specs.Scripts.{ScriptView}
-use Rattle.swift_interpreter.specs.Frames.{FrameView}
-use Rattle.swift_interpreter.specs.Turn.{InvocationView, EffectView, spawning, detaching, opening, adding, cancelling_task, cancelling_group, ExitView, returning, failing, TurnStateView, TurnInputView, AfterStatement, goes, leaves, Played, standing, scene, with_value, invoked, with_invocation, put, given, keep, with_room, numbered, make, add_child, open_group, close_group, cancels, wait_for, perform, act, settled, at_limit, on, end_of, turn, caught, raised_by, received, taken_by, taken, whole_turn, left_by, exits, undoes, all_hold, kept_of, kept}
+use Rattle.swift_interpreter.specs.Turn.{turn, taken}
 use Rattle.swift_interpreter.specs.Turn as Turn
-use Rattle.swift_turn.specs.Body.{kept_turn, invariants_at, state_at}
-use Rattle.swift_laws.proofs.HistoriesTurns.{all_append, both}
-use Rattle.swift_reordering.specs.Away.{term_looks_away, terms_look_away, term_if_looks_away, wanted_looks_away, operation_looks_away, code_looks_away, frame_looks_away}
-use Rattle.swift_reordering.specs.Statements.{ends_turn}
 use Rattle.swift_reordering.proofs.SeenEnds.{TakesNone}
 use Rattle.swift_reordering.proofs.Statements.{FirstIs, first_is}
-use Rattle.script_code.specs.declared.instruction.Cancelled.{Cancelled}
 use Rattle.script_code.specs.declared.instruction.Cancelled.TheVariants as subject
 
 -- expressions

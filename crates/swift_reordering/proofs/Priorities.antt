@@ -1,17 +1,9 @@
 -- A task that has a priority has one once more tasks were added and have waited.
-use Rattle.std.proofs.Common.{◌≡◌, ◌⊎◌, ℕ, zero, suc, ◌<◌, ◌≤◌, List, [], ◌∷◌, ◌++◌, length, refl, sym, ◌∙◌, ap, ap₂, subst, Bool, true, false, inl, inr, arith, slice_index_or}
-use Rattle.std.specs.Prelude.{◌==◌, ◌&&◌, ◌||◌, Contains}
-use Rattle.std.proofs.lemmas.Bool.{cases_Bool, eqb-true, eq-eqb, false≢true}
-use Rattle.std.proofs.lemmas.List.Elements.{Contains-append_right, filter_map-append}
+use Rattle.swift_reordering.proofs.Prelude.{◌≡◌, ◌⊎◌, ℕ, zero, suc, ◌<◌, ◌≤◌, List, [], ◌∷◌, ◌++◌, length, refl, sym, ◌∙◌, ap, ap₂, subst, Bool, true, false, inl, inr, arith, slice_index_or, ◌==◌, ◌&&◌, ◌||◌, Contains, cases_Bool, eqb-true, eq-eqb, false≢true, Contains-append_right, filter_map-append, TaskId, Priority, IsGiven, Leads, Reaches, IsPriority, Event, link_in, links_of}
 use Rattle.swift_types.specs.Priority.{rank}
-use Rattle.swift_types.specs.declared.id.TaskId.{TaskId}
-use Rattle.swift_types.specs.declared.priority.Priority.{Priority}
 use Rattle.swift_escalation.specs.declared.waits.PriorityEvent.{PriorityEvent as Link}
 use Rattle.swift_escalation.specs.declared.waits.PriorityEvent.TheVariants.{Root, Child, Free, Wait}
-use Rattle.swift_escalation.specs.Waits.{IsGiven, Leads, Reaches, IsPriority}
 use Rattle.swift_escalation.proofs.Record.{given_more, reaches_more}
-use Rattle.swift_events.specs.declared.event.Event.{Event}
-use Rattle.swift_events.specs.Relations.{link_in, links_of}
 
 -- elements
 

@@ -1,22 +1,5 @@
 -- Each report in order has one whose turns that look away begin right before they run.
-use Rattle.std.proofs.Common.{◌≡◌, ◌⊎◌, ℕ, zero, suc, ◌+◌, ◌<◌, List, [], ◌∷◌, ◌++◌, map, refl, sym, ◌∙◌, ap, subst, arith, inl, inr, append_assoc, append-nil}
-use Rattle.std.specs.Prelude.{Some, slice_get}
-use Rattle.std.specs.List.{cons_option, range_with_len}
-use Rattle.std.proofs.lemmas.Option.{none-some, same_Some}
-use Rattle.std.proofs.lemmas.List.FromFn.{length-map-range_with_len}
-use Rattle.swift_script.specs.Scripts.{ScriptView, root_count, executor_count}
-use Rattle.swift_journal.specs.Checkpoints.{CheckpointView}
-use Rattle.swift_events.specs.declared.event.Event.{Event}
-use Rattle.swift_events.specs.Events.{tasks_of}
-use Rattle.swift_history.specs.Histories.{Block, added, begun, ran, folded, Standing, at_first, after_blocks, records_of, folded_in, folded_of, roots_of, AllStand, ReportView, IsLegal}
-use Rattle.swift_history.specs.Orderly.{AllAllowed, IsOrderly}
-use Rattle.swift_laws.specs.Laws.{ActorsHaveExecutors}
-use Rattle.swift_laws.proofs.HistoriesGrow.{log_grows}
-use Rattle.swift_laws.proofs.OpenLogs.{tasks_grow}
-use Rattle.swift_digest.proofs.Outcomes.{NoneFolded, made, none_in, not_folded}
-use Rattle.swift_reordering.specs.Blurred.{AreNear}
-use Rattle.swift_reordering.specs.Fused.{BeginLate, EachIsFused, done_by}
-use Rattle.swift_reordering.specs.FusedSteps.{IsFusedStep}
+use Rattle.swift_reordering.proofs.Prelude.{◌≡◌, ◌⊎◌, ℕ, zero, suc, ◌+◌, ◌<◌, List, [], ◌∷◌, ◌++◌, map, refl, sym, ◌∙◌, ap, subst, arith, inl, inr, append_assoc, append-nil, Some, slice_get, cons_option, range_with_len, none-some, same_Some, length-map-range_with_len, ScriptView, root_count, executor_count, CheckpointView, Event, tasks_of, Block, added, begun, ran, folded, Standing, at_first, after_blocks, records_of, folded_in, folded_of, roots_of, AllStand, ReportView, IsLegal, AllAllowed, IsOrderly, ActorsHaveExecutors, log_grows, tasks_grow, NoneFolded, made, none_in, not_folded, AreNear, BeginLate, EachIsFused, done_by, IsFusedStep}
 use Rattle.swift_reordering.proofs.Near.{near_origin, near_ending, near_tasks, near_opened, near_closed}
 use Rattle.swift_reordering.proofs.Walks.{IsCourse, course_none, course_push}
 use Rattle.swift_reordering.proofs.Fusing.{ArePutOff, AnyTask, any_task, AreFew, goes_on, late_append, step_late}

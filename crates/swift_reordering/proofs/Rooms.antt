@@ -1,33 +1,10 @@
 -- Room never binds while there are few tasks: the executors' turns have reserved 16 tasks each at most.
-use Rattle.std.proofs.Common.{◌≡◌, ◌≢◌, ◌⊎◌, ℕ, zero, suc, ◌+◌, ◌*◌, ◌<◌, ◌≤◌, List, [], ◌∷◌, refl, sym, ◌∙◌, ap, subst, Bool, inl, inr, arith}
-use Rattle.std.specs.Prelude.{Option, Some, None, ◌==◌, if◌then◌else◌, sum_by, unwrap_or, map}
-use Rattle.std.specs.List.{range_with_len}
+use Rattle.swift_reordering.proofs.Prelude.{◌≡◌, ◌≢◌, ◌⊎◌, ℕ, zero, suc, ◌+◌, ◌*◌, ◌<◌, ◌≤◌, List, [], ◌∷◌, refl, sym, ◌∙◌, ap, subst, Bool, inl, inr, arith, Option, Some, None, ◌==◌, if◌then◌else◌, sum_by, unwrap_or, map, range_with_len, cases_eq, eq-eqb, ne_eqb, false≢true, sum_by-map-range_with_len_more, Env, TASKS, MADE, ScriptView, root_count, executor_count, actor_executor, method_actor, CheckpointView, Event, Life, JobStage, Given, Begun, Applied, Waits, Asks, Closes, tasks_of, life_of, room_held, room_in, reserved_of, room_of, is_begun, JobFacts, Block, added, begun, ran, folded, Standing, at_first, after_block, after_blocks, Stands, job_executor, ActorsHaveExecutors, all_begun, after_push, stage_at, unborn_without}
 use Rattle.std.proofs.Math.Nat.{min-eq_left, min-le_left}
-use Rattle.std.proofs.lemmas.Bool.{cases_eq, eq-eqb, ne_eqb, false≢true}
-use Rattle.std.proofs.lemmas.List.FromFn.{sum_by-map-range_with_len_more}
-use Rattle.swift_types.specs.declared.env.Env.{Env}
-use Rattle.swift_types.specs.declared.limits.TheConstants.{TASKS, MADE}
-use Rattle.swift_script.specs.Scripts.{ScriptView, root_count, executor_count, actor_executor, method_actor}
-use Rattle.swift_journal.specs.Checkpoints.{CheckpointView}
-use Rattle.swift_events.specs.declared.event.Event.{Event}
-use Rattle.swift_events.specs.declared.life.Life.{Life}
-use Rattle.swift_events.specs.declared.life.JobStage.{JobStage}
-use Rattle.swift_events.specs.declared.life.JobStage.TheVariants.{Given, Begun, Applied, Waits, Asks, Closes}
-use Rattle.swift_events.specs.Events.{tasks_of}
-use Rattle.swift_events.specs.Lives.{life_of, room_held, room_in}
-use Rattle.swift_events.specs.Room.{lives_of, reserved_of, room_of}
-use Rattle.swift_history.specs.Checks.{is_begun}
-use Rattle.swift_history.specs.TurnEnds.{JobFacts}
-use Rattle.swift_history.specs.Histories.{Block, added, begun, ran, folded, Standing, at_first, after_block, after_blocks, Stands}
-use Rattle.swift_history.specs.Orderly.{job_executor}
-use Rattle.swift_laws.specs.Laws.{ActorsHaveExecutors}
-use Rattle.swift_laws.proofs.HistoriesBegun.{all_begun}
-use Rattle.swift_laws.proofs.HistoriesTurns.{after_push}
-use Rattle.swift_reordering.specs.Blurred.{stage_at}
+use Rattle.swift_events.specs.Room.{lives_of}
 use Rattle.swift_reordering.proofs.Walks.{IsCourse, along, course_none}
 use Rattle.swift_reordering.proofs.Seats.{HasBegun, OnlyStay, turn_stays, root_stays, begin_other, all_apart}
 use Rattle.swift_reordering.proofs.Framed.{all_framed, has_root, seat_of}
-use Rattle.swift_events.proofs.LogLemmas.{unborn_without}
 
 -- what the first n of some numbers make in all
 abbrev pub total : (ℕ → ℕ) → ℕ → ℕ

@@ -1,36 +1,5 @@
 -- Silent turns run ahead of a history: each step that may follow the history may follow after them, or is one of them.
-use Rattle.std.proofs.Common.{◌≡◌, ◌≢◌, ◌⊎◌, ℕ, List, [], ◌∷◌, ◌++◌, map, refl, sym, ◌∙◌, ap, ap₂, subst, subst₂, Bool, true, inl, inr, append_assoc, append-nil}
-use Rattle.std.specs.Prelude.{Option, Some, is_some, ◌||◌}
-use Rattle.std.specs.Option.{option_map}
-use Rattle.std.proofs.lemmas.Bool.{cases_eq}
-use Rattle.swift_types.specs.declared.env.Env.{Env}
-use Rattle.swift_script.specs.Scripts.{ScriptView, root_count, executor_invariants}
-use Rattle.swift_interpreter.specs.Frames.{FrameView}
-use Rattle.swift_interpreter.specs.Turn.{ExitView, all_hold, calling, waiting, asking_next, closing, yielding, returning, failing}
-use Rattle.swift_journal.specs.Records.{RecordView}
-use Rattle.swift_journal.specs.Checkpoints.{CheckpointView}
-use Rattle.swift_events.specs.declared.life.Life.{Life}
-use Rattle.swift_events.specs.declared.life.JobStage.TheVariants.{Given}
-use Rattle.swift_events.specs.Lives.{life_of}
-use Rattle.swift_history.specs.Checks.{is_under_way}
-use Rattle.swift_history.specs.TurnEnds.{JobFacts, task}
-use Rattle.swift_history.specs.Histories.{Block, added, begun, ran, folded, Standing, at_first, after_blocks, checkpoint_at, Stands, AllStand}
-use Rattle.swift_history.specs.Orderly.{AllAllowed, IsOrderly}
-use Rattle.swift_laws.proofs.HistoriesTurns.{current_is}
-use Rattle.swift_digest.specs.Plans.{FramePlan, JobPlan, plan_of, caller_plan, frame_plans, job_plan}
-use Rattle.swift_digest.specs.Futures.{LeadAlike, IsLike, AreLike}
-use Rattle.swift_digest.proofs.Determined.{determined, determined_exit}
-use Rattle.swift_digest.proofs.Lines.{one_env}
-use Rattle.swift_digest.proofs.Outcomes.{lead_on, orderly_too}
-use Rattle.swift_digest.proofs.SameLogs.{same_life}
-use Rattle.swift_digest.proofs.SameStands.{all_push, block_stands, lead_push}
-use Rattle.swift_reordering.specs.Away.{turn_looks_away}
-use Rattle.swift_reordering.specs.Blurred.{stage_at}
-use Rattle.swift_reordering.specs.RunAhead.{OneTurn, after_turn, after_turns, RunsSilently, AllRunSilently, LeadAsOne}
-use Rattle.swift_reordering.specs.Silent.{goes_on_alone, code_is_silent, frame_is_silent}
-use Rattle.swift_reordering.specs.SilentTurns.{Commutes}
-use Rattle.swift_reordering.specs.Unnamed.{IsApart, ends_task}
-use Rattle.swift_reordering.specs.Waiting.{IsOfOther}
+use Rattle.swift_reordering.proofs.Prelude.{◌≡◌, ◌≢◌, ◌⊎◌, ℕ, List, [], ◌∷◌, ◌++◌, map, refl, sym, ◌∙◌, ap, ap₂, subst, subst₂, Bool, true, inl, inr, append_assoc, append-nil, Option, Some, is_some, ◌||◌, option_map, cases_eq, Env, ScriptView, root_count, executor_invariants, FrameView, ExitView, all_hold, calling, waiting, asking_next, closing, yielding, returning, failing, RecordView, CheckpointView, Life, Given, life_of, is_under_way, JobFacts, task, Block, added, begun, ran, folded, Standing, at_first, after_blocks, checkpoint_at, Stands, AllStand, AllAllowed, IsOrderly, current_is, FramePlan, JobPlan, plan_of, caller_plan, frame_plans, job_plan, LeadAlike, IsLike, AreLike, determined, determined_exit, one_env, lead_on, orderly_too, same_life, all_push, block_stands, lead_push, turn_looks_away, stage_at, OneTurn, after_turn, after_turns, RunsSilently, AllRunSilently, LeadAsOne, goes_on_alone, code_is_silent, frame_is_silent, Commutes, IsApart, ends_task, IsOfOther}
 use Rattle.swift_reordering.proofs.Bringing.{number_one}
 use Rattle.swift_reordering.proofs.Closed.{same_away}
 use Rattle.swift_reordering.proofs.Beside.{other_life}

@@ -1,31 +1,7 @@
 -- Executors run one turn at a time: two tasks whose turns have begun are at different executors.
-use Rattle.std.proofs.Common.{◌≡◌, ◌≢◌, ℕ, List, [], ◌∷◌, ◌++◌, refl, sym, ◌∙◌, ap, subst, Bool, true, false, inl, inr, append_assoc, append-nil}
-use Rattle.std.specs.Prelude.{Option, Some, None, ◌==◌, if◌then◌else◌}
-use Rattle.std.proofs.lemmas.Bool.{cases_Bool, cases_eq, eq-eqb, eqb-true, false≢true, ne_eqb}
-use Rattle.swift_types.specs.declared.env.Env.{Env}
-use Rattle.swift_types.specs.declared.priority.Priority.{Priority}
-use Rattle.swift_script.specs.Scripts.{ScriptView, root_count, root_priority}
-use Rattle.swift_interpreter.specs.Frames.{FrameView}
-use Rattle.swift_interpreter.specs.Turn.{EffectView, ExitView}
-use Rattle.swift_turn.specs.Body.{Advanced, advanced}
-use Rattle.swift_journal.specs.Checkpoints.{CheckpointView}
-use Rattle.swift_events.specs.declared.event.Event.{Event}
-use Rattle.swift_events.specs.declared.event.Event.TheVariants.{Root, Begin, Apply, Free, Open, Child, Skip, CancelTask, CancelGroup, Wait, Next, Close, End, Give}
-use Rattle.swift_events.specs.declared.life.JobStage.{JobStage}
-use Rattle.swift_events.specs.declared.life.JobStage.TheVariants.{Given, Begun, Applied}
-use Rattle.swift_events.specs.Events.{later, task_of}
-use Rattle.swift_events.specs.Lives.{life_of, stage_in}
-use Rattle.swift_history.specs.Checks.{is_begun}
-use Rattle.swift_history.specs.TurnEnds.{JobFacts, TurnEnd, task, gives, root_job, root_events, exit_events, log_after, turn_end}
-use Rattle.swift_history.specs.Histories.{Block, added, begun, ran, folded, Standing, at_first, after_block, after_blocks, with_jobs, taken, begun_priority, left_as, turn_applied, TurnStands, Stands}
-use Rattle.swift_history.specs.Orderly.{IsOrderly, job_executor}
-use Rattle.swift_laws.proofs.HistoriesTurns.{after_push, applied_is}
-use Rattle.swift_laws.proofs.HistoriesGrow.{begins, keeps_applied, keeps_turn}
-use Rattle.swift_reordering.specs.Blurred.{stage_at}
+use Rattle.swift_reordering.proofs.Prelude.{◌≡◌, ◌≢◌, ℕ, List, [], ◌∷◌, ◌++◌, refl, sym, ◌∙◌, ap, subst, Bool, true, false, inl, inr, append_assoc, append-nil, Option, Some, None, ◌==◌, if◌then◌else◌, cases_Bool, cases_eq, eq-eqb, eqb-true, false≢true, ne_eqb, Env, Priority, ScriptView, root_count, root_priority, FrameView, EffectView, ExitView, Advanced, advanced, CheckpointView, Event, Root, Begin, Apply, Free, Open, Child, Skip, CancelTask, CancelGroup, Wait, Next, Close, End, Give, JobStage, Given, Begun, Applied, later, task_of, life_of, stage_in, is_begun, JobFacts, TurnEnd, task, gives, root_job, root_events, exit_events, log_after, turn_end, Block, added, begun, ran, folded, Standing, at_first, after_block, after_blocks, with_jobs, taken, begun_priority, left_as, turn_applied, TurnStands, Stands, IsOrderly, job_executor, after_push, applied_is, begins, keeps_applied, keeps_turn, stage_at, unborn_without, Life}
 use Rattle.swift_reordering.proofs.SeenEnds.{stage_push}
 use Rattle.swift_reordering.proofs.Walks.{IsCourse, along}
-use Rattle.swift_events.proofs.LogLemmas.{unborn_without}
-use Rattle.swift_events.specs.declared.life.Life.{Life}
 
 -- whether the turn of a task has begun
 abbrev pub HasBegun : List Event → ℕ → Type 0

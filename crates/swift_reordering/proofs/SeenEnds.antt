@@ -1,34 +1,8 @@
 -- The end of a turn on two logs that are one as far as one looks at lives.
-use Rattle.std.proofs.Common.{◌≡◌, ℕ, ◌+◌, List, [], ◌∷◌, ◌++◌, length, replicate, refl, sym, ◌∙◌, ap, ap₂, subst, subst₂, Bool, true, false, inl, inr, append-nil, append_assoc}
-use Rattle.std.specs.Prelude.{◌⊎◌, Option, Some, None, ◌&&◌, ◌==◌, is_some, if◌then◌else◌, unwrap_or, slice_get}
-use Rattle.swift_types.specs.declared.id.TaskId.{TaskId}
-use Rattle.swift_types.specs.declared.outcome.Ending.{Ending}
-use Rattle.swift_types.specs.declared.outcome.Resume.{Resume}
-use Rattle.swift_types.specs.declared.priority.Priority.{Priority}
-use Rattle.swift_types.specs.declared.priority.Priority.TheVariants.{Background}
+use Rattle.swift_reordering.proofs.Prelude.{◌≡◌, ℕ, ◌+◌, List, [], ◌∷◌, ◌++◌, length, replicate, refl, sym, ◌∙◌, ap, ap₂, subst, subst₂, Bool, true, false, inl, inr, append-nil, append_assoc, ◌⊎◌, Option, Some, None, ◌&&◌, ◌==◌, is_some, if◌then◌else◌, unwrap_or, slice_get, TaskId, Ending, Resume, Priority, Background, ScriptView, root_count, TaskName, Own, EffectView, spawning, detaching, opening, adding, cancelling_task, cancelling_group, ExitView, calling, waiting, asking_next, closing, yielding, returning, failing, Step, Run, Ended, Await, TaskView, Advanced, Event, Apply, Free, Open, Child, Skip, CancelTask, Life, JobStage, Given, Begun, Applied, Waits, Asks, Closes, later, task_of, life_of, stage_in, life_of-push_same, life_of-push_other, AllByRecursion, cases_eq, eq-eqb, ne_eqb, waiters_of, parent_of, JobFacts, WaitingTaskView, AfterTurn, TurnEnd, task, first_job, named_task, is_left_out, cancel_events, effect_events, effect_jobs, log_after, jobs_made, next_events, wait_events, exit_events, wait_resume, next_resume, close_resume, exit_resume, gives, wake_each, wake_closing, wake_owner, wake_parent, wake_all, turn_end, resume_of, AreInPlace, new_prefix, stage_at}
 use Rattle.swift_groups.specs.declared.answer.Close.{Close as Closing}
-use Rattle.swift_script.specs.Scripts.{ScriptView, root_count}
-use Rattle.swift_interpreter.specs.declared.effect.TaskName.{TaskName}
-use Rattle.swift_interpreter.specs.declared.effect.TaskName.TheVariants.{Root as RootName, Own}
-use Rattle.swift_interpreter.specs.Turn.{EffectView, spawning, detaching, opening, adding, cancelling_task, cancelling_group, ExitView, calling, waiting, asking_next, closing, yielding, returning, failing}
-use Rattle.swift_turn.specs.declared.step.Step.{Step}
-use Rattle.swift_turn.specs.declared.step.Step.TheVariants.{Run, Ended, Await}
-use Rattle.swift_turn.specs.Body.{TaskView, Advanced}
-use Rattle.swift_events.specs.declared.event.Event.{Event}
-use Rattle.swift_events.specs.declared.event.Event.TheVariants.{Apply, Free, Open, Child, Skip, CancelTask}
-use Rattle.swift_events.specs.declared.life.Life.{Life}
-use Rattle.swift_events.specs.declared.life.JobStage.{JobStage}
-use Rattle.swift_events.specs.declared.life.JobStage.TheVariants.{Given, Begun, Applied, Waits, Asks, Closes}
-use Rattle.swift_events.specs.Events.{later, task_of}
-use Rattle.swift_events.specs.Lives.{life_of, stage_in}
-use Rattle.swift_events.proofs.LogLemmas.{life_of-push_same, life_of-push_other}
-use Rattle.std.specs.List.{AllByRecursion}
-use Rattle.std.proofs.lemmas.Bool.{cases_eq, eq-eqb, ne_eqb}
-use Rattle.swift_events.specs.Relations.{waiters_of, parent_of}
-use Rattle.swift_history.specs.TurnEnds.{JobFacts, WaitingTaskView, AfterTurn, TurnEnd, task, first_job, named_task, is_left_out, cancel_events, effect_events, effect_jobs, log_after, jobs_made, next_events, wait_events, exit_events, wait_resume, next_resume, close_resume, exit_resume, gives, wake_each, wake_closing, wake_owner, wake_parent, wake_all, followed, turn_end, resume_of}
-use Rattle.swift_digest.specs.Digests.{AreInPlace}
-use Rattle.swift_digest.proofs.SameLogs.{new_prefix}
-use Rattle.swift_reordering.specs.Blurred.{stage_at}
+use Rattle.swift_interpreter.specs.declared.effect.TaskName.TheVariants.{Root as RootName}
+use Rattle.swift_history.specs.TurnEnds.{followed}
 use Rattle.swift_reordering.proofs.Sights.{waited, ChildrenShown, IsShown, IsSight, AreSeen, seen_on, seen_tasks, seen_ending, seen_waits, seen_parent, seen_own, seen_opened, seen_waiters, seen_next, seen_close, seen_cancelled_group}
 
 -- what an owner goes on with depends only on what it waits for

@@ -1,26 +1,6 @@
 -- Digests that are one as far as one looks at lives: which parts of a life count may depend on the task.
-use Rattle.std.proofs.Common.{◌≡◌, inl, inr, ℕ, zero, suc, ◌+◌, List, [], ◌∷◌, ◌++◌, refl, sym, ◌∙◌, ap, ap₂, subst, Bool, true, false}
-use Rattle.std.specs.Prelude.{Option, Some, None, ◌==◌, ◌||◌, is_some, not, if◌then◌else◌}
-use Rattle.std.specs.List.{AllByRecursion, filter}
-use Rattle.swift_types.specs.declared.id.TaskId.{TaskId}
-use Rattle.swift_types.specs.declared.outcome.Ending.{Ending}
-use Rattle.swift_groups.specs.Groups.{GroupView}
-use Rattle.swift_groups.specs.Next.{next_of}
+use Rattle.swift_reordering.proofs.Prelude.{◌≡◌, inl, inr, ℕ, zero, suc, ◌+◌, List, [], ◌∷◌, ◌++◌, refl, sym, ◌∙◌, ap, ap₂, subst, Bool, true, false, Option, Some, None, ◌==◌, ◌||◌, is_some, not, if◌then◌else◌, AllByRecursion, filter, TaskId, Ending, GroupView, next_of, Event, Life, JobStage, Waits, Asks, Closes, task_of, tasks_of, is_made, life_of, lived, own_tasks, waiters_of, opened_by, is_closed, group_of, parent_by, parent_of, of_parent, is_cancelled, is_cancelled_group, links_of, of_parent_same, next_events, Digest, digest_of, all_noted, noted, card_noted, group_noted, one_if, AreInPlace, HasLink, parent_in, group_in, close_in, cancelled_in, is_cancelled_in, is_cancelled_group_in, digest_of-append, tasks_of_is, life_of_is, own_tasks_is, opened_by_is, waiters_of_is, is_closed_is, group_of_is, close_of_is, is_cancelled_is, is_cancelled_group_is, AreWithin, link_in_digest, link_in_log, asked_open, new_prefix}
 use Rattle.swift_groups.specs.Close.{close_among, close_of}
-use Rattle.swift_events.specs.declared.event.Event.{Event}
-use Rattle.swift_events.specs.declared.life.Life.{Life}
-use Rattle.swift_events.specs.declared.life.JobStage.{JobStage}
-use Rattle.swift_events.specs.declared.life.JobStage.TheVariants.{Waits, Asks, Closes}
-use Rattle.swift_events.specs.Events.{task_of, tasks_of, is_made}
-use Rattle.swift_events.specs.Lives.{life_of, lived}
-use Rattle.swift_events.specs.Relations.{own_tasks, waiters_of, opened_by, is_closed, group_of, parent_by, parent_of, of_parent, is_cancelled, is_cancelled_group, links_of}
-use Rattle.swift_events.proofs.Cancels.{of_parent_same}
-use Rattle.swift_history.specs.TurnEnds.{next_events}
-use Rattle.swift_digest.specs.Digests.{Digest, digest_of, all_noted, noted, card_noted, group_noted, one_if, AreInPlace, HasLink, parent_in, group_in, close_in, cancelled_in, is_cancelled_in, is_cancelled_group_in}
-use Rattle.swift_digest.proofs.Cards.{digest_of-append}
-use Rattle.swift_digest.proofs.Answers.{tasks_of_is, life_of_is, own_tasks_is, opened_by_is, waiters_of_is, is_closed_is, group_of_is, close_of_is, is_cancelled_is, is_cancelled_group_is}
-use Rattle.swift_digest.proofs.Links.{AreWithin, link_in_digest, link_in_log}
-use Rattle.swift_digest.proofs.SameLogs.{asked_open, new_prefix}
 
 -- of how far a job is, only what its task waits for
 abbrev pub waited : Option JobStage → Option JobStage

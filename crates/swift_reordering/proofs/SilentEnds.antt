@@ -1,32 +1,8 @@
 -- A search that takes silent turns alone has the outcome of each report.
-use Rattle.std.proofs.Common.{◌≡◌, ◌⊎◌, ℕ, ℤ, List, [], ◌∷◌, ◌++◌, length, sym, ◌∙◌, ap, subst, true, inl, inr, append-nil, arith, Bool, refl}
-use Rattle.std.specs.Prelude.{is_some, slice_get, Contains}
-use Rattle.std.specs.List.{AllByRecursion, cons_option}
-use Rattle.std.proofs.lemmas.Option.{slice_get_cases}
-use Rattle.swift_script.specs.Scripts.{ScriptView, root_count, executor_invariants}
-use Rattle.swift_interpreter.specs.Turn.{ExitView, all_hold}
-use Rattle.swift_journal.specs.Checkpoints.{CheckpointView}
-use Rattle.swift_journal.specs.Records.{RecordView}
+use Rattle.swift_reordering.proofs.Prelude.{◌≡◌, ◌⊎◌, ℕ, ℤ, List, [], ◌∷◌, ◌++◌, length, sym, ◌∙◌, ap, subst, true, inl, inr, append-nil, arith, Bool, refl, is_some, slice_get, Contains, AllByRecursion, cons_option, slice_get_cases, ScriptView, root_count, executor_invariants, ExitView, all_hold, CheckpointView, RecordView, Event, tasks_of, Ending, is_under_way, Block, added, begun, ran, folded, at_first, after_blocks, checkpoint_at, folded_in, folded_of, AllStand, ReportView, IsLegal, IsOrderlyLegal, ActorsHaveExecutors, AreCounted, unbegun, all_keep, first_counted, LeadAlike, IsNotFolded, IsOutcome, FoldsNone, StartsFresh, state_of, Made, NoneFolded, made, none_in, not_folded, outcome_too, lead_on, all_push, stage_at, IsFused, RoomNeverBinds, no_env, done_in, done_by, MayStep, HasExit, AreClosedSilently, InvariantsStart, ClosedSilentlyHasEachOutcome, ClosedSilentlyHasEachExit}
 use Rattle.swift_reordering.proofs.Priorities.{cons_cases, cons_here, cons_more, none_there}
-use Rattle.swift_events.specs.declared.event.Event.{Event}
-use Rattle.swift_events.specs.Events.{tasks_of}
 use Rattle.swift_events.specs.declared.life.Origin.{Origin}
-use Rattle.swift_types.specs.declared.outcome.Ending.{Ending}
-use Rattle.swift_history.specs.Checks.{is_under_way}
-use Rattle.swift_history.specs.Histories.{Block, added, begun, ran, folded, at_first, after_blocks, checkpoint_at, folded_in, folded_of, AllStand, ReportView, IsLegal}
-use Rattle.swift_history.specs.Orderly.{IsOrderlyLegal}
-use Rattle.swift_laws.specs.Laws.{ActorsHaveExecutors}
-use Rattle.swift_laws.proofs.HistoriesCounted.{AreCounted, unbegun}
-use Rattle.swift_laws.proofs.HistoriesTurns.{all_keep, first_counted}
 use Rattle.swift_laws.proofs.OpenReports.{any_sound}
-use Rattle.swift_digest.specs.Futures.{LeadAlike}
-use Rattle.swift_digest.specs.Explored.{IsNotFolded, IsOutcome, FoldsNone, StartsFresh, state_of}
-use Rattle.swift_digest.proofs.Outcomes.{Made, NoneFolded, made, none_in, not_folded, outcome_too, lead_on}
-use Rattle.swift_digest.proofs.SameStands.{all_push}
-use Rattle.swift_reordering.specs.Blurred.{stage_at}
-use Rattle.swift_reordering.specs.Fused.{IsFused, RoomNeverBinds, no_env, done_in, done_by}
-use Rattle.swift_reordering.specs.FusedSteps.{MayStep, HasExit}
-use Rattle.swift_reordering.specs.SilentSearch.{AreClosedSilently, InvariantsStart, ClosedSilentlyHasEachOutcome, ClosedSilentlyHasEachExit}
 use Rattle.swift_reordering.proofs.Walks.{IsCourse}
 use Rattle.swift_reordering.proofs.Reports.{each_fused}
 use Rattle.swift_reordering.proofs.SilentWalk.{IsFinished, GoesToEnd, StepKept, StepsSilently, other_end, walk}

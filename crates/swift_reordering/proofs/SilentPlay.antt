@@ -1,28 +1,9 @@
 -- A silent turn plays the same on all fields and with any room, and leaves the fields.
-use Rattle.std.proofs.Common.{◌≡◌, ℕ, zero, suc, ℤ, List, [], ◌∷◌, refl, sym, ap, ap₂, subst, subst₂, Bool, true, false}
-use Rattle.std.specs.Prelude.{Option, Some, None, ◌||◌, is_some, pos, if◌then◌else◌, neg_ℤ, slice_set}
-use Rattle.std.proofs.lemmas.Bool.{false≢true}
-use Rattle.swift_types.specs.declared.outcome.Fault.{Fault}
-use Rattle.swift_types.specs.declared.outcome.Fault.TheVariants.{Turns, Steps}
-use Rattle.swift_types.specs.declared.outcome.Resume.{Resume}
-use Rattle.swift_types.specs.declared.outcome.Resume.TheVariants.{Start, Go, Value, Fault as Raise}
-use Rattle.swift_types.specs.declared.limits.TheConstants.{STEPS}
-use Rattle.swift_types.specs.declared.env.Env.{Env}
-use Rattle.script_code.specs.Tree.{Term, CallTarget, Wanted, Operation, Code}
+use Rattle.swift_reordering.proofs.Prelude.{◌≡◌, ℕ, zero, suc, ℤ, List, [], ◌∷◌, refl, sym, ap, ap₂, subst, subst₂, Bool, true, false, Option, Some, None, ◌||◌, is_some, pos, if◌then◌else◌, neg_ℤ, slice_set, false≢true, Fault, Turns, Steps, Resume, Start, Go, Value, STEPS, Env, Term, CallTarget, Wanted, Operation, Code, code_at, Scene, and_then, joined, within, flag, ev, evs, in_front, is_zero, NextAction, first, ends, does, tests, NumberPlace, Variable, Field, ScriptView, method_code, FrameView, InvocationView, EffectView, ExitView, returning, failing, TurnStateView, TurnInputView, AfterStatement, goes, leaves, Played, standing, scene, with_value, invoked, with_invocation, given, close_group, wait_for, perform, act, settled, at_limit, on, end_of, caught, raised_by, received, taken_by, whole_turn, left_by, exits, undoes, all_hold, kept_of, kept, kept_turn, invariants_at, state_at, both, term_is_own, terms_are_own, term_if_is_own, wanted_is_own, place_is_own, operation_is_silent, code_is_silent, ends_turn}
+use Rattle.swift_types.specs.declared.outcome.Resume.TheVariants.{Fault as Raise}
 use Rattle.script_code.specs.Tree as code
-use Rattle.script_code.specs.Layout.{code_at}
-use Rattle.script_code.specs.Value.{Scene, and_then, joined, within, flag, ev, evs, in_front, is_zero}
-use Rattle.script_code.specs.Instructions.{NextAction, first, ends, does, tests}
-use Rattle.script_code.specs.declared.instruction.NumberPlace.{NumberPlace}
-use Rattle.script_code.specs.declared.instruction.NumberPlace.TheVariants.{Variable, Field}
-use Rattle.swift_script.specs.Scripts.{ScriptView, method_code}
-use Rattle.swift_interpreter.specs.Frames.{FrameView}
-use Rattle.swift_interpreter.specs.Turn.{InvocationView, EffectView, ExitView, returning, failing, TurnStateView, TurnInputView, AfterStatement, goes, leaves, Played, standing, scene, with_value, invoked, with_invocation, given, close_group, wait_for, perform, act, settled, at_limit, on, end_of, turn, caught, raised_by, received, taken_by, taken, whole_turn, left_by, exits, undoes, all_hold, kept_of, kept}
+use Rattle.swift_interpreter.specs.Turn.{turn, taken}
 use Rattle.swift_interpreter.specs.Turn as Turn
-use Rattle.swift_turn.specs.Body.{kept_turn, invariants_at, state_at}
-use Rattle.swift_laws.proofs.HistoriesTurns.{both}
-use Rattle.swift_reordering.specs.Silent.{term_is_own, terms_are_own, term_if_is_own, wanted_is_own, place_is_own, operation_is_silent, code_is_silent}
-use Rattle.swift_reordering.specs.Statements.{ends_turn}
 use Rattle.swift_reordering.proofs.Statements.{FirstIs, first_is}
 
 -- expressions

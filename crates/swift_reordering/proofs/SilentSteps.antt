@@ -1,43 +1,7 @@
 -- Where a silent turn leads: only the job of its own task changes, or that task has ended.
-use Rattle.std.proofs.Common.{◌≡◌, ◌≢◌, ℕ, ℤ, ◌+◌, List, [], ◌∷◌, ◌++◌, length, refl, sym, ◌∙◌, ap, ap₂, subst, Bool, true, false, append-nil}
-use Rattle.std.specs.Prelude.{Option, Some, None, ◌==◌, ◌||◌, nat_lt, if◌then◌else◌}
-use Rattle.std.specs.List.{cons_option}
-use Rattle.std.proofs.lemmas.Bool.{eq-eqb, eqb-true, ne_eqb, false≢true}
-use Rattle.swift_types.specs.declared.env.Env.{Env}
-use Rattle.swift_types.specs.declared.id.TaskId.{TaskId}
-use Rattle.swift_types.specs.declared.outcome.Ending.{Ending}
+use Rattle.swift_reordering.proofs.Prelude.{◌≡◌, ◌≢◌, ℕ, ℤ, ◌+◌, List, [], ◌∷◌, ◌++◌, length, refl, sym, ◌∙◌, ap, ap₂, subst, Bool, true, false, append-nil, Option, Some, None, ◌==◌, ◌||◌, nat_lt, if◌then◌else◌, cons_option, eq-eqb, eqb-true, ne_eqb, false≢true, Env, TaskId, Ending, FRAMES, Depth, Resume, Start, Go, Value, Priority, ScriptView, executor_invariants, FrameView, InvocationView, EffectView, ExitView, calling, waiting, asking_next, closing, yielding, returning, failing, Played, all_hold, TaskView, Advanced, advanced, called, invariants_at, RecordView, turn_of, replay, CheckpointView, Event, Begin, Apply, End, Give, Life, JobStage, Given, Begun, Applied, life_of, parent_of, waiters_of, life_of-push_same, parent_of-push, waiters_of-push_none, JobFacts, WaitingTaskView, AfterTurn, TurnEnd, task, gives, resume_at, resume_of, wake_all, wake_each, wake_parent, turn_end, Block, begun, ran, Standing, at_first, after_block, after_blocks, with_jobs, taken, begun_priority, left_as, fields_of, after_push, applied_is, digest_of, parent_of_is, waiters_of_is, fields_push, stage_at, IsSilentTurn, goes_on_alone, IsApart, ends_task, job_looks_away, turn_looks_away}
 use Rattle.swift_types.specs.declared.outcome.Ending.TheVariants as ending
-use Rattle.swift_types.specs.declared.limits.TheConstants.{FRAMES}
-use Rattle.swift_types.specs.declared.outcome.Fault.TheVariants.{Depth}
-use Rattle.swift_types.specs.declared.outcome.Resume.{Resume}
-use Rattle.swift_types.specs.declared.outcome.Resume.TheVariants.{Start, Go, Value, Fault as Raise}
-use Rattle.swift_types.specs.declared.priority.Priority.{Priority}
-use Rattle.swift_script.specs.Scripts.{ScriptView, executor_invariants}
-use Rattle.swift_interpreter.specs.Frames.{FrameView}
-use Rattle.swift_interpreter.specs.Turn.{InvocationView, EffectView, ExitView, calling, waiting, asking_next, closing, yielding, returning, failing, Played, all_hold}
-use Rattle.swift_turn.specs.Body.{TaskView, Advanced, advanced, called, invariants_at}
-use Rattle.swift_journal.specs.Records.{RecordView}
-use Rattle.swift_journal.specs.Replay.{turn_of, replay}
-use Rattle.swift_journal.specs.Checkpoints.{CheckpointView}
-use Rattle.swift_events.specs.declared.event.Event.{Event}
-use Rattle.swift_events.specs.declared.event.Event.TheVariants.{Begin, Apply, End, Give}
-use Rattle.swift_events.specs.declared.life.Life.{Life}
-use Rattle.swift_events.specs.declared.life.JobStage.{JobStage}
-use Rattle.swift_events.specs.declared.life.JobStage.TheVariants.{Given, Begun, Applied}
-use Rattle.swift_events.specs.Lives.{life_of}
-use Rattle.swift_events.specs.Relations.{parent_of, waiters_of}
-use Rattle.swift_events.proofs.LogLemmas.{life_of-push_same, parent_of-push, waiters_of-push_none}
-use Rattle.swift_history.specs.TurnEnds.{JobFacts, WaitingTaskView, AfterTurn, TurnEnd, task, gives, resume_at, resume_of, wake_all, wake_each, wake_parent, turn_end}
-use Rattle.swift_history.specs.Histories.{Block, begun, ran, Standing, at_first, after_block, after_blocks, with_jobs, taken, begun_priority, left_as, fields_of}
-use Rattle.swift_laws.proofs.HistoriesTurns.{after_push, applied_is}
-use Rattle.swift_digest.specs.Digests.{digest_of}
-use Rattle.swift_digest.proofs.Answers.{parent_of_is, waiters_of_is}
-use Rattle.swift_digest.proofs.SameStands.{fields_push}
-use Rattle.swift_reordering.specs.Blurred.{stage_at}
-use Rattle.swift_reordering.specs.SilentTurns.{IsSilentTurn}
-use Rattle.swift_reordering.specs.Silent.{goes_on_alone}
-use Rattle.swift_reordering.specs.Unnamed.{IsApart, ends_task}
-use Rattle.swift_reordering.specs.Away.{job_looks_away, turn_looks_away}
+use Rattle.swift_types.specs.declared.outcome.Resume.TheVariants.{Fault as Raise}
 use Rattle.swift_reordering.proofs.Apart.{Apart, LeavesApart, apart_push}
 use Rattle.swift_reordering.proofs.Sights.{waited, AreSeen, seen_cancelled}
 use Rattle.swift_reordering.proofs.Beside.{IsOfJob, besides, besides_sight, seen_local}

@@ -1,30 +1,5 @@
 -- A search that takes a silent turn alone where there is one comes to the end of each history.
-use Rattle.std.proofs.Common.{◌≡◌, ◌≢◌, ◌⊎◌, ℕ, zero, suc, ◌≤◌, List, [], ◌∷◌, ◌++◌, length, refl, sym, ◌∙◌, ap, subst, subst₂, true, false, inl, inr, append_assoc, append-nil, arith}
-use Rattle.std.specs.Prelude.{Contains, Some}
-use Rattle.std.specs.List.{AllByRecursion}
-use Rattle.std.proofs.lemmas.Bool.{cases_Bool, cases_eq, false≢true}
-use Rattle.swift_types.specs.declared.env.Env.{Env}
-use Rattle.swift_script.specs.Scripts.{ScriptView, executor_invariants}
-use Rattle.swift_interpreter.specs.Turn.{ExitView, all_hold}
-use Rattle.swift_journal.specs.Records.{RecordView}
-use Rattle.swift_journal.specs.Checkpoints.{CheckpointView}
-use Rattle.swift_events.specs.declared.life.Life.{Life}
-use Rattle.swift_events.specs.declared.life.JobStage.TheVariants.{Given}
-use Rattle.swift_history.specs.Checks.{is_begun, is_under_way}
-use Rattle.swift_history.specs.Histories.{Block, added, begun, ran, folded, Standing, at_first, after_blocks, checkpoint_at, Stands, AllStand}
-use Rattle.swift_history.specs.Orderly.{AllAllowed, IsOrderly}
-use Rattle.swift_laws.specs.Laws.{ActorsHaveExecutors}
-use Rattle.swift_digest.specs.Futures.{LeadAlike}
-use Rattle.swift_digest.specs.Explored.{IsNotFolded}
-use Rattle.swift_digest.proofs.Outcomes.{lead_on}
-use Rattle.swift_digest.proofs.SameLogs.{same_life}
-use Rattle.swift_digest.proofs.SameStands.{all_push}
-use Rattle.swift_reordering.specs.Away.{turn_looks_away}
-use Rattle.swift_reordering.specs.Blurred.{stage_at}
-use Rattle.swift_reordering.specs.Fused.{RunsNext, BeginLate}
-use Rattle.swift_reordering.specs.FusedSteps.{IsFusedStep, MayStep, HasExit}
-use Rattle.swift_reordering.specs.Waiting.{IsOfOther}
-use Rattle.swift_reordering.specs.SilentTurns.{IsSilentTurn, OwnNext}
+use Rattle.swift_reordering.proofs.Prelude.{◌≡◌, ◌≢◌, ◌⊎◌, ℕ, zero, suc, ◌≤◌, List, [], ◌∷◌, ◌++◌, length, refl, sym, ◌∙◌, ap, subst, subst₂, true, false, inl, inr, append_assoc, append-nil, arith, Contains, Some, AllByRecursion, cases_Bool, cases_eq, false≢true, Env, ScriptView, executor_invariants, ExitView, all_hold, RecordView, CheckpointView, Life, Given, is_begun, is_under_way, Block, added, begun, ran, folded, Standing, at_first, after_blocks, checkpoint_at, Stands, AllStand, AllAllowed, IsOrderly, ActorsHaveExecutors, LeadAlike, IsNotFolded, lead_on, same_life, all_push, turn_looks_away, stage_at, RunsNext, BeginLate, IsFusedStep, MayStep, HasExit, IsOfOther, IsSilentTurn, OwnNext}
 use Rattle.swift_reordering.proofs.Flags.{flag_stays, turn_stays}
 use Rattle.swift_reordering.proofs.Walks.{IsCourse}
 use Rattle.swift_reordering.proofs.Others.{KeepsJob}

@@ -1,11 +1,6 @@
 -- What holds of each statement of a turn holds of what comes first, and of what follows that.
-use Rattle.std.proofs.Common.{◌≡◌, refl, ◌∙◌, ap, Bool, true}
-use Rattle.std.specs.Prelude.{◌&&◌, ◌||◌}
-use Rattle.script_code.specs.Tree.{Term, Operation, Code, followed}
+use Rattle.swift_reordering.proofs.Prelude.{◌≡◌, refl, ◌∙◌, ap, Bool, true, ◌&&◌, ◌||◌, Term, Operation, Code, followed, NextAction, first, ends, does, tests, both, ends_turn, turn_all}
 use Rattle.script_code.specs.Tree as code
-use Rattle.script_code.specs.Instructions.{NextAction, first, ends, does, tests}
-use Rattle.swift_laws.proofs.HistoriesTurns.{both}
-use Rattle.swift_reordering.specs.Statements.{ends_turn, turn_all}
 
 module _ (op : Operation → Bool) (test : Term → Bool) where
   pub followed_all : (a b : Code) (after : Bool) → turn_all op test (followed a b) after ≡ turn_all op test a (turn_all op test b after)

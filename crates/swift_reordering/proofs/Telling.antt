@@ -1,18 +1,8 @@
 -- Each statement of a method is so where each of its instructions is.
-use Rattle.std.proofs.Common.{◌≡◌, ℕ, zero, suc, List, [], ◌∷◌, refl, sym, ◌∙◌, ap, Bool, true, false}
-use Rattle.std.specs.Prelude.{Option, Some, None, All, Contains, ◌&&◌, slice_get}
-use Rattle.std.proofs.lemmas.Bool.{false≢true}
-use Rattle.std.proofs.lemmas.Option.{same_Some, none-some}
-use Rattle.std.proofs.lemmas.List.Elements.{All-contains}
-use Rattle.script_code.specs.Tree.{Term, Operation, Code, followed}
+use Rattle.swift_reordering.proofs.Prelude.{◌≡◌, ℕ, zero, suc, List, [], ◌∷◌, refl, sym, ◌∙◌, ap, Bool, true, false, Option, Some, None, All, Contains, ◌&&◌, slice_get, false≢true, same_Some, none-some, All-contains, Term, Operation, Code, followed, does, tests, first, first_by, first_if, FollowsCode, Act, Instruction, code_all, action_is, instruction_is, operation_spares, term_spares, InstructionsSpare}
 use Rattle.script_code.specs.Tree as code
-use Rattle.script_code.specs.Instructions.{does, tests, first, first_by, first_if, FollowsCode}
-use Rattle.script_code.specs.declared.instruction.Act.{Act}
 use Rattle.script_code.specs.declared.instruction.Act.TheVariants as acts
-use Rattle.script_code.specs.declared.instruction.Instruction.{Instruction}
 use Rattle.swift_reordering.proofs.Priorities.{cons_here, cons_more}
-use Rattle.swift_reordering.specs.Statements.{code_all, action_is, instruction_is}
-use Rattle.swift_reordering.specs.Unnamed.{operation_spares, term_spares, InstructionsSpare}
 
 module _ (op : Operation → Bool) (test : Term → Bool) where
   -- what an instruction does is so or not, whatever its followers stand for

@@ -1,24 +1,5 @@
 -- A turn that stands at one standing stands at another that differs only in which turns under way have begun, and in which environments.
-use Rattle.std.proofs.Common.{◌≡◌, ◌⊎◌, ℕ, ℤ, List, refl, sym, ◌∙◌, ap, ap₂, subst, subst₂, Bool, true, inl, inr}
-use Rattle.std.specs.Prelude.{Option, Some}
-use Rattle.std.specs.List.{AllByRecursion}
-use Rattle.swift_types.specs.declared.priority.Priority.{Priority}
-use Rattle.swift_types.specs.declared.env.Env.{Env}
-use Rattle.swift_script.specs.Scripts.{ScriptView}
-use Rattle.swift_interpreter.specs.Frames.{FrameView}
-use Rattle.swift_interpreter.specs.Turn.{EffectView, ExitView, Played}
-use Rattle.swift_turn.specs.Body.{Advanced, advanced}
-use Rattle.swift_journal.specs.Records.{RecordView}
-use Rattle.swift_journal.specs.Replay.{turn_of, IsAfter, IsLawfulRecord}
-use Rattle.swift_events.specs.declared.life.JobStage.{JobStage}
-use Rattle.swift_events.specs.declared.life.JobStage.TheVariants.{Begun}
-use Rattle.swift_history.specs.Checks.{Counters, counters, fits_turn}
-use Rattle.swift_history.specs.TurnEnds.{JobFacts, WaitingTaskView, TurnEnd, turn_end}
-use Rattle.swift_history.specs.Histories.{Standing, with_jobs, taken, begun_priority, left_as, turn_applied, TurnStands, RecordStands}
-use Rattle.swift_laws.proofs.HistoriesTurns.{applied_is}
-use Rattle.swift_digest.specs.Digests.{AreInPlace}
-use Rattle.swift_reordering.specs.Away.{frame_looks_away}
-use Rattle.swift_reordering.specs.Blurred.{AreClose, stage_at}
+use Rattle.swift_reordering.proofs.Prelude.{◌≡◌, ◌⊎◌, ℕ, ℤ, List, refl, sym, ◌∙◌, ap, ap₂, subst, subst₂, Bool, true, inl, inr, Option, Some, AllByRecursion, Priority, Env, ScriptView, FrameView, EffectView, ExitView, Played, Advanced, advanced, RecordView, turn_of, IsAfter, IsLawfulRecord, JobStage, Begun, Counters, counters, fits_turn, JobFacts, WaitingTaskView, TurnEnd, turn_end, Standing, with_jobs, taken, begun_priority, left_as, turn_applied, TurnStands, RecordStands, applied_is, AreInPlace, frame_looks_away, AreClose, stage_at}
 use Rattle.swift_reordering.proofs.Near.{blurs, blurs_sight, near_current}
 use Rattle.swift_reordering.proofs.SeenFits.{seen_fits, seen_counters}
 use Rattle.swift_reordering.proofs.NearEnds.{AreJoint, near_end}

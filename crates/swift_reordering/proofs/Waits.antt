@@ -1,25 +1,5 @@
 -- The begin of a turn that looks away waits for a block of another task.
-use Rattle.std.proofs.Common.{◌≡◌, ◌≢◌, ℕ, ◌<◌, List, [], ◌∷◌, ◌++◌, refl, sym, ◌∙◌, ap, ap₂, subst, subst₂, true, inl, inr, append_assoc}
-use Rattle.std.specs.Prelude.{Option, Some, is_some}
-use Rattle.std.proofs.lemmas.Bool.{cases_Bool, false≢true}
-use Rattle.swift_types.specs.declared.env.Env.{Env}
-use Rattle.swift_script.specs.Scripts.{ScriptView, root_count}
-use Rattle.swift_journal.specs.Checkpoints.{CheckpointView}
-use Rattle.swift_events.specs.declared.life.Life.{Life}
-use Rattle.swift_events.specs.declared.life.LastJob.{LastJob}
-use Rattle.swift_events.specs.declared.life.JobStage.{JobStage}
-use Rattle.swift_events.specs.declared.life.JobStage.TheVariants.{Given, Begun}
-use Rattle.swift_events.specs.Lives.{life_of}
-use Rattle.swift_history.specs.Checks.{is_begun, is_under_way, is_current}
-use Rattle.swift_history.specs.TurnEnds.{JobFacts, task}
-use Rattle.swift_history.specs.Histories.{Block, added, begun, ran, folded, Standing, at_first, after_block, after_blocks, Stands, AllStand}
-use Rattle.swift_history.specs.Orderly.{AllAllowed, IsOrderly, job_executor}
-use Rattle.swift_laws.specs.Laws.{ActorsHaveExecutors}
-use Rattle.swift_laws.proofs.HistoriesTurns.{current_is}
-use Rattle.swift_reordering.specs.Away.{turn_looks_away}
-use Rattle.swift_reordering.specs.Blurred.{AreClose, LeadClose, stage_at}
-use Rattle.swift_reordering.specs.FusedSteps.{HasRoom}
-use Rattle.swift_reordering.specs.Waiting.{IsOfOther, BeginsAfter, BeginsMayWait}
+use Rattle.swift_reordering.proofs.Prelude.{◌≡◌, ◌≢◌, ℕ, ◌<◌, List, [], ◌∷◌, ◌++◌, refl, sym, ◌∙◌, ap, ap₂, subst, subst₂, true, inl, inr, append_assoc, Option, Some, is_some, cases_Bool, false≢true, Env, ScriptView, root_count, CheckpointView, Life, LastJob, JobStage, Given, Begun, life_of, is_begun, is_under_way, is_current, JobFacts, task, Block, added, begun, ran, folded, Standing, at_first, after_block, after_blocks, Stands, AllStand, AllAllowed, IsOrderly, job_executor, ActorsHaveExecutors, current_is, turn_looks_away, AreClose, LeadClose, stage_at, HasRoom, IsOfOther, BeginsAfter, BeginsMayWait, IsEnv}
 use Rattle.swift_reordering.proofs.Near.{near_begin}
 use Rattle.swift_reordering.proofs.Turning.{in_own}
 use Rattle.swift_reordering.proofs.Walks.{IsCourse, course_push}
@@ -30,7 +10,6 @@ use Rattle.swift_reordering.proofs.Others.{KeepsJob}
 use Rattle.swift_reordering.proofs.Fusing.{ArePutOff, at_push, fields_quiet, late_env, put_off_on, root_on, begin_on, run_on, roots_stay, begun_here}
 use Rattle.swift_reordering.proofs.Reports.{few_before}
 use Rattle.swift_reordering.proofs.Closed.{stand_after, allowed_after}
-use Rattle.swift_events.specs.Room.{IsEnv}
 
 -- the front of a history
 

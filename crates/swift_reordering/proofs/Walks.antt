@@ -1,10 +1,5 @@
 -- What holds of the empty history, and goes on by each block in order that may stand, holds of each history.
-use Rattle.std.proofs.Common.{List, [], ◌∷◌, ◌++◌, sym, subst, append_assoc, append-nil}
-use Rattle.swift_script.specs.Scripts.{ScriptView}
-use Rattle.swift_journal.specs.Checkpoints.{CheckpointView}
-use Rattle.swift_history.specs.Histories.{Block, Stands, AllStand}
-use Rattle.swift_history.specs.Orderly.{AllAllowed, IsOrderly}
-use Rattle.swift_digest.proofs.SameStands.{all_push}
+use Rattle.swift_reordering.proofs.Prelude.{List, [], ◌∷◌, ◌++◌, sym, subst, append_assoc, append-nil, ScriptView, CheckpointView, Block, Stands, AllStand, AllAllowed, IsOrderly, all_push}
 
 pub allowed_push : (Allowed : List Block → Block → Type 0) (xs before : List Block) (b : Block) → AllAllowed Allowed before xs → Allowed (before ++ xs) b → AllAllowed Allowed before (xs ++ b ∷ [])
 allowed_push Allowed [] before b all is = (subst (λ (ys : List Block). Allowed ys b) (append-nil before) is, tt)

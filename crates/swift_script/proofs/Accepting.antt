@@ -1,20 +1,8 @@
 -- What is accepted is read.
-use Rattle.std.proofs.Common.{◌≡◌, ℕ, true, false, List, Result, Ok, Err, inl, inr, sym, ap, subst, refl, ◌∙◌, arith}
-use Rattle.std.specs.Prelude.{IfOk, IfErr}
-use Rattle.script_tokens.specs.Pieces.{TokenView}
-use Rattle.script_tokens.proofs.Unique.{unique}
-use Rattle.script_grammar.specs.Tree.{DeclTree}
-use Rattle.script_grammar.specs.Grammar.{IsScript}
+use Rattle.swift_script.proofs.Prelude.{◌≡◌, ℕ, true, false, List, Result, Ok, Err, inl, inr, sym, ap, subst, refl, ◌∙◌, arith, IfOk, IfErr, TokenView, unique, DeclTree, IsScript, NESTING, NameErrorKind, names_error, ScriptView, script_in, ScriptFaultKind, SpellsDecls, Spells, IsAccepted, first_false, RootWaits, HasError, StartsFalse, HasWaitingRoot, Refuses}
 use Rattle.script_parser.proofs.Whole.{one}
-use Rattle.script_parser.specs.declared.limits.TheConstants.{NESTING}
-use Rattle.script_names.specs.declared.error.NameErrorKind.{NameErrorKind}
-use Rattle.script_names.specs.Rules.{names_error}
-use Rattle.script_printing.specs.Script.{ScriptView, script_in}
 use Rattle.swift_script.specs.declared.fault.ScriptFault.{ScriptFault}
-use Rattle.swift_script.specs.declared.fault.ScriptFaultKind.{ScriptFaultKind}
 use Rattle.swift_script.specs.declared.fault.ScriptFaultKind.TheVariants as kind
-use Rattle.swift_script.specs.Accepted.{SpellsDecls, Spells, IsAccepted, first_false, RootWaits}
-use Rattle.swift_script.specs.Refuses.{HasError, StartsFalse, HasWaitingRoot, Refuses}
 use Rattle.swift_script.specs.Answers.{IsReadAs}
 
 -- a text spells one list of declarations, whatever the limits

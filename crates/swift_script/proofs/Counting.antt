@@ -1,12 +1,7 @@
 -- How many actors before a place have an invariant, as a loop counts them.
-use Rattle.std.proofs.Common.{◌≡◌, ℕ, ◌+◌, ◌<◌, Bool, true, false, Option, Some, None, List, length, map, take, get_or, refl, sym, ap, ◌∙◌, arith}
-use Rattle.std.specs.Prelude.{is_some}
-use Rattle.std.specs.List.{count_by}
-use Rattle.std.proofs.lemmas.List.{length-map, get_or-map}
+use Rattle.swift_script.proofs.Prelude.{◌≡◌, ℕ, ◌+◌, ◌<◌, Bool, true, false, Option, Some, None, List, length, map, take, get_or, refl, sym, ap, ◌∙◌, arith, is_some, count_by, length-map, get_or-map, Actor, ActorTree, view_if, view_actor}
 use Rattle.std.proofs.lemmas.List.Sums.{count_by_more_yes, count_by_more_no}
-use Rattle.script_grammar.specs.declared.declaration.Actor.{Actor}
 use Rattle.script_grammar.specs.declared.expression.Expr.{Expr}
-use Rattle.script_grammar.specs.Tree.{ActorTree, view_if, view_actor}
 
 abbrev pub has_invariant : ActorTree → Bool
 has_invariant a = is_some a.invariant

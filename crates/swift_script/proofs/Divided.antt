@@ -1,10 +1,5 @@
 -- Declarations by their kinds.
-use Rattle.std.proofs.Common.{◌≡◌, List, [], ◌∷◌, ◌++◌, map, refl, sym, ap, ◌∙◌}
-use Rattle.std.proofs.lemmas.List.{map_push}
-use Rattle.script_grammar.specs.declared.declaration.Decl.{Decl}
-use Rattle.script_grammar.specs.Tree.{DeclTree, Executes, Binds, Acts, Roots, view_decl}
-use Rattle.script_printing.specs.Script.{ScriptView, with_decl, script_in}
-use Rattle.swift_script.specs.ScriptInvariant.{with_last}
+use Rattle.swift_script.proofs.Prelude.{◌≡◌, List, [], ◌∷◌, ◌++◌, map, refl, sym, ap, ◌∙◌, map_push, Decl, DeclTree, Executes, Binds, Acts, Roots, view_decl, ScriptView, with_decl, script_in, with_last}
 
 last_of_none : (d : DeclTree) → with_decl d (script_in []) ≡ with_last d (script_in [])
 last_of_none (Executes x) = refl

@@ -1,22 +1,12 @@
 -- What acceptance says of the parts of a script.
-use Rattle.std.proofs.Common.{◌≡◌, ℕ, zero, suc, ◌+◌, ◌<◌, ◌≤◌, Option, Some, None, List, [], ◌∷◌, ◌++◌, length, refl, sym, ap, subst, ◌∙◌, arith, length-append}
-use Rattle.std.specs.Prelude.{slice_get, unwrap_or}
-use Rattle.std.proofs.lemmas.Bool.{leb-false}
-use Rattle.std.proofs.lemmas.List.{length-map}
+use Rattle.swift_script.proofs.Prelude.{◌≡◌, ℕ, zero, suc, ◌+◌, ◌<◌, ◌≤◌, Option, Some, None, List, [], ◌∷◌, ◌++◌, length, refl, sym, ap, subst, ◌∙◌, arith, length-append, slice_get, unwrap_or, leb-false, length-map, ACTORS, EXECUTORS, TASKS, ExecutorTree, ActorTree, RootTree, DirectoryView, directory_of, PlanView, ScriptView, MethodView, compiled_of, plan_in, own_executor, own_executors, executors_from, actors_from, root_of, WasAccepted, no_method, no_root, root_at, executor_count, actor_count, method_count, method_params, root_count, root_method, root_args}
 use Rattle.std.proofs.lemmas.Option.{get_or_from_slice_get, slice_get-get_or, slice_get_within, unwrap_or-slice_get}
-use Rattle.swift_types.specs.declared.limits.TheConstants.{ACTORS, EXECUTORS, TASKS}
-use Rattle.script_grammar.specs.Tree.{ExecutorTree, ActorTree, RootTree}
-use Rattle.script_names.specs.Directory.{DirectoryView, directory_of}
-use Rattle.script_compiler.specs.Plan.{PlanView}
-use Rattle.script_printing.specs.Script.{ScriptView}
 use Rattle.script_compiler.specs.Calls.{CallsAreThere, RootsAreThere, IsStartable}
-use Rattle.script_compiler.specs.Compiled.{MethodView, compiled_of, plan_in, own_executor, own_executors, executors_from, actors_from, root_of}
 use Rattle.script_compiler.specs.Fits.{MethodsFit}
 use Rattle.script_compiler.proofs.CallsThere.{checked_calls, checked_roots}
 use Rattle.script_compiler.proofs.InOrder.{few_executors, few_actors}
 use Rattle.script_compiler.proofs.MethodsFit.{checked_methods}
-use Rattle.swift_script.specs.Accepted.{WasAccepted}
-use Rattle.swift_script.specs.Scripts.{parts_of, no_method, no_root, root_at, executor_count, actor_count, method_count, method_params, root_count, root_method, root_args}
+use Rattle.swift_script.specs.Scripts.{parts_of}
 use Rattle.swift_script.proofs.NamesAgain.{RootsOk, AllOk, by_kinds}
 
 -- how many roots there are

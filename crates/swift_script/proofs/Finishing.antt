@@ -1,33 +1,13 @@
 -- What is known where a script is finished, or refused for a root that waits.
-use Rattle.std.proofs.Common.{◌≡◌, ◌≤◌, ℕ, length, Option, Some, None, List, map, refl, sym, ap, subst, ◌∙◌}
-use Rattle.std.specs.Prelude.{IfSome, IfNone}
-use Rattle.swift_types.specs.declared.limits.TheConstants.{BYTES}
-use Rattle.script_tokens.specs.Pieces.{TokenView, piece}
-use Rattle.script_tokens.specs.declared.list.Tokens.{Tokens}
-use Rattle.script_tokens.specs.declared.span.Span.{Span}
+use Rattle.swift_script.proofs.Prelude.{◌≡◌, ◌≤◌, ℕ, length, Option, Some, None, List, map, refl, sym, ap, subst, ◌∙◌, IfSome, IfNone, BYTES, TokenView, piece, Tokens, Span, unique, IsScript, view_executor, view_local, view_actor, view_root, Actor, NESTING, printed, ScriptView, script_in, plan_in, IsCompiled, IsAccepted, first_false, RootWaits, NoRootWaits, IsFirstWaiting, NoneEarlier, span_at, is_invariant, is_root, place_of, invariants_before, BlamesInvariant, BlamesRoot, pieces_of, AreKept, IsNamed, HasNamesInOrder, ScriptInvariant, tree_of, tree_in}
 use Rattle.script_tokens.specs.declared.token.Token.{Token}
-use Rattle.script_tokens.proofs.Unique.{unique}
-use Rattle.script_grammar.specs.Grammar.{IsScript}
-use Rattle.script_grammar.specs.Tree.{view_executor, view_local, view_actor, view_root}
 use Rattle.script_grammar.specs.declared.declaration.Executor.{Executor}
 use Rattle.script_grammar.specs.declared.declaration.Local.{Local}
-use Rattle.script_grammar.specs.declared.declaration.Actor.{Actor}
 use Rattle.script_grammar.specs.declared.declaration.Root.{Root}
-use Rattle.script_parser.specs.declared.limits.TheConstants.{NESTING}
-use Rattle.script_printing.specs.Printed.{printed}
-use Rattle.script_printing.specs.Script.{ScriptView, script_in}
 use Rattle.script_compiler.specs.declared.compiled.Compiled.{Compiled}
-use Rattle.script_compiler.specs.Compiled.{plan_in}
-use Rattle.script_compiler.specs.IsCompiled.{IsCompiled}
 use Rattle.script_compiler.proofs.Small.{methods_are_few}
-use Rattle.swift_script.specs.Accepted.{IsAccepted, first_false, RootWaits, NoRootWaits}
-use Rattle.swift_script.specs.BrokenInside.{IsFirstWaiting, NoneEarlier}
-use Rattle.swift_script.specs.FaultPlaces.{span_at, is_invariant, is_root, place_of, invariants_before, BlamesInvariant, BlamesRoot}
-use Rattle.swift_script.specs.SpelledInside.{pieces_of, AreKept, IsNamed, HasNamesInOrder}
 use Rattle.swift_script.specs.Scripts.{parts_of}
-use Rattle.swift_script.specs.ScriptInvariant.{ScriptInvariant, tree_of}
 use Rattle.swift_script.specs.declared.split.Declarations.{Declarations}
-use Rattle.swift_script.specs.TreeInside.{tree_in}
 use Rattle.swift_script.proofs.Short.{within_limit}
 use Rattle.swift_script.proofs.TreeAgain.{tree_again}
 

@@ -1,3 +1,4 @@
+pub mod Prelude
 pub mod Refusing
 pub mod Divided
 pub mod MethodPlaces

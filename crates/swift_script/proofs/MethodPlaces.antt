@@ -1,11 +1,6 @@
 -- What stands at a place of what a script is compiled to.
-use Rattle.std.proofs.Common.{◌≡◌, ℕ, suc, zero, ◌<◌, get_or, List, [], ◌∷◌, length, sym, subst, arith}
-use Rattle.std.specs.Prelude.{slice_get, unwrap_or}
-use Rattle.std.specs.List.{AllZip}
+use Rattle.swift_script.proofs.Prelude.{◌≡◌, ℕ, suc, zero, ◌<◌, get_or, List, [], ◌∷◌, length, sym, subst, arith, slice_get, unwrap_or, AllZip, MethodView, IsMethod, no_method}
 use Rattle.script_compiler.specs.declared.compiled.CompiledMethod.{CompiledMethod}
-use Rattle.script_compiler.specs.Compiled.{MethodView}
-use Rattle.script_compiler.specs.IsCompiled.{IsMethod}
-use Rattle.swift_script.specs.Scripts.{no_method}
 
 -- the method at a place
 pub method_there : (ms : List CompiledMethod) (vs : List MethodView) (k : ℕ) (m : CompiledMethod) → AllZip IsMethod ms vs → k < length ms → m ≡ get_or ms k m → IsMethod m (unwrap_or (slice_get vs k) no_method)

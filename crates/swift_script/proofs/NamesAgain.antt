@@ -1,19 +1,7 @@
 -- The order of declarations of different kinds means nothing to the rules on names and counts.
-use Rattle.std.proofs.Common.{◌≡◌, ℕ, suc, Bool, true, false, None, List, [], ◌∷◌, ◌++◌, length, map, refl, sym, ap, subst, ◌∙◌, append_assoc, append-nil}
-use Rattle.std.specs.Prelude.{◌||◌, nat_le}
-use Rattle.std.specs.Str.{bytes_eq}
-use Rattle.std.proofs.lemmas.Bool.{or_parts}
+use Rattle.swift_script.proofs.Prelude.{◌≡◌, ℕ, suc, Bool, true, false, None, List, [], ◌∷◌, ◌++◌, length, map, refl, sym, ap, subst, ◌∙◌, append_assoc, append-nil, ◌||◌, nat_le, bytes_eq, or_parts, ACTORS, EXECUTORS, TASKS, ExecutorTree, LocalTree, ActorTree, RootTree, DeclTree, Executes, Binds, Acts, Roots, NameErrorKind, Twice, TooMany, is_among, DirectoryView, directory_of, SeenView, at_name, where_so, kind_error, repeat_error, target_error, decl_error, declarations_error, names_error, past_decl, seen_after, ScriptView, declarations_of, script_in, PlanView}
 use Rattle.std.proofs.lemmas.Cmp.{nat_list_eq_equiv}
 use Rattle.std.proofs.lemmas.List.Folds.{list_any-append}
-use Rattle.swift_types.specs.declared.limits.TheConstants.{ACTORS, EXECUTORS, TASKS}
-use Rattle.script_grammar.specs.Tree.{ExecutorTree, LocalTree, ActorTree, RootTree, DeclTree, Executes, Binds, Acts, Roots}
-use Rattle.script_names.specs.declared.error.NameErrorKind.{NameErrorKind}
-use Rattle.script_names.specs.declared.error.NameErrorKind.TheVariants.{Twice, TooMany}
-use Rattle.script_names.specs.Texts.{is_among}
-use Rattle.script_names.specs.Directory.{DirectoryView, directory_of}
-use Rattle.script_names.specs.Rules.{SeenView, at_name, where_so, kind_error, repeat_error, target_error, decl_error, declarations_error, names_error, past_decl, seen_after}
-use Rattle.script_printing.specs.Script.{ScriptView, declarations_of, script_in}
-use Rattle.script_compiler.specs.Plan.{PlanView}
 use Rattle.script_compiler.proofs.ByKinds.{same_plan}
 use Rattle.swift_script.proofs.NamesAnywhere.{earlier_parts, earlier_none, executor_kind, target, inside_error, inside}
 

@@ -1,17 +1,10 @@
 -- Whether names are in order does not depend on how many names stand before them.
-use Rattle.std.proofs.Common.{◌≡◌, ℕ, suc, ◌==◌, pos, negsuc, Bool, true, false, Option, Some, None, List, [], ◌∷◌, ◌++◌, length, refl}
-use Rattle.std.specs.Prelude.{if◌then◌else◌}
+use Rattle.swift_script.proofs.Prelude.{◌≡◌, ℕ, suc, ◌==◌, pos, negsuc, Bool, true, false, Option, Some, None, List, [], ◌∷◌, ◌++◌, length, refl, if◌then◌else◌, ExprTree, Number, Named, Local, OwnPriority, IsCancelled, Negated, Inverted, Both, CallTree, AwaitedTree, Called, TaskOf, NextOf, WaitTree, ValueTree, Computed, Waited, MakeTree, Spawned, Detached, ActionTree, Let, LetTask, Assign, Await, Makes, Adds, Cancel, Return, Throw, Check, Yield, HeadTree, If, While, Bind, Group, Assume, StmtTree, Do, Headed, IfElse, BlockTree, nothing, first_then, block_tree, FieldTree, MethodTree, ActorTree, NameErrorKind, Unknown, Arguments, is_among, DirectoryView, has_method, arity_of, earlier, at_name, past, past_if, past_awaited, past_head, past_stmt, past_block, past_names, past_method, past_fields, past_name_if, number_fault, group_fault, task_fault, cancel_fault, new_fault, declared_fault, bind_fault, or_else, expression_error, expressions_error, optional_error, target_error, call_error, awaited_error, wait_error, value_error, make_error, action_error, scope_after, scope_within, assume_fault, head_error, stmt_error, block_error, parameters_error, with_parameters, repeat_error, method_error, methods_error, fields_error, on_error, kind_error}
 use Rattle.swift_types.specs.declared.executor_kind.ExecutorKind.{ExecutorKind}
 use Rattle.swift_types.specs.declared.executor_kind.ExecutorKind.TheVariants as executor
-use Rattle.script_grammar.specs.Tree.{ExprTree, Number, Named, Local, OwnPriority, IsCancelled, Negated, Inverted, Both, CallTree, AwaitedTree, Called, TaskOf, NextOf, WaitTree, ValueTree, Computed, Waited, MakeTree, Spawned, Detached, ActionTree, Let, LetTask, Assign, Await, Makes, Adds, Cancel, Return, Throw, Check, Yield, HeadTree, If, While, Bind, Group, Assume, StmtTree, Do, Headed, IfElse, BlockTree, nothing, first_then, block_tree, FieldTree, MethodTree, ActorTree}
 use Rattle.script_names.specs.declared.error.NameError.{NameError}
-use Rattle.script_names.specs.declared.error.NameErrorKind.{NameErrorKind}
-use Rattle.script_names.specs.declared.error.NameErrorKind.TheVariants.{Unknown, Arguments}
-use Rattle.script_names.specs.Texts.{is_among}
-use Rattle.script_names.specs.Directory.{DirectoryView, has_method, arity_of}
 use Rattle.script_names.specs.Scope.{ScopeView, fields_alone, with_standing, meaning_of}
 use Rattle.script_names.specs.declared.scope.NameKind.TheVariants as kind
-use Rattle.script_names.specs.Rules.{earlier, at_name, past, past_if, past_awaited, past_head, past_stmt, past_block, past_names, past_method, past_fields, past_name_if, number_fault, group_fault, task_fault, cancel_fault, new_fault, declared_fault, bind_fault, or_else, expression_error, expressions_error, optional_error, target_error, call_error, awaited_error, wait_error, value_error, make_error, action_error, scope_after, scope_within, assume_fault, head_error, stmt_error, block_error, parameters_error, with_parameters, repeat_error, method_error, methods_error, fields_error, on_error, kind_error}
 
 -- Where the first is no error, neither is the second.
 pub record Alike (f g : Option NameError) : Type 0 where

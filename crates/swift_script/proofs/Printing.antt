@@ -1,23 +1,13 @@
 -- What is printed of an accepted script spells it.
-use Rattle.std.proofs.Common.{◌≡◌, ◌≤◌, ℕ, Bool, true, None, List, length, sym, ap, subst, ◌∙◌}
-use Rattle.std.specs.Prelude.{IsTrue}
-use Rattle.std.specs.Str.{IsUtf8, bytes_eq}
+use Rattle.swift_script.proofs.Prelude.{◌≡◌, ◌≤◌, ℕ, Bool, true, None, List, length, sym, ap, subst, ◌∙◌, IsTrue, IsUtf8, bytes_eq, BYTES, names_error, NESTING, DeclTree, printed, ScriptView, declarations_of, script_in, script_again, SpellsDecls, Spells, IsAccepted, WasAccepted}
 use Rattle.std.proofs.lemmas.Slice.Eq.{bytes_eq-Decides}
 use Rattle.std.proofs.lemmas.Str.{IsUtf8-from_ascii}
-use Rattle.swift_types.specs.declared.limits.TheConstants.{BYTES}
 use Rattle.script_tokens.specs.Bytes.{is_text}
-use Rattle.script_names.specs.Rules.{names_error}
-use Rattle.script_parser.specs.declared.limits.TheConstants.{NESTING}
-use Rattle.script_grammar.specs.Tree.{DeclTree}
 use Rattle.script_printing.specs.Pieces.{pieces_of_script}
-use Rattle.script_printing.specs.Printed.{printed}
-use Rattle.script_printing.specs.Script.{ScriptView, declarations_of, script_in}
-use Rattle.script_printing.proofs.ByKind.{script_again}
 use Rattle.script_printing.proofs.Lexed.{script_lexes}
 use Rattle.script_printing.proofs.Plain.{script_is_text, text_is_ascii}
 use Rattle.script_printing.proofs.PrintedSpells.{readable_again}
 use Rattle.script_printing.proofs.Read.{spelled_again}
-use Rattle.swift_script.specs.Accepted.{SpellsDecls, Spells, IsAccepted, WasAccepted}
 use Rattle.swift_script.proofs.Accepting.{same_spelled}
 use Rattle.swift_script.proofs.NamesAgain.{names_again}
 

@@ -1,30 +1,14 @@
 -- What a fault of the grammar, or an error of the names, says of a text, and which bytes it blames.
-use Rattle.std.proofs.Common.{◌≡◌, ℕ, ◌-◌, ◌≤◌, Option, Some, List, length, inl, inr, refl, sym, ap, subst, ◌∙◌, arith}
-use Rattle.swift_types.specs.declared.limits.TheConstants.{BYTES}
-use Rattle.script_tokens.specs.declared.list.Tokens.{Tokens}
-use Rattle.script_tokens.specs.declared.span.Span.{Span}
-use Rattle.script_tokens.specs.Pieces.{TokenView}
-use Rattle.script_tokens.proofs.Unique.{unique}
-use Rattle.script_grammar.specs.Tree.{DeclTree}
-use Rattle.script_grammar.specs.Grammar.{IsScript}
+use Rattle.swift_script.proofs.Prelude.{◌≡◌, ℕ, ◌-◌, ◌≤◌, Option, Some, List, length, inl, inr, refl, sym, ap, subst, ◌∙◌, arith, BYTES, Tokens, Span, TokenView, unique, DeclTree, IsScript, NESTING, decls_at, NameErrorKind, names_error, ScriptFaultKind, SpellsDecls, IsPlain, SpellsNothing, HasError, Refuses, span_at, BlamesToken, BlamesName, Blames, pieces_of, AreKept, IsSpelled, grammar_kind, read_kind, read_span, names_kind, check_kind, check_span}
 use Rattle.script_parser.specs.declared.fault.Kind.{Kind}
 use Rattle.script_parser.specs.declared.fault.Kind.TheVariants as grammar
 use Rattle.script_parser.specs.declared.fault.ReadError.{ReadError}
 use Rattle.script_parser.specs.declared.fault.ReadError.TheVariants as reading
-use Rattle.script_parser.specs.declared.limits.TheConstants.{NESTING}
 use Rattle.script_parser.specs.Answers.{IsFirstFault, SpellsNothing as NoneSpelled}
-use Rattle.script_parser.specs.Model.Declarations.{decls_at}
 use Rattle.script_names.specs.declared.error.CheckError.{CheckError}
 use Rattle.script_names.specs.declared.error.CheckError.TheVariants as naming
-use Rattle.script_names.specs.declared.error.NameErrorKind.{NameErrorKind}
 use Rattle.script_names.specs.declared.error.NameErrorKind.TheVariants as names
-use Rattle.script_names.specs.Rules.{names_error}
 use Rattle.script_names.specs.Finds.{IsError}
-use Rattle.swift_script.specs.declared.fault.ScriptFaultKind.{ScriptFaultKind}
-use Rattle.swift_script.specs.Accepted.{SpellsDecls, IsPlain}
-use Rattle.swift_script.specs.Refuses.{SpellsNothing, HasError, Refuses}
-use Rattle.swift_script.specs.FaultPlaces.{span_at, BlamesToken, BlamesName, Blames}
-use Rattle.swift_script.specs.SpelledInside.{pieces_of, AreKept, IsSpelled, grammar_kind, read_kind, read_span, names_kind, check_kind, check_span}
 
 -- a text spells what its tokens spell
 pub spells : (text : List ℕ) (decls : List DeclTree) (kept : Tokens) → IsSpelled text decls kept → SpellsDecls NESTING text decls

@@ -1,13 +1,8 @@
 -- A script is no larger than the text that spells it, and has no more names.
-use Rattle.std.proofs.Common.{ℕ, ◌≤◌, List, length, arith}
-use Rattle.swift_types.specs.declared.limits.TheConstants.{BYTES}
-use Rattle.script_tokens.proofs.Few.{few_tokens}
-use Rattle.script_grammar.specs.Tree.{DeclTree}
+use Rattle.swift_script.proofs.Prelude.{ℕ, ◌≤◌, List, length, arith, BYTES, few_tokens, DeclTree, names_in, IsPlain, SpellsDecls}
 use Rattle.script_grammar.specs.Size.{script_size}
 use Rattle.script_grammar.proofs.Short.{script_short}
-use Rattle.script_names.specs.Rules.{names_in}
 use Rattle.script_names.proofs.Few.{names_few}
-use Rattle.swift_script.specs.Accepted.{IsPlain, SpellsDecls}
 
 pub no_larger : (limit : ℕ) (text : List ℕ) (decls : List DeclTree) → SpellsDecls limit text decls → script_size decls ≤ length text
 no_larger limit text decls s = omega (arith, script_short s.spelled, few_tokens s.lexed)

@@ -1,12 +1,7 @@
 -- The invariants of an accepted script hold at the start.
-use Rattle.std.proofs.Common.{◌≡◌, ◌<◌, ℕ, zero, suc, Bool, true, false, Some, None, List, [], ◌∷◌, length, refl, arith}
-use Rattle.std.specs.Prelude.{IsTrue, slice_get, unwrap_or, if◌then◌else◌}
+use Rattle.swift_script.proofs.Prelude.{◌≡◌, ◌<◌, ℕ, zero, suc, Bool, true, false, Some, None, List, [], ◌∷◌, length, refl, arith, IsTrue, slice_get, unwrap_or, if◌then◌else◌, ScriptView, ActorView, CompiledView, WasAccepted, parts_of, no_actor, actor_count, actor_invariant, actor_executor, executor_start}
 use Rattle.script_code.specs.Value.{holds}
-use Rattle.script_printing.specs.Script.{ScriptView}
-use Rattle.script_compiler.specs.Compiled.{ActorView, CompiledView}
 use Rattle.script_compiler.specs.Starts.{starts_well, first_false_from}
-use Rattle.swift_script.specs.Accepted.{WasAccepted}
-use Rattle.swift_script.specs.Scripts.{parts_of, no_actor, actor_count, actor_invariant, actor_executor, executor_start}
 
 -- the first actor starts well, and the others do
 first_well : (c : CompiledView) (k : ℕ) (b : Bool) (others : List ActorView) → (if b then first_false_from c (suc k) others else Some k) ≡ None → (b ≡ true) × (first_false_from c (suc k) others ≡ None)

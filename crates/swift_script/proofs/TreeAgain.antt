@@ -1,18 +1,9 @@
 -- A printed form tells the tree that was printed.
-use Rattle.std.proofs.Common.{◌≡◌, ℕ, zero, suc, ◌≤◌, List, [], ◌∷◌, length, Option, Some, None, Result, ap, refl, ◌∙◌, arith}
-use Rattle.script_tokens.specs.Pieces.{TokenView}
+use Rattle.swift_script.proofs.Prelude.{◌≡◌, ℕ, zero, suc, ◌≤◌, List, [], ◌∷◌, length, Option, Some, None, Result, ap, refl, ◌∙◌, arith, TokenView, front_leaves, DeclTree, NESTING, decls_at, printed, ScriptView, script_in, declarations_of, script_again, SpellsDecls, WasAccepted, with_piece, pieces_within, decls_or_none}
 use Rattle.script_tokens.specs.Lexes.{front_at, Lexes, at_end, separated, next_is}
-use Rattle.script_tokens.proofs.Few.{front_leaves}
-use Rattle.script_grammar.specs.Tree.{DeclTree}
 use Rattle.script_parser.specs.declared.fault.ParseFault.{ParseFault}
-use Rattle.script_parser.specs.declared.limits.TheConstants.{NESTING}
-use Rattle.script_parser.specs.Model.Declarations.{decls_at}
 use Rattle.script_parser.proofs.DeclarationsComplete.{decls_again}
-use Rattle.script_printing.specs.Printed.{printed}
-use Rattle.script_printing.specs.Script.{ScriptView, script_in, declarations_of}
-use Rattle.script_printing.proofs.ByKind.{script_again}
-use Rattle.swift_script.specs.Accepted.{SpellsDecls, WasAccepted}
-use Rattle.swift_script.specs.TreeInside.{with_piece, pieces_within, decls_or_none, tree_in}
+use Rattle.swift_script.specs.TreeInside.{tree_in}
 use Rattle.swift_script.proofs.Printing.{decls_again as printed_again}
 
 none_within : (n : ℕ) → pieces_within n [] ≡ []

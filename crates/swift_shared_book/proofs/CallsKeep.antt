@@ -1,36 +1,18 @@
 -- The calls of a book are steps of its run.
-use Rattle.std.proofs.Common.{◌≡◌, ℤ, ◌+◌, List, [], ◌∷◌, ◌++◌, refl, sym, subst, ap, ◌∙◌, Bool, true, false}
-use Rattle.std.specs.Prelude.{Option, Some, None, if◌then◌else◌, is_none, ◌&&◌}
-use Rattle.std.proofs.lemmas.Bool.{false≢true}
+use Rattle.swift_shared_book.proofs.Prelude.{◌≡◌, ℤ, ◌+◌, List, [], ◌∷◌, ◌++◌, refl, sym, subst, ap, ◌∙◌, Bool, true, false, Option, Some, None, if◌then◌else◌, is_none, ◌&&◌, false≢true, Env, ScriptView, executor_start, root_count, FrameView, Advanced, BodyView, HasFirst, IsTurnOf, advanced, left, JobView, IsEnv, RecordView, has_last_root, job_executor, WaitingTaskView, JobFacts, TurnEnd, root_events, task, turn_end, BookFault, BookView, end_of_frames, end_of_turn, job_facts, fits_begun, refused_unless, IsTurn, MayGive, end_of, knowing_begin, knowing_turn, with_begin, with_turn, Account, BookFacts, Ticket, fresh, AddedRootsKeep, AppliedTurnsKeep, BegunTurnsKeep, IsPlayed, before_of, facts_of}
 use Rattle.std.proofs.lemmas.Option.{none-some}
-use Rattle.swift_types.specs.declared.env.Env.{Env}
-use Rattle.swift_script.specs.Scripts.{ScriptView, executor_start, root_count}
-use Rattle.swift_interpreter.specs.Frames.{FrameView}
-use Rattle.swift_turn.specs.Body.{Advanced, BodyView, HasFirst, IsTurnOf, advanced, left}
-use Rattle.swift_job.specs.Job.{JobView}
 use Rattle.swift_events.specs.declared.event.Event.{Event}
 use Rattle.swift_events.specs.declared.life.JobStage.{JobStage}
 use Rattle.swift_events.specs.declared.life.JobStage.TheVariants.{Begun}
 use Rattle.swift_events.specs.Lives.{life_of}
-use Rattle.swift_events.specs.Room.{IsEnv}
-use Rattle.swift_journal.specs.Records.{RecordView}
 use Rattle.swift_journal.specs.Replay.{replay}
 use Rattle.swift_history.specs.Checks.{counters, fits_turn, is_current}
 use Rattle.swift_history.specs.Histories.{begun_priority, left_as}
-use Rattle.swift_history.specs.Orderly.{has_last_root, job_executor}
-use Rattle.swift_history.specs.TurnEnds.{WaitingTaskView, JobFacts, TurnEnd, root_events, task, turn_end}
-use Rattle.swift_tasks.specs.declared.fault.BookFault.{BookFault}
-use Rattle.swift_tasks.specs.Books.{BookView, end_of_frames, end_of_turn}
-use Rattle.swift_history.specs.Jobs.{job_facts}
-use Rattle.swift_tasks.specs.Refusals.{fits_begun, refused_unless}
 use Rattle.swift_course.specs.Frames.{kept_frame}
-use Rattle.swift_course.specs.Steps.{IsTurn, MayGive, end_of, knowing_begin, knowing_turn, with_begin, with_turn}
-use Rattle.swift_course.specs.Views.{Account, BookFacts, Ticket, fresh}
 use Rattle.swift_course.proofs.Applied.{turn_applied_is}
 use Rattle.swift_course.proofs.Begins.{turn_begun}
 use Rattle.swift_course.proofs.Frames.{frames_go_on}
 use Rattle.swift_course.proofs.Roots.{root_added}
-use Rattle.swift_shared_book.specs.Calls.{AddedRootsKeep, AppliedTurnsKeep, BegunTurnsKeep, IsPlayed, before_of, facts_of}
 
 -- what stands where there is no refusal
 

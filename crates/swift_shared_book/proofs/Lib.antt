@@ -1,3 +1,4 @@
+pub mod Prelude
 pub mod Shapes
 pub mod RuleKept
 pub mod CallsKeep

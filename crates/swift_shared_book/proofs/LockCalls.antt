@@ -1,14 +1,7 @@
 -- What the calls of a lock know of their seats before and after the steps.
-use Rattle.std.proofs.Common.{◌≡◌, ℕ, ◌==◌, ◌<◌, ◌≤◌, true, List, [], ◌∷◌, Option, Some, None, IsSome, IfSome, MatchBool, refl, sym, ap, ◌∙◌, subst, arith}
-use Rattle.std.proofs.lemmas.Bool.Decides.{nat_tests}
+use Rattle.swift_shared_book.proofs.Prelude.{◌≡◌, ℕ, ◌==◌, ◌<◌, ◌≤◌, true, List, [], ◌∷◌, Option, Some, None, IsSome, IfSome, MatchBool, refl, sym, ap, ◌∙◌, subst, arith, nat_tests, Step, Allows, Final, Seen, at_map, LockKnown, MayLearn, MayUnlock, TableOf, known_in, IsWordFor, IsUnlocked, IsKeptBy, LockInvariant, SeatOf, Takes, Unlocks, CarriesFor}
 use mathlib.Core.Option.{some, some-injective}
 use lib.ListN.{get_elem?}
-use Rattle.atomic_table.specs.Table.{Step, Allows, Final, Seen}
-use Rattle.atomic_table.proofs.Lists.{at_map}
-use Rattle.swift_shared_book.specs.declared.lock.view.LockKnown.{LockKnown}
-use Rattle.swift_shared_book.specs.LockSeat.{MayLearn, MayUnlock}
-use Rattle.swift_shared_book.specs.LockRule.{TableOf, known_in, IsWordFor, IsUnlocked, IsKeptBy, LockInvariant}
-use Rattle.swift_shared_book.specs.LockStepsInside.{SeatOf, Takes, Unlocks, CarriesFor}
 use Rattle.swift_shared_book.proofs.LockSteps.{Rule, unlocks}
 
 module _ {T I V : Type 0} (image_of : T → I) (holds : I → List V → Type 0) where

@@ -1,9 +1,7 @@
 -- What holds between any two steps of a lock.
-use Rattle.std.proofs.Common.{◌≡◌, ◌↔◌, ℕ, ◌<◌, ◌≤◌, List, [], ◌∷◌, Option, Some, None, IsSome, IfSome, refl, sym, ap, ◌∙◌, subst, arith}
+use Rattle.swift_shared_book.proofs.Prelude.{◌≡◌, ◌↔◌, ℕ, ◌<◌, ◌≤◌, List, [], ◌∷◌, Option, Some, None, IsSome, IfSome, refl, sym, ap, ◌∙◌, subst, arith, LockKnown, TableOf, known_in, IsWordFor, IsHolder, HolderHolds}
 use mathlib.Core.Option.{some}
 use lib.ListN.{get_elem?}
-use Rattle.swift_shared_book.specs.declared.lock.view.LockKnown.{LockKnown}
-use Rattle.swift_shared_book.specs.LockRule.{TableOf, known_in, IsWordFor, IsHolder, HolderHolds}
 use Rattle.swift_shared_book.proofs.LockSteps.{Rule, none_is_some}
 
 module _ {I : Type 0} where

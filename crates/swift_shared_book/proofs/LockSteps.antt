@@ -1,17 +1,10 @@
 -- Each kind of step keeps the rule of a lock, and tells what it says.
-use Rattle.std.proofs.Common.{◌≡◌, ◌≢◌, ℕ, zero, suc, ◌==◌, ◌<◌, ◌≤◌, List, [], ◌∷◌, ◌++◌, set, Option, Some, None, IsSome, IfSome, MatchBool, false, refl, sym, ap, ◌∙◌, subst, ⊎_elim, arith}
-use Rattle.std.proofs.lemmas.Bool.Decides.{nat_tests}
+use Rattle.swift_shared_book.proofs.Prelude.{◌≡◌, ◌≢◌, ℕ, zero, suc, ◌==◌, ◌<◌, ◌≤◌, List, [], ◌∷◌, ◌++◌, set, Option, Some, None, IsSome, IfSome, MatchBool, false, refl, sym, ap, ◌∙◌, subst, ⊎_elim, arith, nat_tests, Step, Act, keeps, takes, gives, stepped, Valid, carried_after, Allows, Splits, Joins, put_back, at_set, at_snoc, at_map, at_longer, set_else, set_again, exchanged, LockKnown, MayLearn, MayUnlock, MaySplit, MayJoin, TableOf, known_in, IsWordFor, IsHolder, HolderHolds, IsUnlocked, IsKeptBy, LockInvariant, free, with_known, SeatOf, given, Takes, Locks, Unlocks}
 use mathlib.Core.Option.{none, some, some-injective, some-ne-none}
 use mathlib.Core.Logic.{dite}
 use native.Mathlib.Decide.{ℕ_discrete}
 use prog.Atomic.{either}
 use lib.ListN.{get_elem?}
-use Rattle.atomic_table.specs.Table.{Step, Act, keeps, takes, gives, stepped, Valid, carried_after, Allows, Splits, Joins, put_back}
-use Rattle.atomic_table.proofs.Lists.{at_set, at_snoc, at_map, at_longer, set_else, set_again, exchanged}
-use Rattle.swift_shared_book.specs.declared.lock.view.LockKnown.{LockKnown}
-use Rattle.swift_shared_book.specs.LockSeat.{MayLearn, MayUnlock, MaySplit, MayJoin}
-use Rattle.swift_shared_book.specs.LockRule.{TableOf, known_in, IsWordFor, IsHolder, HolderHolds, IsUnlocked, IsKeptBy, LockInvariant}
-use Rattle.swift_shared_book.specs.LockStepsInside.{free, with_known, SeatOf, given, Takes, Locks, Unlocks}
 
 -- what a step that locks makes of a word
 abbrev pub IsHeldWord : ℕ → Type 0

@@ -1,41 +1,17 @@
 -- The rule of a shared book, at each call.
 use mathlib.Core.Option.{some, some-injective, some-ne-none}
 use lib.ListN.{get_elem?}
-use Rattle.std.proofs.Common.{◌≡◌, ℕ, zero, suc, ◌+◌, ◌≤◌, List, [], ◌∷◌, ◌++◌, length, drop, map, refl, sym, ap, ◌∙◌, subst, arith}
-use Rattle.std.specs.Prelude.{Option, Some, None, IfSome, IsSomeAnd, MatchResult, OnOk, IfErr, Result, Ok, Err}
-use Rattle.std.proofs.lemmas.List.{drop-map, length-append, length-map, map-append}
+use Rattle.swift_shared_book.proofs.Prelude.{◌≡◌, ℕ, zero, suc, ◌+◌, ◌≤◌, List, [], ◌∷◌, ◌++◌, length, drop, map, refl, sym, ap, ◌∙◌, subst, arith, Option, Some, None, IfSome, IsSomeAnd, MatchResult, OnOk, IfErr, Result, Ok, Err, drop-map, length-append, length-map, map-append, Env, ScriptView, root_count, BodyView, JobView, IsEnv, RecordView, has_last_root, job_executor, JobFacts, root_events, root_job, MayUnlock, BookView, IsEndOf, empty_book, end_of_turn, job_facts, BookFault, refusal_of_apply, refusal_of_begin, refusal_of_root, Account, BookFacts, Maker, BookKnown, Ticket, fresh, BookImage, Known, first_view, gathered, some_parted, MayGive, end_of, knowing_begin, knowing_turn, with_record, book_stays, run_begins, learns, facts_of, BeginsTicket, HasPlayed, HasTicket, IsInRun, RunsAtSeat, facts_in, tickets_view, KnowsRoot, MayGiveBack, knowing_record}
 use Rattle.std.proofs.lemmas.List.Sorted.{IsPermutation-to_front}
 use Rattle.std.proofs.Math.Seq.{drop-append_seam}
-use Rattle.swift_types.specs.declared.env.Env.{Env}
-use Rattle.swift_script.specs.Scripts.{ScriptView, root_count}
 use Rattle.swift_interpreter.specs.Turn.{EffectView, ExitView}
-use Rattle.swift_turn.specs.Body.{BodyView}
-use Rattle.swift_job.specs.Job.{JobView}
 use Rattle.swift_events.specs.declared.event.Event.TheVariants.{Begin}
-use Rattle.swift_events.specs.Room.{IsEnv}
-use Rattle.swift_journal.specs.Records.{RecordView}
-use Rattle.swift_history.specs.Orderly.{has_last_root, job_executor}
-use Rattle.swift_history.specs.TurnEnds.{JobFacts, root_events, root_job}
-use Rattle.swift_shared_book.specs.LockSeat.{MayUnlock}
-use Rattle.swift_tasks.specs.Books.{BookView, IsEndOf, empty_book, end_of_turn}
-use Rattle.swift_history.specs.Jobs.{job_facts}
-use Rattle.swift_tasks.specs.declared.fault.BookFault.{BookFault}
-use Rattle.swift_tasks.specs.Refusals.{refusal_of_apply, refusal_of_begin, refusal_of_root}
-use Rattle.swift_course.specs.Views.{Account, BookFacts, Maker, BookKnown, Ticket, fresh}
-use Rattle.swift_course.specs.declared.known.BookImage.{BookImage}
-use Rattle.swift_course.specs.declared.known.Known.{Known}
 use Rattle.swift_course.specs.Course.{IsCourse}
 use Rattle.swift_course.specs.Rule.{HoldsOf, views_of}
-use Rattle.swift_course.specs.Seats.{first_view, gathered, some_parted}
-use Rattle.swift_course.specs.Steps.{MayGive, end_of, knowing_begin, knowing_turn, with_record}
 use Rattle.swift_course.proofs.Ordered.{known_ordered, tickets_ordered}
-use Rattle.swift_course.proofs.Parts.{book_stays, run_begins}
-use Rattle.swift_course.proofs.Rule.{gives, learns}
+use Rattle.swift_course.proofs.Rule.{gives}
 use Rattle.swift_course.specs.Reports.{Knows}
-use Rattle.swift_shared_book.specs.Calls.{facts_of}
 use Rattle.swift_shared_book.proofs.CallsKeep.{apply_keeps, begin_keeps, root_keeps}
-use Rattle.swift_shared_book.specs.Shared.{BeginsTicket, HasPlayed, HasTicket, IsInRun, RunsAtSeat, facts_in, tickets_view}
-use Rattle.swift_shared_book.specs.StepsInside.{KnowsRoot, MayGiveBack, knowing_record}
 
 -- a lock is made
 pub starts : (b : BookView) → b ≡ empty_book b.script → IsCourse (facts_of b) (first_view b.script ∷ [])

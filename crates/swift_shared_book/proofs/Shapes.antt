@@ -1,19 +1,5 @@
 -- What seats know, in the shapes that the calls give it.
-use Rattle.std.proofs.Common.{◌≡◌, Bool, true, false, List, [], ◌∷◌, ◌++◌, length, take, drop, map, refl, sym, ap, ◌∙◌}
-use Rattle.std.specs.Prelude.{Option, Some, None, IfSome, IsSome}
-use Rattle.std.proofs.lemmas.Bool.{false≢true}
-use Rattle.std.proofs.lemmas.List.{append-nil, map-append}
-use Rattle.swift_script.specs.Scripts.{ScriptView}
-use Rattle.swift_turn.specs.Body.{BodyView}
-use Rattle.swift_job.specs.Job.{JobView}
-use Rattle.swift_journal.specs.Records.{RecordView}
-use Rattle.swift_history.specs.Jobs.{job_facts}
-use Rattle.swift_course.specs.Views.{Account, BookKnown, Ticket, fresh}
-use Rattle.swift_course.specs.declared.known.Known.{Known}
-use Rattle.swift_course.specs.Seats.{gathered, some_left, some_parted}
-use Rattle.swift_shared_book.specs.Shared.{BookLockView, BookSeatView, after_turn, is_there, seat_of, tickets_view, view_in, with_ticket}
-use Rattle.swift_shared_book.specs.SharedInside.{HasTicketsOf, IsOneAtMost, oldest_first}
-use Rattle.swift_shared_book.specs.StepsInside.{knowing_record}
+use Rattle.swift_shared_book.proofs.Prelude.{◌≡◌, Bool, true, false, List, [], ◌∷◌, ◌++◌, length, take, drop, map, refl, sym, ap, ◌∙◌, Option, Some, None, IfSome, IsSome, false≢true, append-nil, map-append, ScriptView, BodyView, JobView, RecordView, job_facts, Account, BookKnown, Ticket, fresh, Known, gathered, some_left, some_parted, BookLockView, BookSeatView, after_turn, is_there, seat_of, tickets_view, view_in, with_ticket, HasTicketsOf, IsOneAtMost, oldest_first, knowing_record}
 
 -- a badge that is there has one seat
 pub one_there : (l : List Known) → IsOneAtMost l → is_there l ≡ true → l ≡ record { view = view_in l } ∷ []

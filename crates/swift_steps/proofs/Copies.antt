@@ -1,19 +1,5 @@
 -- Copies of histories.
-use Rattle.std.proofs.Common.{◌≡◌, ℕ, zero, suc, ℤ, List, [], ◌∷◌, Vec, length, refl, sym, subst, ap, ◌∙◌}
-use Rattle.std.specs.Prelude.{Option, Some, None, slice_get}
-use Rattle.std.specs.Option.{option_map}
-use Rattle.std.specs.List.{AllZip, range_with_len}
-use Rattle.std.specs.Arc.{arc_value}
-use Rattle.std.specs.declared.alloc.Global.{Global}
-use Rattle.std.proofs.lemmas.List.{length-map}
-use Rattle.script_code.specs.Seen.{rows_of}
-use Rattle.swift_script.specs.Scripts.{ScriptView}
-use Rattle.swift_turn.specs.Body.{HasFrames, TaskView}
-use Rattle.swift_tasks.specs.Books.{BookView}
-use Rattle.swift_steps.specs.declared.next_turn.NextTurn.{NextTurn}
-use Rattle.swift_steps.specs.declared.history.OpenHistory.{OpenHistory}
-use Rattle.swift_steps.specs.NextTurns.{AreOf, IsReadyOf, IsSame, IsSameIf, given_at, given_view}
-use Rattle.swift_steps.specs.OpenHistories.{IsCopyOf, rows_at}
+use Rattle.swift_steps.proofs.Prelude.{◌≡◌, ℕ, zero, suc, ℤ, List, [], ◌∷◌, Vec, length, refl, sym, subst, ap, ◌∙◌, Option, Some, None, slice_get, option_map, AllZip, range_with_len, arc_value, Global, length-map, rows_of, ScriptView, HasFrames, TaskView, BookView, NextTurn, OpenHistory, AreOf, IsReadyOf, IsSame, IsSameIf, given_at, given_view, IsCopyOf, rows_at}
 
 pub same_at : (xs ys : List (Option NextTurn)) (t : ℕ) → AllZip IsSameIf xs ys → IsSameIf (given_at xs t) (given_at ys t)
 same_at [] [] t same = tt

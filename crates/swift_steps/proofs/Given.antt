@@ -1,22 +1,6 @@
 -- What the next turn of each task begins with, when a job comes or goes.
-use Rattle.std.proofs.Common.{◌≡◌, ◌≢◌, ◌<◌, ℕ, zero, suc, List, length, set, get_or-set_same, get_or-set_other, [], ◌∷◌, ◌++◌, map, reverse, refl, sym, subst, ap, ◌∙◌, true, false, arith, inl, inr}
-use Rattle.std.specs.Prelude.{Option, Some, None, if◌then◌else◌, ◌==◌, unwrap_or}
-use Rattle.std.proofs.lemmas.Bool.{cases_eq}
+use Rattle.swift_steps.proofs.Prelude.{◌≡◌, ◌≢◌, ◌<◌, ℕ, zero, suc, List, length, set, get_or-set_same, get_or-set_other, [], ◌∷◌, ◌++◌, map, reverse, refl, sym, subst, ap, ◌∙◌, true, false, arith, inl, inr, Option, Some, None, if◌then◌else◌, ◌==◌, unwrap_or, cases_eq, none-some, reverse-append, TaskId, JobView, BodyView, AllByRecursion, ScriptView, IsJobOf, job_facts, taken, with_jobs, JobFacts, NextTurn, option_map, AreGiven, AreOf, IsReadyOf, given_at, given_view, with_given}
 use Rattle.std.proofs.lemmas.Bool.Decides.{nat_tests}
-use Rattle.std.proofs.lemmas.Option.{none-some}
-use Rattle.std.proofs.lemmas.List.{reverse-append}
-use Rattle.swift_types.specs.declared.id.TaskId.{TaskId}
-use Rattle.swift_job.specs.Job.{JobView}
-use Rattle.swift_turn.specs.Body.{BodyView}
-use Rattle.std.specs.List.{AllByRecursion}
-use Rattle.swift_script.specs.Scripts.{ScriptView}
-use Rattle.swift_tasks.specs.Books.{IsJobOf}
-use Rattle.swift_history.specs.Jobs.{job_facts}
-use Rattle.swift_history.specs.Histories.{taken, with_jobs}
-use Rattle.swift_history.specs.TurnEnds.{JobFacts}
-use Rattle.swift_steps.specs.declared.next_turn.NextTurn.{NextTurn}
-use Rattle.std.specs.Option.{option_map}
-use Rattle.swift_steps.specs.NextTurns.{AreGiven, AreOf, IsReadyOf, given_at, given_view, with_given}
 
 pub same_one : {A : Type 0} (x y : A) → Some x ≡ Some y → x ≡ y
 same_one x y is = ap (λ o. unwrap_or o x) is

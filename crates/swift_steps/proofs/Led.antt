@@ -1,35 +1,10 @@
 -- Where each step leads.
-use Rattle.std.proofs.Common.{inl, inr, ◌≡◌, ◌≢◌, ℕ, ◌+◌, List, [], ◌∷◌, ◌++◌, refl, sym, subst, ap, ◌∙◌, Bool, true, false, ℤ}
-use Rattle.std.specs.Prelude.{Option, Some, None, if◌then◌else◌, is_none, ◌&&◌, ◌==◌, slice_get, unwrap_or}
-use Rattle.std.specs.Option.{option_map}
-use Rattle.std.proofs.lemmas.Bool.{cases_eq, false≢true}
-use Rattle.std.proofs.lemmas.Option.{none-some}
-use Rattle.swift_types.specs.declared.env.Env.{Env}
-use Rattle.swift_types.specs.declared.id.TaskId.{TaskId}
-use Rattle.swift_script.specs.Scripts.{ScriptView, actor_executor, method_actor, root_count}
-use Rattle.swift_interpreter.specs.Frames.{FrameView}
-use Rattle.swift_interpreter.specs.Turn.{EffectView, ExitView}
+use Rattle.swift_steps.proofs.Prelude.{inl, inr, ◌≡◌, ◌≢◌, ℕ, ◌+◌, List, [], ◌∷◌, ◌++◌, refl, sym, subst, ap, ◌∙◌, Bool, true, false, ℤ, Option, Some, None, if◌then◌else◌, is_none, ◌&&◌, ◌==◌, slice_get, unwrap_or, option_map, cases_eq, false≢true, none-some, Env, TaskId, ScriptView, actor_executor, method_actor, root_count, FrameView, EffectView, ExitView, Begin, Begun, life_of, IsEnv, CheckpointView, RecordView, fields_after, replay, BodyView, advanced, Block, added, begun, ran, Standing, Stands, TurnStands, after_block, at_first, begun_priority, fields_of, frames_applied, job_applied, left_as, record_in, records_of, root_in, taken, turn_applied, with_jobs, WaitingTaskView, JobFacts, TurnEnd, root_events, root_job, turn_end, BookView, IsEndOf, end_of_turn, fits_begun, refusal_of_apply, refusal_of_begin, refusal_of_root, refused_unless, standing, NextTurn, AreGiven, given_at, given_view, job_of, with_given, IsLed}
 use Rattle.swift_events.specs.declared.event.Event.{Event}
-use Rattle.swift_events.specs.declared.event.Event.TheVariants.{Begin}
 use Rattle.swift_events.specs.declared.life.JobStage.{JobStage}
-use Rattle.swift_events.specs.declared.life.JobStage.TheVariants.{Begun}
-use Rattle.swift_events.specs.Lives.{life_of}
-use Rattle.swift_events.specs.Room.{IsEnv}
-use Rattle.swift_journal.specs.Checkpoints.{CheckpointView}
-use Rattle.swift_journal.specs.Records.{RecordView}
-use Rattle.swift_journal.specs.Replay.{fields_after, replay}
-use Rattle.swift_turn.specs.Body.{BodyView, advanced}
 use Rattle.swift_history.specs.Checks.{counters, fits_turn, is_current}
-use Rattle.swift_history.specs.Histories.{Block, added, begun, ran, Standing, Stands, TurnStands, after_block, at_first, begun_priority, fields_of, frames_applied, job_applied, left_as, record_in, records_of, root_in, taken, turn_applied, with_jobs}
-use Rattle.swift_history.specs.TurnEnds.{WaitingTaskView, JobFacts, TurnEnd, root_events, root_job, turn_end}
 use Rattle.swift_tasks.specs.declared.fault.BookFault.{BookFault}
-use Rattle.swift_tasks.specs.Books.{BookView, IsEndOf, end_of_turn}
-use Rattle.swift_tasks.specs.Refusals.{fits_begun, refusal_of_apply, refusal_of_begin, refusal_of_root, refused_unless}
-use Rattle.swift_course.specs.Course.{standing}
 use Rattle.swift_course.proofs.Blocks.{after_push, filter_none, filter_some, range_next, replay_append, stand_push}
-use Rattle.swift_steps.specs.declared.next_turn.NextTurn.{NextTurn}
-use Rattle.swift_steps.specs.NextTurns.{AreGiven, given_at, given_view, job_of, with_given}
-use Rattle.swift_steps.specs.OpenHistories.{IsLed}
 use Rattle.swift_steps.proofs.Given.{equal, given_back, given_put, given_taken, unequal}
 
 -- what holds where nothing is refused

@@ -1,3 +1,4 @@
+pub mod Prelude
 pub mod Copies
 pub mod Given
 pub mod Led

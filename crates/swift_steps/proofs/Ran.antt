@@ -1,33 +1,9 @@
 -- A turn that was played leads a history on.
-use Rattle.std.proofs.Common.{Bool, ◌≡◌, ℕ, ℤ, List, [], ◌∷◌, ◌++◌, length, refl, sym, subst, ap, ◌∙◌}
-use Rattle.std.specs.Prelude.{Option, Some, None, Result, Ok, Err, IfOk, IsTrue, if◌then◌else◌, ◌==◌, slice_get}
+use Rattle.swift_steps.proofs.Prelude.{Bool, ◌≡◌, ℕ, ℤ, List, [], ◌∷◌, ◌++◌, length, refl, sym, subst, ap, ◌∙◌, Option, Some, None, Result, Ok, Err, IfOk, IsTrue, if◌then◌else◌, ◌==◌, slice_get, arc_value, Env, TaskId, ScriptView, actor_executor, method_actor, FrameView, effect_views, EffectView, ExitView, Played, TurnStateView, calling, waiting, asking_next, closing, yielding, returning, failing, exit_view, Begun, life_of, CheckpointView, RecordView, IsAfter, IsLawfulRecord, StandsFor, fields_after, JobView, Advanced, advanced, BodyView, HasFrames, IfRunning, IsTurnOf, Polls, entered, kept_turn, left, state_at, Block, RecordStands, begun_priority, fields_of, left_as, ran, turn_end, BookView, IsEndOf, end_of_frames, end_of_turn, refusal_of_apply, standing, NextTurn, OpenHistory, given_view, job_of, Applies, Follows, GoesOn, IsAtRest, IsFollowed, Plays, RunsAt, Takes, kept_first, record_of, rows_at}
 use Rattle.std.specs.declared.alloc.AllocError.{AllocError}
-use Rattle.std.specs.Arc.{arc_value}
-use Rattle.swift_types.specs.declared.env.Env.{Env}
-use Rattle.swift_types.specs.declared.id.TaskId.{TaskId}
-use Rattle.swift_script.specs.Scripts.{ScriptView, actor_executor, method_actor}
-use Rattle.swift_interpreter.specs.Frames.{FrameView, effect_views}
-use Rattle.swift_interpreter.specs.Turn.{EffectView, ExitView, Played, TurnStateView, calling, waiting, asking_next, closing, yielding, returning, failing}
-use Rattle.swift_interpreter.specs.TurnStates.{exit_view}
-use Rattle.swift_events.specs.declared.life.JobStage.TheVariants.{Begun}
-use Rattle.swift_events.specs.Lives.{life_of}
-use Rattle.swift_journal.specs.Checkpoints.{CheckpointView}
-use Rattle.swift_journal.specs.Records.{RecordView}
-use Rattle.swift_journal.specs.Replay.{IsAfter, IsLawfulRecord, StandsFor, fields_after}
-use Rattle.swift_job.specs.Job.{JobView}
-use Rattle.swift_turn.specs.Body.{Advanced, advanced, BodyView, HasFrames, IfRunning, IsTurnOf, Polls, entered, kept_turn, left, state_at}
-use Rattle.swift_history.specs.Histories.{Block, RecordStands, begun_priority, fields_of, left_as, ran}
-use Rattle.swift_history.specs.TurnEnds.{turn_end}
-use Rattle.swift_tasks.specs.Books.{BookView, IsEndOf, end_of_frames, end_of_turn}
-use Rattle.swift_tasks.specs.Refusals.{refusal_of_apply}
-use Rattle.swift_course.specs.Course.{standing}
 use Rattle.swift_course.specs.Frames.{kept_frame}
 use Rattle.swift_course.proofs.Frames.{frames_go_on}
-use Rattle.swift_steps.specs.declared.next_turn.NextTurn.{NextTurn}
-use Rattle.swift_steps.specs.declared.history.OpenHistory.{OpenHistory}
 use Rattle.swift_steps.specs.declared.played.PlayedTurn.{PlayedTurn}
-use Rattle.swift_steps.specs.NextTurns.{given_view, job_of}
-use Rattle.swift_steps.specs.OpenHistories.{Applies, Follows, GoesOn, IsAtRest, IsFollowed, Plays, RunsAt, Takes, kept_first, record_of, rows_at}
 use Rattle.swift_steps.proofs.Led.{Turned, fields_go_on, led_turn, turn_stands}
 use Rattle.swift_steps.proofs.Steps.{followed_is, own_led, rest_after, same_many, same_rows}
 

@@ -1,10 +1,5 @@
 -- The fields of executors, when those of one are taken and others are put there.
-use Rattle.std.proofs.Common.{◌≡◌, ◌≢◌, ◌<◌, ℕ, List, length, map, set, sym, subst, ap, ◌∙◌, inl, inr}
-use Rattle.std.specs.Prelude.{Some, if◌then◌else◌, ◌==◌, slice_get}
-use Rattle.std.specs.Option.{option_map}
-use Rattle.std.proofs.lemmas.Bool.{cases_eq}
-use Rattle.std.proofs.lemmas.List.{length-set}
-use Rattle.std.proofs.lemmas.Option.{slice_get-map}
+use Rattle.swift_steps.proofs.Prelude.{◌≡◌, ◌≢◌, ◌<◌, ℕ, List, length, map, set, sym, subst, ap, ◌∙◌, inl, inr, Some, if◌then◌else◌, ◌==◌, slice_get, option_map, cases_eq, length-set, slice_get-map}
 use Rattle.swift_groups.proofs.Lists.{slice_get_set, slice_get_set_other}
 use Rattle.swift_steps.proofs.Given.{equal, unequal}
 

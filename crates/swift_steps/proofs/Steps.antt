@@ -1,27 +1,5 @@
 -- The calls of a book lead a history on.
-use Rattle.std.proofs.Common.{◌≡◌, ℕ, ℤ, ◌+◌, List, [], ◌∷◌, ◌++◌, Vec, length, map, sym, subst, ap, ◌∙◌}
-use Rattle.std.specs.Prelude.{Option, Some, None}
-use Rattle.std.specs.declared.alloc.Global.{Global}
-use Rattle.std.specs.Arc.{arc_value}
-use Rattle.script_code.specs.Seen.{rows_of}
-use Rattle.swift_types.specs.declared.env.Env.{Env}
-use Rattle.swift_types.specs.declared.id.TaskId.{TaskId}
-use Rattle.swift_script.specs.Scripts.{ScriptView, root_count}
-use Rattle.swift_events.specs.declared.event.Event.TheVariants.{Begin}
-use Rattle.swift_events.specs.Room.{IsEnv}
-use Rattle.swift_interpreter.specs.Turn.{EffectView, ExitView}
-use Rattle.swift_journal.specs.Checkpoints.{CheckpointView}
-use Rattle.swift_job.specs.Job.{JobView}
-use Rattle.swift_turn.specs.Body.{BodyView}
-use Rattle.swift_history.specs.Histories.{Block, added, begun}
-use Rattle.swift_history.specs.Jobs.{job_facts}
-use Rattle.swift_history.specs.TurnEnds.{root_events, root_job}
-use Rattle.swift_tasks.specs.Books.{BookView, IsJobOf}
-use Rattle.swift_tasks.specs.Refusals.{refusal_of_begin, refusal_of_root}
-use Rattle.swift_steps.specs.declared.next_turn.NextTurn.{NextTurn}
-use Rattle.swift_steps.specs.declared.history.OpenHistory.{OpenHistory}
-use Rattle.swift_steps.specs.NextTurns.{AreOf, IsReadyOf, given_at, given_view, job_of, with_given}
-use Rattle.swift_steps.specs.OpenHistories.{Applies, Begins, Follows, IsAtRest, IsFollowed, IsLed, Takes, rows_at}
+use Rattle.swift_steps.proofs.Prelude.{◌≡◌, ℕ, ℤ, ◌+◌, List, [], ◌∷◌, ◌++◌, Vec, length, map, sym, subst, ap, ◌∙◌, Option, Some, None, Global, arc_value, rows_of, Env, TaskId, ScriptView, root_count, Begin, IsEnv, EffectView, ExitView, CheckpointView, JobView, BodyView, Block, added, begun, job_facts, root_events, root_job, BookView, IsJobOf, refusal_of_begin, refusal_of_root, NextTurn, OpenHistory, AreOf, IsReadyOf, given_at, given_view, job_of, with_given, Applies, Begins, Follows, IsAtRest, IsFollowed, IsLed, Takes, rows_at}
 use Rattle.swift_steps.proofs.Given.{of_put, of_taken}
 use Rattle.swift_steps.proofs.Led.{led_begin, led_root}
 

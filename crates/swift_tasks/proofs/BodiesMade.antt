@@ -1,13 +1,5 @@
 -- Bodies by the places of their effects.
-use Rattle.std.proofs.Common.{◌≡◌, ℕ, ◌<◌, List, [], ◌∷◌, ◌++◌, length, get_or, take, zero, suc, arith, subst, sym, refl, ap}
-use Rattle.std.specs.Prelude.{Option}
-use Rattle.std.specs.List.{AllByRecursion}
-use Rattle.swift_script.specs.Scripts.{ScriptView}
-use Rattle.swift_interpreter.specs.declared.effect.Effect.{Effect}
-use Rattle.swift_interpreter.specs.Turn.{EffectView}
-use Rattle.swift_interpreter.specs.Frames.{effect_view, effect_views}
-use Rattle.swift_turn.specs.Body.{BodyView}
-use Rattle.swift_tasks.specs.BodiesInside.{AreBodiesOf, IsBodyOf}
+use Rattle.swift_tasks.proofs.Prelude.{◌≡◌, ℕ, ◌<◌, List, [], ◌∷◌, ◌++◌, length, get_or, take, zero, suc, arith, subst, sym, refl, ap, Option, AllByRecursion, ScriptView, Effect, EffectView, effect_view, effect_views, BodyView, AreBodiesOf, IsBodyOf}
 
 -- what holds of each effect holds of the one at a place
 pub effect_at : (P : EffectView → Type 0) (es : List Effect) (k : ℕ) (x : Effect) → AllByRecursion P (effect_views es) → k < length es → x ≡ get_or es k x → P (effect_view x)

@@ -1,26 +1,7 @@
 -- A turn's effects one by one: what fits the log before an effect fits the log after it.
-use Rattle.std.proofs.Common.{◌≡◌, ℕ, ◌+◌, ◌-◌, ◌≤◌, List, [], ◌∷◌, ◌++◌, length, refl, ◌∙◌, ap, arith, Bool, true, false, length-append}
-use Rattle.std.specs.Prelude.{None, is_some, if◌then◌else◌, ◌&&◌, ◌==◌, ◌^◌, not, nat_lt, unwrap_or}
-use Rattle.std.proofs.lemmas.Bool.Decides.{nat_tests}
-use Rattle.std.proofs.lemmas.List.{append-nil}
-use Rattle.swift_types.specs.declared.limits.TheConstants.{TASKS}
-use Rattle.swift_types.specs.declared.id.TaskId.{TaskId}
-use Rattle.swift_types.specs.declared.priority.Priority.{Priority}
-use Rattle.swift_types.specs.declared.priority.Priority.TheVariants.{Background}
-use Rattle.swift_script.specs.Scripts.{ScriptView, root_count}
+use Rattle.swift_tasks.proofs.Prelude.{◌≡◌, ℕ, ◌+◌, ◌-◌, ◌≤◌, List, [], ◌∷◌, ◌++◌, length, refl, ◌∙◌, ap, arith, Bool, true, false, length-append, None, is_some, if◌then◌else◌, ◌&&◌, ◌==◌, ◌^◌, not, nat_lt, unwrap_or, nat_tests, append-nil, TASKS, TaskId, Priority, Background, ScriptView, root_count, EffectView, spawning, detaching, opening, adding, cancelling_task, cancelling_group, ExitView, calling, waiting, asking_next, closing, yielding, returning, failing, Event, Apply, Free, Open, Child, Skip, CancelTask, CancelGroup, tasks_of, life_of, own_in, own_tasks, opens, opened_by, reserved_of, tasks_of-push_made, tasks_of-push_other, own_tasks-push_none, own_tasks-push_same, opened_by-push_yes, opened_by-push_no, Counters, counters, can_run, can_name, can_use, fits_effect, fits_exit, fits_turn, counted, task, named_task, effect_events, is_left_out, CanName, CanTake, CanLeave}
 use Rattle.swift_interpreter.specs.declared.effect.TaskName.{TaskName}
 use Rattle.swift_interpreter.specs.declared.effect.TaskName.TheVariants.{Root as RootName, Own}
-use Rattle.swift_interpreter.specs.Turn.{EffectView, spawning, detaching, opening, adding, cancelling_task, cancelling_group, ExitView, calling, waiting, asking_next, closing, yielding, returning, failing}
-use Rattle.swift_events.specs.declared.event.Event.{Event}
-use Rattle.swift_events.specs.declared.event.Event.TheVariants.{Apply, Free, Open, Child, Skip, CancelTask, CancelGroup}
-use Rattle.swift_events.specs.Events.{tasks_of}
-use Rattle.swift_events.specs.Lives.{life_of}
-use Rattle.swift_events.specs.Relations.{own_in, own_tasks, opens, opened_by}
-use Rattle.swift_events.specs.Room.{reserved_of}
-use Rattle.swift_events.proofs.LogLemmas.{tasks_of-push_made, tasks_of-push_other, own_tasks-push_none, own_tasks-push_same, opened_by-push_yes, opened_by-push_no}
-use Rattle.swift_history.specs.Checks.{Counters, counters, can_run, can_name, can_use, fits_effect, fits_exit, fits_turn, counted}
-use Rattle.swift_history.specs.TurnEnds.{task, named_task, effect_events, is_left_out}
-use Rattle.swift_tasks.specs.ApplyingInside.{CanName, CanTake, CanLeave}
 use Rattle.swift_tasks.proofs.Fitting.{left, right, less}
 use Rattle.swift_tasks.proofs.Grows.{Stays, stays_push}
 

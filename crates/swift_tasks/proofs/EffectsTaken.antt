@@ -1,19 +1,5 @@
 -- The effects of a turn, taken one by one.
-use Rattle.std.proofs.Common.{◌≡◌, ℕ, zero, suc, ◌<◌, List, [], ◌∷◌, ◌++◌, length, get_or, drop, refl, sym, ◌∙◌, ap, arith}
-use Rattle.std.specs.Prelude.{Option, reverse}
-use Rattle.std.proofs.lemmas.List.{reverse-append}
-use Rattle.swift_types.specs.declared.priority.Priority.{Priority}
-use Rattle.swift_script.specs.Scripts.{ScriptView}
-use Rattle.swift_interpreter.specs.Frames.{effect_views}
-use Rattle.swift_interpreter.specs.Turn.{EffectView, ExitView}
-use Rattle.swift_interpreter.specs.declared.effect.Effect.{Effect}
-use Rattle.swift_turn.specs.Body.{BodyView}
-use Rattle.swift_events.specs.declared.event.Event.{Event}
-use Rattle.swift_events.specs.Room.{reserved_of}
-use Rattle.swift_history.specs.Checks.{Counters, counters, fits_effect, fits_turn, counted}
-use Rattle.swift_history.specs.TurnEnds.{effect_events}
-use Rattle.swift_tasks.specs.ApplyingInside.{CanTake, CanTakeAll, CanLeave}
-use Rattle.swift_tasks.specs.BodiesInside.{AreBodiesOf, IsBodyOf}
+use Rattle.swift_tasks.proofs.Prelude.{◌≡◌, ℕ, zero, suc, ◌<◌, List, [], ◌∷◌, ◌++◌, length, get_or, drop, refl, sym, ◌∙◌, ap, arith, Option, reverse, reverse-append, Priority, ScriptView, effect_views, EffectView, ExitView, Effect, BodyView, Event, reserved_of, Counters, counters, fits_effect, fits_turn, counted, effect_events, CanTake, CanTakeAll, CanLeave, AreBodiesOf, IsBodyOf}
 use Rattle.swift_tasks.proofs.Fitting.{left, right}
 use Rattle.swift_tasks.proofs.Grows.{effect_grows}
 use Rattle.swift_tasks.proofs.Counting.{counters_step, room_step, can_take, can_leave, fits_on}

@@ -1,19 +1,5 @@
 -- A book in which no task waits, and tasks that wait as callers see them.
-use Rattle.std.proofs.Common.{get_or, ◌≡◌, ℕ, List, [], ◌∷◌, refl, sym, ◌∙◌, ap, subst, arith, zero, suc, replicate, false}
-use Rattle.std.specs.Prelude.{Option, Some, None, is_some, slice_index_or}
-use Rattle.std.specs.List.{AllByRecursion}
-use Rattle.std.proofs.lemmas.Bool.{false≢true}
-use Rattle.std.proofs.lemmas.List.{length-replicate, length-map}
-use Rattle.swift_script.specs.Scripts.{ScriptView, root_count}
-use Rattle.swift_ledger.specs.Ledgers.{LedgerView}
-use Rattle.swift_events.specs.declared.event.Event.{Event}
-use Rattle.swift_events.specs.Lives.{is_waiting}
-use Rattle.swift_events.proofs.LogLemmas.{unborn_without}
-use Rattle.swift_history.specs.TurnEnds.{WaitingTaskView}
-use Rattle.swift_tasks.specs.declared.held.WaitingTask.{WaitingTask}
-use Rattle.swift_tasks.specs.Books.{HoldsWaiting, BookView, empty_book}
-use Rattle.swift_tasks.specs.CountedInside.{UnopenedAreNotClosed}
-use Rattle.swift_tasks.specs.BookInvariant.{BookInvariant, held_view, held_views, FitsScript}
+use Rattle.swift_tasks.proofs.Prelude.{get_or, ◌≡◌, ℕ, List, [], ◌∷◌, refl, sym, ◌∙◌, ap, subst, arith, zero, suc, replicate, false, Option, Some, None, is_some, slice_index_or, AllByRecursion, false≢true, length-replicate, length-map, ScriptView, root_count, LedgerView, Event, is_waiting, unborn_without, WaitingTaskView, WaitingTask, HoldsWaiting, BookView, empty_book, UnopenedAreNotClosed, BookInvariant, held_view, held_views, FitsScript}
 
 none_at : (A : Type 0) (n t : ℕ) → is_some (get_or {A = Option A} (replicate n None) t None) ≡ false
 none_at A zero t = refl

@@ -1,17 +1,5 @@
 -- The ending of a task stays as events are noted.
-use Rattle.std.proofs.Common.{◌≡◌, ℕ, List, [], ◌∷◌, ◌++◌, refl, sym, ◌∙◌, ap, subst, inl, inr, append_assoc}
-use Rattle.std.specs.Prelude.{Some, None}
-use Rattle.std.proofs.lemmas.Bool.{cases_eq}
-use Rattle.std.proofs.lemmas.List.{append-nil}
-use Rattle.swift_types.specs.declared.outcome.Ending.{Ending}
-use Rattle.swift_events.specs.declared.event.Event.{Event}
-use Rattle.swift_events.specs.declared.event.Event.TheVariants.{Root, Begin, Apply, Free, Open, Child, Skip, CancelTask, CancelGroup, Wait, Next, Close, End, Give}
-use Rattle.swift_events.specs.declared.life.Life.{Life}
-use Rattle.swift_events.specs.Events.{task_of, later}
-use Rattle.swift_events.specs.Lives.{life_of, ending_in}
-use Rattle.swift_events.proofs.LogLemmas.{life_of-push_same, life_of-push_other}
-use Rattle.swift_ledger.specs.Ledgers.{CanNote}
-use Rattle.swift_tasks.specs.Laws.{CanNoteAll}
+use Rattle.swift_tasks.proofs.Prelude.{◌≡◌, ℕ, List, [], ◌∷◌, ◌++◌, refl, sym, ◌∙◌, ap, subst, inl, inr, append_assoc, Some, None, cases_eq, append-nil, Ending, Event, Root, Begin, Apply, Free, Open, Child, Skip, CancelTask, CancelGroup, Wait, Next, Close, End, Give, Life, task_of, later, life_of, ending_in, life_of-push_same, life_of-push_other, CanNote, CanNoteAll}
 
 -- only an end of the task would change it, and there is none
 same_later : (roots : ℕ) (log : List Event) (e : Event) (ending : Ending) → CanNote roots log e → (life_of (task_of e) log).ending ≡ Some ending → later (ending_in e) (life_of (task_of e) log).ending ≡ Some ending

@@ -1,19 +1,5 @@
 -- The jobs that a turn has made, behind those that stood before.
-use Rattle.std.proofs.Common.{◌≡◌, ℕ, zero, suc, ◌-◌, ◌≤◌, List, [], ◌∷◌, ◌++◌, length, take, drop, replicate, refl, ◌∙◌, ap, arith, length-append}
-use Rattle.std.specs.Prelude.{Option, None, map}
-use Rattle.std.specs.List.{AllByRecursion}
-use Rattle.std.proofs.lemmas.List.{map-append, length-map}
-use Rattle.swift_types.specs.declared.outcome.Resume.{Resume}
-use Rattle.swift_script.specs.Scripts.{ScriptView}
-use Rattle.swift_job.specs.Job.{JobView}
-use Rattle.swift_turn.specs.declared.step.Step.{Step}
-use Rattle.swift_turn.specs.Body.{BodyView, TaskView}
-use Rattle.swift_events.specs.declared.event.Event.{Event}
-use Rattle.swift_history.specs.TurnEnds.{JobFacts, WaitingTaskView, AfterTurn, followed}
-use Rattle.swift_tasks.specs.declared.held.WaitingTask.{WaitingTask}
-use Rattle.swift_tasks.specs.ApplyingInside.{follows_of, followed_from}
-use Rattle.swift_tasks.specs.BookInvariant.{FitsScript, held_view, held_views}
-use Rattle.swift_history.specs.Jobs.{job_facts}
+use Rattle.swift_tasks.proofs.Prelude.{◌≡◌, ℕ, zero, suc, ◌-◌, ◌≤◌, List, [], ◌∷◌, ◌++◌, length, take, drop, replicate, refl, ◌∙◌, ap, arith, length-append, Option, None, map, AllByRecursion, map-append, length-map, Resume, ScriptView, JobView, Step, BodyView, TaskView, Event, JobFacts, WaitingTaskView, AfterTurn, followed, WaitingTask, follows_of, followed_from, FitsScript, held_view, held_views, job_facts}
 use Rattle.swift_tasks.proofs.WakesKept.{behind, followed_behind}
 
 abbrev pub both_of : List (Option WaitingTaskView) → List JobFacts → AfterTurn

@@ -1,20 +1,6 @@
 -- What follows from a turn that fits.
-use Rattle.std.proofs.Common.{◌≡◌, ℕ, ◌<◌, List, [], ◌∷◌, refl, Bool, true, false, arith}
-use Rattle.std.specs.Prelude.{Option, Some, None, ◌&&◌, nat_lt}
-use Rattle.std.specs.List.{AllByRecursion}
-use Rattle.std.proofs.lemmas.Bool.{false≢true}
-use Rattle.std.proofs.lemmas.Bool.Decides.{nat_tests}
-use Rattle.swift_types.specs.declared.env.Env.{Env}
-use Rattle.swift_script.specs.Scripts.{ScriptView, method_count}
+use Rattle.swift_tasks.proofs.Prelude.{◌≡◌, ℕ, ◌<◌, List, [], ◌∷◌, refl, Bool, true, false, arith, Option, Some, None, ◌&&◌, nat_lt, AllByRecursion, false≢true, nat_tests, Env, ScriptView, method_count, InvocationView, EffectView, spawning, detaching, opening, adding, cancelling_task, cancelling_group, ExitView, calling, waiting, asking_next, closing, yielding, returning, failing, CanAdvance, Event, JobStage, Given, Begun, Applied, Waits, Asks, Closes, Counters, counters, can_run, can_use, fits_effect, fits_turn, counted, CanStart, fits_begun}
 use Rattle.swift_script.specs.SameScripts.{same_scripts}
-use Rattle.swift_interpreter.specs.Turn.{InvocationView, EffectView, spawning, detaching, opening, adding, cancelling_task, cancelling_group, ExitView, calling, waiting, asking_next, closing, yielding, returning, failing}
-use Rattle.swift_turn.specs.Body.{CanAdvance}
-use Rattle.swift_events.specs.declared.event.Event.{Event}
-use Rattle.swift_events.specs.declared.life.JobStage.{JobStage}
-use Rattle.swift_events.specs.declared.life.JobStage.TheVariants.{Given, Begun, Applied, Waits, Asks, Closes}
-use Rattle.swift_history.specs.Checks.{Counters, counters, can_run, can_use, fits_effect, fits_turn, counted}
-use Rattle.swift_tasks.specs.BodiesInside.{CanStart}
-use Rattle.swift_tasks.specs.Refusals.{fits_begun}
 
 pub left : (a b : Bool) → (a && b) ≡ true → a ≡ true
 left true b h = refl

@@ -1,35 +1,8 @@
 -- A turn that has made nothing, and whose task goes on.
-use Rattle.std.proofs.Common.{◌≡◌, ℕ, ◌+◌, List, [], ◌∷◌, ◌++◌, refl, sym, ◌∙◌, ap, subst, arith, Bool, true, false, ℤ}
-use Rattle.std.specs.Prelude.{Option, ◌==◌, length, map, nat_lt, if◌then◌else◌}
-use Rattle.std.proofs.lemmas.Bool.{eqb-true, false≢true}
-use Rattle.std.proofs.lemmas.List.{append-nil, map-append}
+use Rattle.swift_tasks.proofs.Prelude.{◌≡◌, ℕ, ◌+◌, List, [], ◌∷◌, ◌++◌, refl, sym, ◌∙◌, ap, subst, arith, Bool, true, false, ℤ, Option, ◌==◌, length, map, nat_lt, if◌then◌else◌, eqb-true, false≢true, append-nil, map-append, TaskId, Resume, Go, Start, Depth, FRAMES, Priority, ScriptView, root_count, method_actor, Effect, FrameView, effect_views, InvocationView, EffectView, ExitView, calling, waiting, asking_next, closing, yielding, returning, failing, JobView, Step, Run, Ended, Await, BodyView, TaskView, Advanced, HasFrames, IsRunning, GoesOn, AdvancesTo, CanAdvance, advanced, runs, Event, Apply, Give, life_of, counters, fits_turn, begun_priority, JobFacts, WaitingTaskView, TurnEnd, turn_end, resume_at, task, WaitingTask, CanApply, CanLeave, StepFits, TurnLeaves, next_of, went_on, BookInvariant, held_views, BookView, HoldsWaiting, IsEndOf, end_of_turn, job_facts, UnopenedAreNotClosed}
 use Rattle.swift_types.specs.declared.id.ActorId.{ActorId}
-use Rattle.swift_types.specs.declared.id.TaskId.{TaskId}
-use Rattle.swift_types.specs.declared.outcome.Resume.{Resume}
-use Rattle.swift_types.specs.declared.outcome.Resume.TheVariants.{Go, Start, Fault as Raise}
-use Rattle.swift_types.specs.declared.outcome.Fault.TheVariants.{Depth}
-use Rattle.swift_types.specs.declared.limits.TheConstants.{FRAMES}
-use Rattle.swift_types.specs.declared.priority.Priority.{Priority}
-use Rattle.swift_script.specs.Scripts.{ScriptView, root_count, method_actor}
-use Rattle.swift_interpreter.specs.declared.effect.Effect.{Effect}
-use Rattle.swift_interpreter.specs.Frames.{FrameView, effect_views}
-use Rattle.swift_interpreter.specs.Turn.{InvocationView, EffectView, ExitView, calling, waiting, asking_next, closing, yielding, returning, failing}
-use Rattle.swift_job.specs.Job.{JobView}
-use Rattle.swift_turn.specs.declared.step.Step.{Step}
-use Rattle.swift_turn.specs.declared.step.Step.TheVariants.{Run, Ended, Await}
-use Rattle.swift_turn.specs.Body.{BodyView, TaskView, Advanced, HasFrames, IsRunning, GoesOn, AdvancesTo, CanAdvance, advanced, runs, opening}
-use Rattle.swift_events.specs.declared.event.Event.{Event}
-use Rattle.swift_events.specs.declared.event.Event.TheVariants.{Apply, Give}
-use Rattle.swift_events.specs.Lives.{life_of}
-use Rattle.swift_history.specs.Checks.{counters, fits_turn}
-use Rattle.swift_history.specs.Histories.{begun_priority}
-use Rattle.swift_history.specs.TurnEnds.{JobFacts, WaitingTaskView, TurnEnd, turn_end, resume_at, task}
-use Rattle.swift_tasks.specs.declared.held.WaitingTask.{WaitingTask}
-use Rattle.swift_tasks.specs.ApplyingInside.{CanApply, CanLeave, StepFits, TurnLeaves, next_of, went_on}
-use Rattle.swift_tasks.specs.BookInvariant.{BookInvariant, held_views}
-use Rattle.swift_tasks.specs.Books.{BookView, HoldsWaiting, IsEndOf, end_of_turn}
-use Rattle.swift_history.specs.Jobs.{job_facts}
-use Rattle.swift_tasks.specs.CountedInside.{UnopenedAreNotClosed}
+use Rattle.swift_types.specs.declared.outcome.Resume.TheVariants.{Fault as Raise}
+use Rattle.swift_turn.specs.Body.{opening}
 use Rattle.swift_tasks.proofs.TurnApplied.{holds_viewed, job_fits}
 use Rattle.swift_tasks.proofs.TurnEndKept.{end_kept}
 use Rattle.swift_tasks.proofs.Fitting.{advances}

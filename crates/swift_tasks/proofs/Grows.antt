@@ -1,23 +1,5 @@
 -- What the effects of a turn leave of a log.
-use Rattle.std.proofs.Common.{◌≡◌, ℕ, ◌<◌, ◌≤◌, List, [], ◌∷◌, ◌++◌, refl, sym, ◌∙◌, ap, arith, Bool, true, false, inl, inr, subst}
-use Rattle.std.specs.Prelude.{Option, Some, None, is_some, if◌then◌else◌, ◌&&◌, not, nat_lt, unwrap_or, IsTrue}
-use Rattle.std.proofs.lemmas.Bool.{cases_eq}
-use Rattle.std.proofs.lemmas.Bool.Decides.{nat_tests}
-use Rattle.std.proofs.lemmas.List.{append-nil}
-use Rattle.swift_types.specs.declared.id.TaskId.{TaskId}
-use Rattle.swift_types.specs.declared.outcome.Ending.{Ending}
-use Rattle.swift_types.specs.declared.priority.Priority.{Priority}
-use Rattle.swift_types.specs.declared.priority.Priority.TheVariants.{Background}
-use Rattle.swift_interpreter.specs.Turn.{EffectView, spawning, detaching, opening, adding, cancelling_task, cancelling_group}
-use Rattle.swift_events.specs.declared.event.Event.{Event}
-use Rattle.swift_events.specs.declared.event.Event.TheVariants.{Free, Open, Child, Skip, CancelTask, CancelGroup}
-use Rattle.swift_events.specs.declared.life.Life.{Life}
-use Rattle.swift_events.specs.declared.life.JobStage.{JobStage}
-use Rattle.swift_events.specs.Events.{task_of, is_made, tasks_of, later}
-use Rattle.swift_events.specs.Lives.{life_of, stage_in, ending_in, origin_in}
-use Rattle.swift_events.specs.Relations.{waiter_in, waiters_of, opened_by, closes, is_closed, is_open_group}
-use Rattle.swift_events.proofs.LogLemmas.{life_of-push_same, life_of-push_other, tasks_of-push_made, tasks_of-push_other, opened_by-push, is_closed-push_no, waiters_of-push_none}
-use Rattle.swift_history.specs.TurnEnds.{task, named_task, effect_events, is_left_out, log_after}
+use Rattle.swift_tasks.proofs.Prelude.{◌≡◌, ℕ, ◌<◌, ◌≤◌, List, [], ◌∷◌, ◌++◌, refl, sym, ◌∙◌, ap, arith, Bool, true, false, inl, inr, subst, Option, Some, None, is_some, if◌then◌else◌, ◌&&◌, not, nat_lt, unwrap_or, IsTrue, cases_eq, nat_tests, append-nil, TaskId, Ending, Priority, Background, EffectView, spawning, detaching, opening, adding, cancelling_task, cancelling_group, Event, Free, Open, Child, Skip, CancelTask, CancelGroup, Life, JobStage, task_of, is_made, tasks_of, later, life_of, stage_in, ending_in, origin_in, waiter_in, waiters_of, opened_by, closes, is_closed, is_open_group, life_of-push_same, life_of-push_other, tasks_of-push_made, tasks_of-push_other, opened_by-push, is_closed-push_no, waiters_of-push_none, task, named_task, effect_events, is_left_out, log_after}
 use Rattle.swift_tasks.proofs.Fitting.{left, right, less}
 
 -- an event that changes no stage and no ending, closes no group and waits for no task

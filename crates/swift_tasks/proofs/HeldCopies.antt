@@ -1,13 +1,5 @@
 -- Copies of tasks that wait.
-use Rattle.std.proofs.Common.{◌≡◌, ℕ, List, [], ◌∷◌, refl, sym, subst, ap, ◌∙◌}
-use Rattle.std.specs.Prelude.{Option}
-use Rattle.std.specs.List.{AllByRecursion, AllZip}
-use Rattle.swift_script.specs.Scripts.{ScriptView}
-use Rattle.swift_events.specs.declared.event.Event.{Event}
-use Rattle.swift_history.specs.TurnEnds.{WaitingTaskView}
-use Rattle.swift_tasks.specs.declared.held.WaitingTask.{WaitingTask}
-use Rattle.swift_tasks.specs.Books.{HoldsWaiting}
-use Rattle.swift_tasks.specs.BookInvariant.{BookInvariant, FitsScript, IsSameHeld, held_view, held_views}
+use Rattle.swift_tasks.proofs.Prelude.{◌≡◌, ℕ, List, [], ◌∷◌, refl, sym, subst, ap, ◌∙◌, Option, AllByRecursion, AllZip, ScriptView, Event, WaitingTaskView, WaitingTask, HoldsWaiting, BookInvariant, FitsScript, IsSameHeld, held_view, held_views}
 use Rattle.swift_tasks.proofs.EmptyBook.{book_of, views_hold}
 use Rattle.swift_tasks.proofs.TurnApplied.{holds_viewed}
 

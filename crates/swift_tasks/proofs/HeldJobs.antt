@@ -1,16 +1,5 @@
 -- The jobs of the tasks that wait, taken from the last on.
-use Rattle.std.proofs.Common.{◌≡◌, ℕ, ◌+◌, List, [], ◌∷◌, ◌++◌, length, refl, sym, ◌∙◌, ap, arith, append_assoc, subst}
-use Rattle.std.proofs.lemmas.List.{append-nil, length-map, map-append, reverse-append}
-use Rattle.swift_job.specs.Job.{JobView}
-use Rattle.swift_turn.specs.Body.{BodyView}
-use Rattle.swift_tasks.specs.declared.held.WaitingTask.{WaitingTask}
-use Rattle.swift_tasks.specs.BookInvariant.{held_view, held_views}
-use Rattle.std.specs.Prelude.{Option, Some, None, map, reverse}
-use Rattle.std.specs.List.{AllByRecursion}
-use Rattle.swift_types.specs.declared.outcome.Resume.TheVariants.{Go}
-use Rattle.swift_history.specs.TurnEnds.{JobFacts, WaitingTaskView}
-use Rattle.swift_tasks.specs.Books.{jobs_held}
-use Rattle.swift_history.specs.Jobs.{job_facts}
+use Rattle.swift_tasks.proofs.Prelude.{◌≡◌, ℕ, ◌+◌, List, [], ◌∷◌, ◌++◌, length, refl, sym, ◌∙◌, ap, arith, append_assoc, subst, append-nil, length-map, map-append, reverse-append, JobView, BodyView, WaitingTask, held_view, held_views, Option, Some, None, map, reverse, AllByRecursion, Go, JobFacts, WaitingTaskView, jobs_held, job_facts}
 
 pub jobs_held-append : (t : ℕ) (xs ys : List (Option WaitingTaskView)) → jobs_held t (xs ++ ys) ≡ jobs_held t xs ++ jobs_held (t + length xs) ys
 jobs_held-append t [] ys = ap (λ k. jobs_held k ys) (omega arith)

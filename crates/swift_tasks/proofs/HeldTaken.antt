@@ -1,18 +1,5 @@
 -- A task that is held is taken, seen as callers see it.
-use Rattle.std.proofs.Common.{◌≡◌, ℕ, zero, suc, ◌<◌, List, [], ◌∷◌, ◌++◌, length, get_or, refl, sym, ◌∙◌, ap, take, drop, arith}
-use Rattle.std.specs.Prelude.{Option, Some, None, is_some, unwrap_or, map, slice_index_or, slice_set, slice_get}
-use Rattle.std.specs.List.{AllByRecursion}
-use Rattle.std.proofs.lemmas.Bool.{false≢true}
-use Rattle.std.proofs.lemmas.List.{map-append}
-use Rattle.swift_types.specs.declared.id.TaskId.{TaskId}
-use Rattle.swift_types.specs.declared.outcome.Resume.{Resume}
-use Rattle.swift_job.specs.Job.{JobView}
-use Rattle.swift_turn.specs.Body.{BodyView}
-use Rattle.swift_history.specs.TurnEnds.{JobFacts, WaitingTaskView, AfterTurn, resume_at, woken, wake, wake_each}
-use Rattle.swift_tasks.specs.declared.held.WaitingTask.{WaitingTask}
-use Rattle.swift_tasks.specs.ApplyingInside.{follows_of}
-use Rattle.swift_tasks.specs.BookInvariant.{held_view, held_views}
-use Rattle.swift_history.specs.Jobs.{job_facts}
+use Rattle.swift_tasks.proofs.Prelude.{◌≡◌, ℕ, zero, suc, ◌<◌, List, [], ◌∷◌, ◌++◌, length, get_or, refl, sym, ◌∙◌, ap, take, drop, arith, Option, Some, None, is_some, unwrap_or, map, slice_index_or, slice_set, slice_get, AllByRecursion, false≢true, map-append, TaskId, Resume, JobView, BodyView, JobFacts, WaitingTaskView, AfterTurn, resume_at, woken, wake, wake_each, WaitingTask, follows_of, held_view, held_views, job_facts}
 
 view_at : (held : List (Option WaitingTask)) (u : ℕ) → slice_index_or (held_views held) u None ≡ held_view (slice_index_or held u None)
 view_at [] u = refl

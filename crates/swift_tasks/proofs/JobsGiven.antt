@@ -1,25 +1,5 @@
 -- The jobs that a turn makes, and what remains of waits when they are written.
-use Rattle.std.proofs.Common.{◌≡◌, ◌≢◌, ℕ, ◌+◌, ◌<◌, List, [], ◌∷◌, ◌++◌, length, refl, sym, ◌∙◌, ap, arith, Bool, true, false, inl, inr, subst, append_assoc, length-append}
-use Rattle.std.specs.Prelude.{Option, is_some, is_none, if◌then◌else◌, ◌&&◌, ◌||◌, ◌==◌, not, unwrap_or}
-use Rattle.std.proofs.lemmas.Bool.{cases_eq}
-use Rattle.std.proofs.lemmas.Bool.Decides.{nat_tests}
-use Rattle.std.proofs.lemmas.List.{append-nil}
-use Rattle.swift_types.specs.declared.outcome.Ending.{Ending}
-use Rattle.swift_types.specs.declared.priority.Priority.{Priority}
-use Rattle.swift_types.specs.declared.priority.Priority.TheVariants.{Background}
-use Rattle.swift_script.specs.Scripts.{ScriptView, root_count}
-use Rattle.swift_interpreter.specs.Turn.{EffectView, spawning, detaching, opening, adding, cancelling_task, cancelling_group}
-use Rattle.swift_events.specs.declared.event.Event.{Event}
-use Rattle.swift_events.specs.declared.event.Event.TheVariants.{Free, Open, Child, Skip, CancelTask, CancelGroup, Give}
-use Rattle.swift_events.specs.declared.life.Life.{Life}
-use Rattle.swift_events.specs.declared.life.Origin.{Origin}
-use Rattle.swift_events.specs.Events.{task_of, is_made, tasks_of}
-use Rattle.swift_events.specs.Lives.{life_of, lived, is_open, is_waiting}
-use Rattle.swift_events.specs.Relations.{opened_by}
-use Rattle.swift_events.proofs.LogLemmas.{life_of-push_same, life_of-push_other, tasks_of-push_made, tasks_of-push_other, origin-push}
-use Rattle.swift_history.specs.TurnEnds.{JobFacts, task, named_task, effect_events, effect_jobs, is_left_out, log_after, jobs_made, first_job, gives}
-use Rattle.swift_tasks.specs.ApplyingInside.{AreMade}
-use Rattle.swift_tasks.specs.CountedInside.{UnopenedAreNotClosed}
+use Rattle.swift_tasks.proofs.Prelude.{◌≡◌, ◌≢◌, ℕ, ◌+◌, ◌<◌, List, [], ◌∷◌, ◌++◌, length, refl, sym, ◌∙◌, ap, arith, Bool, true, false, inl, inr, subst, append_assoc, length-append, Option, is_some, is_none, if◌then◌else◌, ◌&&◌, ◌||◌, ◌==◌, not, unwrap_or, cases_eq, nat_tests, append-nil, Ending, Priority, Background, ScriptView, root_count, EffectView, spawning, detaching, opening, adding, cancelling_task, cancelling_group, Event, Free, Open, Child, Skip, CancelTask, CancelGroup, Give, Life, Origin, task_of, is_made, tasks_of, life_of, lived, is_open, is_waiting, opened_by, life_of-push_same, life_of-push_other, tasks_of-push_made, tasks_of-push_other, origin-push, JobFacts, task, named_task, effect_events, effect_jobs, is_left_out, log_after, jobs_made, first_job, gives, AreMade, UnopenedAreNotClosed}
 use Rattle.swift_tasks.proofs.Grows.{ending-push, effect_grows, effects_grow}
 use Rattle.swift_tasks.proofs.Pushes.{closed_push}
 

@@ -1,21 +1,5 @@
 -- The jobs of tasks that effects make.
-use Rattle.std.proofs.Common.{◌≡◌, ℕ, List, [], ◌∷◌, ◌++◌, sym, ◌∙◌, ap, subst, Bool, true, false, ℤ}
-use Rattle.std.specs.Prelude.{Option, Some, map, if◌then◌else◌}
-use Rattle.std.specs.List.{AllByRecursion}
-use Rattle.std.proofs.lemmas.List.{map-append}
-use Rattle.swift_types.specs.declared.priority.Priority.{Priority}
-use Rattle.swift_types.specs.declared.outcome.Resume.TheVariants.{Start}
-use Rattle.swift_script.specs.Scripts.{ScriptView, root_count}
-use Rattle.swift_interpreter.specs.Turn.{InvocationView, adding}
-use Rattle.swift_job.specs.Job.{JobView}
-use Rattle.swift_turn.specs.Body.{BodyView, TaskView, HasFrames}
-use Rattle.swift_events.specs.declared.event.Event.{Event}
-use Rattle.swift_events.specs.Events.{tasks_of}
-use Rattle.swift_history.specs.TurnEnds.{JobFacts, beginning, first_job, effect_jobs, is_left_out}
-use Rattle.swift_tasks.specs.ApplyingInside.{add_jobs, first_of}
-use Rattle.swift_tasks.specs.BodiesInside.{IsStarted}
-use Rattle.swift_tasks.specs.Books.{IsJobOf}
-use Rattle.swift_history.specs.Jobs.{job_facts}
+use Rattle.swift_tasks.proofs.Prelude.{◌≡◌, ℕ, List, [], ◌∷◌, ◌++◌, sym, ◌∙◌, ap, subst, Bool, true, false, ℤ, Option, Some, map, if◌then◌else◌, AllByRecursion, map-append, Priority, Start, ScriptView, root_count, InvocationView, adding, JobView, BodyView, TaskView, HasFrames, Event, tasks_of, JobFacts, beginning, first_job, effect_jobs, is_left_out, add_jobs, first_of, IsStarted, IsJobOf, job_facts}
 use Rattle.swift_tasks.proofs.HeldJobs.{all-append}
 
 abbrev shown : ℕ → TaskView → JobFacts

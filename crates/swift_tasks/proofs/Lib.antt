@@ -1,3 +1,4 @@
+pub mod Prelude
 pub mod BodiesMade
 pub mod Counting
 pub mod EffectsTaken

@@ -1,13 +1,6 @@
 -- How many tasks a task can have spawned and detached.
-use Rattle.std.proofs.Common.{◌≡◌, ℕ, ◌+◌, ◌≤◌, List, [], ◌∷◌, length, refl, arith, Bool, true, false, cond}
-use Rattle.std.specs.Prelude.{Option, Some, None, is_some, count_by}
-use Rattle.std.specs.List.{cons_option, filter_map}
-use Rattle.std.proofs.lemmas.Bool.{false≢true}
+use Rattle.swift_tasks.proofs.Prelude.{◌≡◌, ℕ, ◌+◌, ◌≤◌, List, [], ◌∷◌, length, refl, arith, Bool, true, false, cond, Option, Some, None, is_some, count_by, cons_option, filter_map, false≢true, Event, Root, Begin, Apply, Free, Open, Child, Skip, CancelTask, CancelGroup, Wait, Next, Close, End, Give, is_made, tasks_of, own_in, own_tasks}
 use Rattle.std.proofs.lemmas.List.Sums.{sum_by-cons}
-use Rattle.swift_events.specs.declared.event.Event.{Event}
-use Rattle.swift_events.specs.declared.event.Event.TheVariants.{Root, Begin, Apply, Free, Open, Child, Skip, CancelTask, CancelGroup, Wait, Next, Close, End, Give}
-use Rattle.swift_events.specs.Events.{is_made, tasks_of}
-use Rattle.swift_events.specs.Relations.{own_in, own_tasks}
 
 one_more : {Y : Type 0} (o : Option Y) (b : Bool) (ys : List Y) (n : ℕ) → (is_some o ≡ true → b ≡ true) → length ys ≤ n → length (cons_option o ys) ≤ cond b 1 0 + n
 one_more None true ys n h le = omega (arith, le)

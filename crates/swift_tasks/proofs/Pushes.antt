@@ -1,28 +1,5 @@
 -- What one more event leaves of what a book keeps.
-use Rattle.std.proofs.Common.{◌≡◌, ℕ, ◌<◌, List, [], ◌∷◌, ◌++◌, length, refl, sym, ◌∙◌, ap, arith, Bool, true, false, inl, inr, subst, zero, suc, append_assoc}
-use Rattle.std.specs.Prelude.{Option, None, is_some, is_none, ◌&&◌, slice_index_or, IsSome}
-use Rattle.std.specs.List.{list_all}
-use Rattle.swift_ledger.specs.Ledgers.{IsMade}
-use Rattle.std.proofs.lemmas.Bool.{cases_eq, false≢true}
-use Rattle.swift_types.specs.declared.id.TaskId.{TaskId}
-use Rattle.swift_types.specs.declared.outcome.Resume.{Resume}
-use Rattle.swift_types.specs.declared.priority.Priority.{Priority}
-use Rattle.swift_types.specs.declared.env.Env.{Env}
-use Rattle.swift_events.specs.declared.event.Event.{Event}
-use Rattle.swift_events.specs.declared.event.Event.TheVariants.{Root, Begin, CancelTask, Give}
-use Rattle.swift_events.specs.declared.life.Life.{Life}
-use Rattle.swift_events.specs.declared.life.Origin.{Origin}
-use Rattle.swift_events.specs.Events.{task_of, is_made}
-use Rattle.swift_events.specs.Lives.{life_of, lived, is_open, is_waiting}
-use Rattle.swift_events.specs.Relations.{closes}
-use Rattle.swift_events.proofs.LogLemmas.{life_of-push_same, life_of-push_other, tasks_of-push_other, opened_by-push, is_closed-push_no}
-use Rattle.swift_tasks.specs.Books.{HoldsWaiting}
-use Rattle.swift_types.specs.declared.outcome.Resume.TheVariants.{Start}
-use Rattle.swift_script.specs.Scripts.{ScriptView, root_priority}
-use Rattle.swift_history.specs.TurnEnds.{root_events}
-use Rattle.swift_tasks.specs.declared.held.WaitingTask.{WaitingTask}
-use Rattle.swift_tasks.specs.BookInvariant.{BookInvariant}
-use Rattle.swift_tasks.specs.CountedInside.{UnopenedAreNotClosed}
+use Rattle.swift_tasks.proofs.Prelude.{◌≡◌, ℕ, ◌<◌, List, [], ◌∷◌, ◌++◌, length, refl, sym, ◌∙◌, ap, arith, Bool, true, false, inl, inr, subst, zero, suc, append_assoc, Option, None, is_some, is_none, ◌&&◌, slice_index_or, IsSome, list_all, IsMade, cases_eq, false≢true, TaskId, Resume, Priority, Env, Event, Root, Begin, CancelTask, Give, Life, Origin, task_of, is_made, life_of, lived, is_open, is_waiting, closes, life_of-push_same, life_of-push_other, tasks_of-push_other, opened_by-push, is_closed-push_no, HoldsWaiting, Start, ScriptView, root_priority, root_events, WaitingTask, BookInvariant, UnopenedAreNotClosed}
 
 -- An event of a task that makes none. The task waits after it exactly where it has waited before, and is open if it waits.
 pub record LeavesWaits (log : List Event) (e : Event) : Type 0 where

@@ -1,10 +1,5 @@
 -- Tests of groups, and elements of lists.
-use Rattle.std.proofs.Common.{◌≡◌, ℕ, ◌+◌, ◌<◌, ◌≤◌, Bool, true, false, leb, arith, List, [], ◌∷◌, length, zero, suc, refl, ap, ◌∙◌, inl, inr, get_or}
-use Rattle.std.specs.Prelude.{◌&&◌, not, nat_lt}
-use Rattle.std.proofs.lemmas.Bool.{cases_eq, false≢true}
-use Rattle.std.proofs.lemmas.Bool.Decides.{nat_tests}
-use Rattle.swift_events.specs.declared.event.Event.{Event}
-use Rattle.swift_events.specs.Relations.{is_closed, is_open_group, opened_by}
+use Rattle.swift_tasks.proofs.Prelude.{◌≡◌, ℕ, ◌+◌, ◌<◌, ◌≤◌, Bool, true, false, leb, arith, List, [], ◌∷◌, length, zero, suc, refl, ap, ◌∙◌, inl, inr, get_or, ◌&&◌, not, nat_lt, cases_eq, false≢true, nat_tests, Event, is_closed, is_open_group, opened_by}
 
 -- a group that was opened in this turn is open
 pub new_is_open : (closed : Bool) (group opened now : ℕ) → group < now → opened ≤ group → closed ≡ false → leb opened group ≡ (nat_lt group now && not closed)

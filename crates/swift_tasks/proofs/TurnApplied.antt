@@ -1,22 +1,5 @@
 -- From a book to its parts and back, around the end of a turn.
-use Rattle.std.proofs.Common.{◌≡◌, ℕ, zero, suc, ◌<◌, List, [], ◌∷◌, refl, sym, ◌∙◌, ap, subst}
-use Rattle.std.specs.Prelude.{Option, Some, None, is_some, slice_index_or}
-use Rattle.std.specs.List.{AllByRecursion}
-use Rattle.std.proofs.lemmas.List.{length-map}
-use Rattle.swift_script.specs.Scripts.{ScriptView, root_count}
-use Rattle.swift_interpreter.specs.Turn.{EffectView, ExitView}
-use Rattle.swift_job.specs.Job.{JobView}
-use Rattle.swift_turn.specs.Body.{BodyView, IsRunning}
-use Rattle.swift_events.specs.declared.event.Event.{Event}
-use Rattle.swift_events.specs.Events.{tasks_of}
-use Rattle.swift_history.specs.TurnEnds.{JobFacts, WaitingTaskView}
-use Rattle.swift_tasks.specs.declared.held.WaitingTask.{WaitingTask}
-use Rattle.swift_tasks.specs.ApplyingInside.{JobFits}
-use Rattle.swift_tasks.specs.BodiesInside.{AreBodiesOf}
-use Rattle.swift_tasks.specs.BookInvariant.{BookInvariant, FitsScript, held_view, held_views}
-use Rattle.swift_tasks.specs.Books.{BookView, HoldsWaiting, IsEndOf}
-use Rattle.swift_tasks.specs.CountedInside.{UnopenedAreNotClosed}
-use Rattle.swift_tasks.specs.Refusals.{refusal_of_apply}
+use Rattle.swift_tasks.proofs.Prelude.{◌≡◌, ℕ, zero, suc, ◌<◌, List, [], ◌∷◌, refl, sym, ◌∙◌, ap, subst, Option, Some, None, is_some, slice_index_or, AllByRecursion, length-map, ScriptView, root_count, EffectView, ExitView, JobView, BodyView, IsRunning, Event, tasks_of, JobFacts, WaitingTaskView, WaitingTask, JobFits, AreBodiesOf, BookInvariant, FitsScript, held_view, held_views, BookView, HoldsWaiting, IsEndOf, UnopenedAreNotClosed, refusal_of_apply}
 use Rattle.swift_tasks.proofs.EmptyBook.{views_hold}
 use Rattle.swift_tasks.proofs.TurnTaken.{taken_open, taken_fits}
 

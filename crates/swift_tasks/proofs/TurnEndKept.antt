@@ -1,42 +1,13 @@
 -- What the end of a turn keeps.
-use Rattle.std.proofs.Common.{◌≡◌, ◌≢◌, ℕ, ◌+◌, ◌<◌, ◌≤◌, List, [], ◌∷◌, ◌++◌, length, get_or, replicate, refl, sym, ◌∙◌, ap, arith, Bool, true, false, inl, inr, subst, append_assoc, length-append, get_or-set_same, get_or-set_other, length-set, zero, suc}
-use Rattle.std.specs.Prelude.{Option, Some, None, is_some, is_none, ◌&&◌, ◌||◌, ◌==◌, not, nat_lt, slice_index_or, slice_set, IsTrue}
-use Rattle.std.specs.List.{cons_option}
-use Rattle.std.proofs.lemmas.Bool.{cases_eq, cases_lt, false≢true}
-use Rattle.std.proofs.lemmas.List.{append-nil, length-replicate}
-use Rattle.swift_types.specs.declared.id.TaskId.{TaskId}
-use Rattle.swift_types.specs.declared.outcome.Resume.{Resume}
-use Rattle.swift_types.specs.declared.outcome.Ending.{Ending}
+use Rattle.swift_tasks.proofs.Prelude.{◌≡◌, ◌≢◌, ℕ, ◌+◌, ◌<◌, ◌≤◌, List, [], ◌∷◌, ◌++◌, length, get_or, replicate, refl, sym, ◌∙◌, ap, arith, Bool, true, false, inl, inr, subst, append_assoc, length-append, get_or-set_same, get_or-set_other, length-set, zero, suc, Option, Some, None, is_some, is_none, ◌&&◌, ◌||◌, ◌==◌, not, nat_lt, slice_index_or, slice_set, IsTrue, cons_option, cases_eq, cases_lt, false≢true, append-nil, length-replicate, TaskId, Resume, Ending, Empty, Priority, Env, close_of, ScriptView, root_count, EffectView, ExitView, calling, waiting, asking_next, yielding, returning, failing, Step, Run, Ended, Await, BodyView, TaskView, Event, Apply, CancelGroup, Wait, Next, Close, End, Life, JobStage, Begun, Waits, Asks, Closes, task_of, is_made, tasks_of, later, life_of, lived, is_open, is_waiting, waits_at, stage_in, opened_by, closes, is_closed, is_open_group, group_of, waiter_in, waiters_of, life_of-push_same, life_of-push_other, tasks_of-push_other, is_closed-push, opened_by-push, waiters_of-push, begun_priority, JobFacts, WaitingTaskView, AfterTurn, task, named_task, wait_events, wait_resume, next_events, next_resume, close_events, close_resume, end_events, step_resume, exit_events, exit_resume, wake_all, followed, gives, jobs_made, log_after, resume_at, resume_of, AreMade, CanLeave, StepFits, TurnLeaves, done_log, HoldsWaiting, UnopenedAreNotClosed}
 use Rattle.swift_types.specs.declared.outcome.Fault.{Fault}
-use Rattle.swift_types.specs.declared.outcome.Fault.TheVariants.{Empty}
 use Rattle.swift_types.specs.declared.outcome.Resume.TheVariants.{Fault as Raise}
-use Rattle.swift_types.specs.declared.priority.Priority.{Priority}
-use Rattle.swift_types.specs.declared.env.Env.{Env}
 use Rattle.swift_groups.specs.declared.answer.NextResult.{NextResult as Answer}
 use Rattle.swift_groups.specs.declared.answer.NextResult.TheVariants as answer
 use Rattle.swift_groups.specs.declared.answer.Close.{Close as Closing}
 use Rattle.swift_groups.specs.declared.answer.Close.TheVariants as closing
 use Rattle.swift_groups.specs.Next.{next_of}
-use Rattle.swift_groups.specs.Close.{close_of}
-use Rattle.swift_script.specs.Scripts.{ScriptView, root_count}
-use Rattle.swift_interpreter.specs.Turn.{EffectView, ExitView, calling, waiting, asking_next, closing as closing_group, yielding, returning, failing}
-use Rattle.swift_turn.specs.declared.step.Step.{Step}
-use Rattle.swift_turn.specs.declared.step.Step.TheVariants.{Run, Ended, Await}
-use Rattle.swift_turn.specs.Body.{BodyView, TaskView}
-use Rattle.swift_events.specs.declared.event.Event.{Event}
-use Rattle.swift_events.specs.declared.event.Event.TheVariants.{Apply, CancelGroup, Wait, Next, Close, End}
-use Rattle.swift_events.specs.declared.life.Life.{Life}
-use Rattle.swift_events.specs.declared.life.JobStage.{JobStage}
-use Rattle.swift_events.specs.declared.life.JobStage.TheVariants.{Begun, Waits, Asks, Closes}
-use Rattle.swift_events.specs.Events.{task_of, is_made, tasks_of, later}
-use Rattle.swift_events.specs.Lives.{life_of, lived, is_open, is_waiting, waits_at, stage_in}
-use Rattle.swift_events.specs.Relations.{opened_by, closes, is_closed, is_open_group, group_of, waiter_in, waiters_of}
-use Rattle.swift_events.proofs.LogLemmas.{life_of-push_same, life_of-push_other, tasks_of-push_other, is_closed-push, opened_by-push, waiters_of-push}
-use Rattle.swift_history.specs.Histories.{begun_priority}
-use Rattle.swift_history.specs.TurnEnds.{JobFacts, WaitingTaskView, AfterTurn, task, named_task, wait_events, wait_resume, next_events, next_resume, close_events, close_resume, end_events, step_resume, exit_events, exit_resume, wake_all, followed, gives, jobs_made, log_after, resume_at, resume_of}
-use Rattle.swift_tasks.specs.ApplyingInside.{AreMade, CanLeave, StepFits, TurnLeaves, done_log}
-use Rattle.swift_tasks.specs.Books.{HoldsWaiting}
-use Rattle.swift_tasks.specs.CountedInside.{UnopenedAreNotClosed}
+use Rattle.swift_interpreter.specs.Turn.{closing as closing_group}
 use Rattle.swift_tasks.proofs.Fitting.{left, right, less}
 use Rattle.swift_tasks.proofs.Grows.{Grows, open_stays, stage-push, ending-push, made-push, grows_cancel_group, effects_grow}
 use Rattle.swift_tasks.proofs.Pushes.{LeavesWaits, holds_push, closed_push}

@@ -1,24 +1,5 @@
 -- What the code has made of a turn is what the end of the turn is defined to be.
-use Rattle.std.proofs.Common.{◌≡◌, ℕ, zero, suc, ◌+◌, ◌-◌, ◌≤◌, List, [], ◌∷◌, ◌++◌, length, take, drop, replicate, refl, ◌∙◌, ap, arith, length-append}
-use Rattle.std.specs.Prelude.{Option, None, map}
-use Rattle.std.proofs.lemmas.List.{length-map}
-use Rattle.swift_types.specs.declared.outcome.Resume.{Resume}
-use Rattle.swift_script.specs.Scripts.{ScriptView, root_count}
-use Rattle.swift_interpreter.specs.Turn.{EffectView, ExitView}
-use Rattle.swift_job.specs.Job.{JobView}
-use Rattle.swift_turn.specs.declared.step.Step.{Step}
-use Rattle.swift_turn.specs.Body.{BodyView, TaskView}
-use Rattle.swift_events.specs.declared.event.Event.{Event}
-use Rattle.swift_events.specs.declared.event.Event.TheVariants.{Apply}
-use Rattle.swift_events.specs.Lives.{life_of}
-use Rattle.swift_events.specs.Relations.{waiters_of}
-use Rattle.swift_events.proofs.LogLemmas.{waiters_of-push_none}
-use Rattle.swift_history.specs.Histories.{begun_priority}
-use Rattle.swift_history.specs.TurnEnds.{JobFacts, WaitingTaskView, AfterTurn, followed, jobs_made, exit_resume, task}
-use Rattle.swift_tasks.specs.declared.held.WaitingTask.{WaitingTask}
-use Rattle.swift_tasks.specs.ApplyingInside.{CanLeave, StepFits, done_log, written_log, followed_from}
-use Rattle.swift_tasks.specs.BookInvariant.{held_views}
-use Rattle.swift_history.specs.Jobs.{job_facts}
+use Rattle.swift_tasks.proofs.Prelude.{◌≡◌, ℕ, zero, suc, ◌+◌, ◌-◌, ◌≤◌, List, [], ◌∷◌, ◌++◌, length, take, drop, replicate, refl, ◌∙◌, ap, arith, length-append, Option, None, map, length-map, Resume, ScriptView, root_count, EffectView, ExitView, JobView, Step, BodyView, TaskView, Event, Apply, life_of, waiters_of, waiters_of-push_none, begun_priority, JobFacts, WaitingTaskView, AfterTurn, followed, jobs_made, exit_resume, task, WaitingTask, CanLeave, StepFits, done_log, written_log, followed_from, held_views, job_facts}
 use Rattle.swift_tasks.proofs.FinishedTurn.{both_of, drop_map, drop_front}
 use Rattle.swift_tasks.proofs.Grows.{effects_grow}
 use Rattle.swift_tasks.proofs.TurnEndKept.{exit_left}

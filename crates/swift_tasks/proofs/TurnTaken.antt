@@ -1,30 +1,10 @@
 -- What follows from a turn that is not refused, and from the step that its body takes.
-use Rattle.std.proofs.Common.{◌≡◌, ℕ, List, [], ◌∷◌, ◌++◌, length, refl, sym, ◌∙◌, ap, Bool, true, false, ℤ}
-use Rattle.std.specs.Prelude.{Option, Some, None, is_some, is_none, if◌then◌else◌, ◌&&◌, nat_lt}
-use Rattle.std.proofs.lemmas.Bool.{false≢true}
-use Rattle.swift_types.specs.declared.limits.TheConstants.{FRAMES}
-use Rattle.swift_types.specs.declared.outcome.Ending.{Ending}
+use Rattle.swift_tasks.proofs.Prelude.{◌≡◌, ℕ, List, [], ◌∷◌, ◌++◌, length, refl, sym, ◌∙◌, ap, Bool, true, false, ℤ, Option, Some, None, is_some, is_none, if◌then◌else◌, ◌&&◌, nat_lt, false≢true, FRAMES, Ending, Resume, Start, Go, Depth, ScriptView, FrameView, InvocationView, EffectView, ExitView, calling, waiting, asking_next, closing, yielding, returning, failing, JobView, Step, Run, Ended, Await, BodyView, TaskView, Advanced, HasFrames, IsRunning, GoesOn, AdvancesTo, advanced, called, resumed, runs, Event, Origin, life_of, is_open, begun_priority, JobFacts, WaitingTaskView, TurnEnd, turn_end, StepFits, JobFits, TurnLeaves, BookEnds, BookView, IsEndOf, end_of_frames, refused_unless, refusal_unless_open, refusal_of_job, refusal_of_apply}
 use Rattle.swift_types.specs.declared.outcome.Ending.TheVariants.{Value, Fault as Failed}
-use Rattle.swift_types.specs.declared.outcome.Resume.{Resume}
-use Rattle.swift_types.specs.declared.outcome.Resume.TheVariants.{Start, Go, Value as Given, Fault as Raise}
-use Rattle.swift_types.specs.declared.outcome.Fault.TheVariants.{Depth}
-use Rattle.swift_script.specs.Scripts.{ScriptView}
-use Rattle.swift_interpreter.specs.Frames.{FrameView}
-use Rattle.swift_interpreter.specs.Turn.{InvocationView, EffectView, ExitView, calling, waiting, asking_next, closing, yielding, returning, failing}
-use Rattle.swift_job.specs.Job.{JobView}
-use Rattle.swift_turn.specs.declared.step.Step.{Step}
-use Rattle.swift_turn.specs.declared.step.Step.TheVariants.{Run, Ended, Await}
-use Rattle.swift_turn.specs.Body.{BodyView, TaskView, Advanced, HasFrames, IsRunning, GoesOn, AdvancesTo, advanced, called, resumed, runs, opening}
-use Rattle.swift_events.specs.declared.event.Event.{Event}
-use Rattle.swift_events.specs.declared.life.Origin.{Origin}
-use Rattle.swift_events.specs.Lives.{life_of, is_open}
-use Rattle.swift_history.specs.Histories.{begun_priority}
-use Rattle.swift_history.specs.TurnEnds.{JobFacts, WaitingTaskView, TurnEnd, turn_end}
+use Rattle.swift_types.specs.declared.outcome.Resume.TheVariants.{Value as Given, Fault as Raise}
+use Rattle.swift_turn.specs.Body.{opening}
 use Rattle.swift_tasks.specs.declared.fault.BookFault.{BookFault}
 use Rattle.swift_tasks.specs.declared.fault.BookFault.TheVariants.{Unknown, Completed}
-use Rattle.swift_tasks.specs.ApplyingInside.{StepFits, JobFits, TurnLeaves, BookEnds}
-use Rattle.swift_tasks.specs.Books.{BookView, IsEndOf, end_of_frames}
-use Rattle.swift_tasks.specs.Refusals.{refused_unless, refusal_unless_open, refusal_of_job, refusal_of_apply}
 use Rattle.swift_tasks.proofs.Fitting.{FitsTurn, begun_fits}
 
 some_none : {A B : Type 0} (o : Option A) → is_some o ≡ true → o ≡ None → B

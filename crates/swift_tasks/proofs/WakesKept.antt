@@ -1,24 +1,8 @@
 -- What is held while tasks go on: a task is held exactly where it waits and no job of it was made.
-use Rattle.std.proofs.Common.{◌≡◌, ℕ, zero, suc, ◌<◌, List, [], ◌∷◌, ◌++◌, length, get_or, refl, sym, ◌∙◌, ap, arith, Bool, true, false, inl, inr, append_assoc, get_or-set_same, get_or-set_other, length-set}
-use Rattle.std.specs.Prelude.{Option, Some, None, is_some, if◌then◌else◌, ◌&&◌, ◌||◌, ◌==◌, not, slice_index_or, slice_set}
-use Rattle.std.proofs.lemmas.Bool.{cases_eq, false≢true}
-use Rattle.swift_types.specs.declared.id.TaskId.{TaskId}
-use Rattle.swift_types.specs.declared.outcome.Resume.{Resume}
-use Rattle.swift_types.specs.declared.outcome.Resume.TheVariants.{Go}
-use Rattle.swift_types.specs.declared.outcome.Ending.{Ending}
+use Rattle.swift_tasks.proofs.Prelude.{◌≡◌, ℕ, zero, suc, ◌<◌, List, [], ◌∷◌, ◌++◌, length, get_or, refl, sym, ◌∙◌, ap, arith, Bool, true, false, inl, inr, append_assoc, get_or-set_same, get_or-set_other, length-set, Option, Some, None, is_some, if◌then◌else◌, ◌&&◌, ◌||◌, ◌==◌, not, slice_index_or, slice_set, cases_eq, false≢true, TaskId, Resume, Go, Ending, close_of, Step, Run, Ended, Await, TaskView, Event, JobStage, life_of, is_waiting, waiters_of, group_of, parent_of, JobFacts, WaitingTaskView, AfterTurn, resume_at, resume_of, woken, wake, wake_each, wake_closing, wake_owner, wake_parent, wake_all, followed, AreMade}
 use Rattle.swift_groups.specs.declared.answer.Close.{Close as Closing}
 use Rattle.swift_groups.specs.declared.answer.Close.TheVariants as closing
-use Rattle.swift_groups.specs.Close.{close_of}
-use Rattle.swift_turn.specs.declared.step.Step.{Step}
-use Rattle.swift_turn.specs.declared.step.Step.TheVariants.{Run, Ended, Await}
-use Rattle.swift_turn.specs.Body.{TaskView}
-use Rattle.swift_events.specs.declared.event.Event.{Event}
-use Rattle.swift_events.specs.declared.life.JobStage.{JobStage}
 use Rattle.swift_events.specs.declared.life.JobStage.TheVariants as stage
-use Rattle.swift_events.specs.Lives.{life_of, is_waiting}
-use Rattle.swift_events.specs.Relations.{waiters_of, group_of, parent_of}
-use Rattle.swift_history.specs.TurnEnds.{JobFacts, WaitingTaskView, AfterTurn, resume_at, resume_of, woken, wake, wake_each, wake_closing, wake_owner, wake_parent, wake_all, followed}
-use Rattle.swift_tasks.specs.ApplyingInside.{AreMade}
 use Rattle.swift_tasks.proofs.JobsGiven.{among, among-append, equal, unequal, made-append}
 
 -- which of `n` tasks are held, by this log; each of them was made, as each of those of which a job was made

@@ -1,20 +1,5 @@
 -- A run stays within its room as events are noted.
-use Rattle.std.proofs.Common.{◌≡◌, ◌≢◌, ℕ, ◌+◌, ◌<◌, ◌≤◌, List, [], ◌∷◌, ◌++◌, refl, sym, ◌∙◌, ap, subst, inl, inr, arith, true, false, append_assoc}
-use Rattle.std.specs.Prelude.{is_some}
-use Rattle.std.proofs.lemmas.Bool.{cases_lt, false≢true}
-use Rattle.std.proofs.lemmas.List.{append-nil}
-use Rattle.swift_types.specs.declared.limits.TheConstants.{TASKS}
-use Rattle.swift_types.specs.declared.id.TaskId.{TaskId}
-use Rattle.swift_types.specs.declared.env.Env.{Env}
-use Rattle.swift_events.specs.declared.event.Event.{Event}
-use Rattle.swift_events.specs.declared.event.Event.TheVariants.{Root, Begin, Apply, Free, Open, Child, Skip, CancelTask, CancelGroup, Wait, Next, Close, End, Give}
-use Rattle.swift_events.specs.declared.life.Life.{Life}
-use Rattle.swift_events.specs.Events.{task_of, events_of, is_made, tasks_of}
-use Rattle.swift_events.specs.Lives.{life_of, lived, room_held, unborn}
-use Rattle.swift_events.specs.Room.{reserved_of}
-use Rattle.swift_events.proofs.LogLemmas.{life_of-push_same, unborn_without, events_of-push_other, none_beyond, tasks_of-push_made, tasks_of-push_other, reserved_of-push, reserved_of-push_made, sum_of_none}
-use Rattle.swift_ledger.specs.Ledgers.{CanNote, IsMade}
-use Rattle.swift_tasks.specs.Laws.{CanNoteAll}
+use Rattle.swift_tasks.proofs.Prelude.{◌≡◌, ◌≢◌, ℕ, ◌+◌, ◌<◌, ◌≤◌, List, [], ◌∷◌, ◌++◌, refl, sym, ◌∙◌, ap, subst, inl, inr, arith, true, false, append_assoc, is_some, cases_lt, false≢true, append-nil, TASKS, TaskId, Env, Event, Root, Begin, Apply, Free, Open, Child, Skip, CancelTask, CancelGroup, Wait, Next, Close, End, Give, Life, task_of, events_of, is_made, tasks_of, life_of, lived, room_held, unborn, reserved_of, life_of-push_same, unborn_without, events_of-push_other, none_beyond, tasks_of-push_made, tasks_of-push_other, reserved_of-push, reserved_of-push_made, sum_of_none, CanNote, IsMade, CanNoteAll}
 
 record Within (roots : ℕ) (log : List Event) : Type 0 where
   few : tasks_of roots log + reserved_of roots log ≤ TASKS

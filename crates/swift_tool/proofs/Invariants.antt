@@ -1,15 +1,9 @@
 -- Each invariant holds of the fields that a run of an accepted script leaves.
-use Rattle.std.proofs.Common.{ℕ, ℤ, ◌+◌, Some, false, List, [], ◌∷◌, refl, sym, subst, arith}
-use Rattle.std.specs.Prelude.{IsTrue, Contains, if◌then◌else◌}
-use Rattle.std.specs.declared.vec.Vec.{Vec}
-use Rattle.std.specs.declared.alloc.Global.{Global}
+use Rattle.swift_tool.proofs.Prelude.{ℕ, ℤ, ◌+◌, Some, false, List, [], ◌∷◌, refl, sym, subst, arith, IsTrue, Contains, if◌then◌else◌, Vec, Global, ScriptView, executor_invariants, KeepInvariants, HoldInvariants}
 use Rattle.script_code.specs.Seen.{rows_of}
 use Rattle.script_code.specs.Tree.{Term}
 use Rattle.script_code.specs.Value.{holds}
-use Rattle.swift_script.specs.Scripts.{ScriptView, executor_invariants}
 use Rattle.swift_interpreter.specs.Turn.{all_hold}
-use Rattle.swift_workers.specs.Leaves.{KeepInvariants}
-use Rattle.swift_tool.specs.Run.{HoldInvariants}
 use Rattle.swift_executor.proofs.StartInvariants.{StartWell, start_each}
 
 all_from : (ts : List Term) (rows : List (List ℤ)) → ((t : Term) → Contains ts t → IsTrue (holds (Some t) rows)) → IsTrue (all_hold ts rows)

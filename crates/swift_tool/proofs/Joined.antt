@@ -1,6 +1,5 @@
 -- Texts that grow piece by piece.
-use Rattle.std.proofs.Common.{◌≡◌, ℕ, List, ◌++◌, ap, sym, ◌∙◌, append_assoc}
-use Rattle.std.specs.Prelude.{Result, Ok, Err, OnOk}
+use Rattle.swift_tool.proofs.Prelude.{◌≡◌, ℕ, List, ◌++◌, ap, sym, ◌∙◌, append_assoc, Result, Ok, Err, OnOk}
 
 -- after a text stands one more piece
 pub onto : (x0 x1 x2 text piece : List ℕ) → x1 ≡ x0 ++ text → x2 ≡ x1 ++ piece → x2 ≡ x0 ++ (text ++ piece)

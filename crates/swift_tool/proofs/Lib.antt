@@ -1,3 +1,4 @@
+pub mod Prelude
 pub mod Invariants
 pub mod Joined
 pub mod Past

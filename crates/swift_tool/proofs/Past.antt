@@ -1,9 +1,8 @@
 -- What a script lacks has no name.
-use Rattle.std.proofs.Common.{◌≡◌, ℕ, ◌≤◌, Option, List, [], length, sym, ap}
-use Rattle.std.specs.Prelude.{slice_get, unwrap_or}
+use Rattle.swift_tool.proofs.Prelude.{◌≡◌, ℕ, ◌≤◌, Option, List, [], length, sym, ap, slice_get, ScriptView, parts_of, no_actor, no_executor, no_root, actor_count, actor_name, field_name, no_field, executor_count, executor_name, executor_kind, root_count, root_name}
+use Rattle.std.specs.Prelude.{unwrap_or}
 use Rattle.std.proofs.lemmas.Option.{slice_get_past}
 use Rattle.swift_types.specs.declared.executor_kind.ExecutorKind.TheVariants as kind
-use Rattle.swift_script.specs.Scripts.{ScriptView, parts_of, no_actor, no_executor, no_root, actor_count, actor_name, field_name, no_field, executor_count, executor_name, executor_kind, root_count, root_name}
 use Rattle.script_compiler.specs.Compiled.{ExecutorView, ActorView, RootView}
 
 past : {X : Type 0} (xs : List X) (none : X) (k : ℕ) → length xs ≤ k → unwrap_or (slice_get xs k) none ≡ none

@@ -1,10 +1,6 @@
 -- The lines of a journal's turns, one more at a time.
-use Rattle.std.proofs.Common.{◌≡◌, ℕ, ◌+◌, ◌<◌, List, [], ◌∷◌, ◌++◌, length, drop, get_or, sym, ap, ◌∙◌, arith, append_assoc}
-use Rattle.std.proofs.lemmas.List.{drop_more}
-use Rattle.swift_script.specs.Scripts.{ScriptView}
-use Rattle.swift_journal.specs.Records.{RecordView}
+use Rattle.swift_tool.proofs.Prelude.{◌≡◌, ℕ, ◌+◌, ◌<◌, List, [], ◌∷◌, ◌++◌, length, drop, get_or, sym, ap, ◌∙◌, arith, append_assoc, drop_more, ScriptView, RecordView, line_of, listed_json, turns_json}
 use Rattle.swift_tool.specs.declared.json.line.TurnJson.{TurnJson}
-use Rattle.swift_tool.specs.ReportJson.{line_of, listed_json, turns_json}
 
 -- an element of a list that has one
 first_of : {X : Type 0} (xs : List X) (k : ℕ) → k < length xs → X

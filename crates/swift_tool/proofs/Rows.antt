@@ -1,10 +1,5 @@
 -- The fields, actor by actor.
-use Rattle.std.proofs.Common.{◌≡◌, ℕ, suc, ℤ, ◌+◌, ◌-◌, ◌<◌, List, ◌++◌, arith, ap}
-use Rattle.std.specs.declared.vec.Vec.{Vec}
-use Rattle.std.specs.declared.alloc.Global.{Global}
-use Rattle.swift_script.specs.Scripts.{ScriptView}
-use Rattle.swift_report.specs.Text.{row_of}
-use Rattle.swift_tool.specs.ReportJson.{actor_json, fields_json}
+use Rattle.swift_tool.proofs.Prelude.{◌≡◌, ℕ, suc, ℤ, ◌+◌, ◌-◌, ◌<◌, List, ◌++◌, arith, ap, Vec, Global, ScriptView, row_of, actor_json, fields_json}
 
 -- the first actor, and then those of the others
 pub fields_from : (p : ScriptView) (fields : List (Vec (Vec ℤ Global) Global)) (k n : ℕ) → k < n → fields_json p fields k (n - k) ≡ actor_json p k (row_of p fields k) ++ fields_json p fields (k + 1) (n - (k + 1))

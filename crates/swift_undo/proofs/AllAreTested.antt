@@ -1,16 +1,7 @@
 -- Where those hold that are tested, and the others hold, all do.
-use Rattle.std.proofs.Common.{◌≡◌, ℕ, zero, suc, ◌+◌, ◌<◌, ℤ, Bool, true, false, if◌then◌else◌, Option, Some, None, List, [], ◌∷◌, ◌++◌, ◌==◌, ◌⊎◌, length, take, drop, get_or, refl, sym, ap, subst, ◌∙◌, inl, inr, arith}
-use Rattle.std.specs.Prelude.{Contains, slice_get}
-use Rattle.std.proofs.lemmas.Bool.{cases_eq, cond-true, cond-false, eq-eqb, ne_eqb}
-use Rattle.std.proofs.lemmas.List.{drop_more, take_more}
-use Rattle.std.proofs.lemmas.List.Elements.{Contains-push_cases}
+use Rattle.swift_undo.proofs.Prelude.{◌≡◌, ℕ, zero, suc, ◌+◌, ◌<◌, ℤ, Bool, true, false, if◌then◌else◌, Option, Some, None, List, [], ◌∷◌, ◌++◌, ◌==◌, ◌⊎◌, length, take, drop, get_or, refl, sym, ap, subst, ◌∙◌, inl, inr, arith, Contains, slice_get, cases_eq, cond-true, cond-false, eq-eqb, ne_eqb, drop_more, take_more, Contains-push_cases, Term, term_of, terms_of, holds, is_saved, all_hold, HoldsThere, OthersHold, ReadersHold}
 use Rattle.std.proofs.Math.Seq.{drop-nil}
-use Rattle.script_code.specs.Tree.{Term, term_of, terms_of}
-use Rattle.script_code.specs.Value.{holds}
 use Rattle.script_code.specs.declared.formula.Formula.{Formula}
-use Rattle.swift_interpreter.specs.Saved.{is_saved}
-use Rattle.swift_interpreter.specs.Turn.{all_hold}
-use Rattle.swift_undo.specs.RowsInside.{HoldsThere, OthersHold, ReadersHold}
 
 by_case : (b : Bool) → (b ≡ true) ⊎ (b ≡ false)
 by_case true = inl refl

@@ -1,11 +1,5 @@
 -- What is kept of a turn, by how it ends.
-use Rattle.std.proofs.Common.{◌≡◌, ℕ, ℤ, true, false, List, [], Result, Ok, Err, IfOk, refl, sym, ap, ◌∙◌}
-use Rattle.swift_types.specs.declared.outcome.Fault.TheVariants.{Invariant}
-use Rattle.swift_types.specs.declared.outcome.Resume.{Resume}
-use Rattle.script_code.specs.Tree.{Term, Code}
-use Rattle.swift_interpreter.specs.Frames.{FrameView, state_in}
-use Rattle.swift_interpreter.specs.Saved.{restored}
-use Rattle.swift_interpreter.specs.Turn.{TurnStateView, TurnInputView, ExitView, failing, Played, undoes, all_hold, exits, kept, whole_turn}
+use Rattle.swift_undo.proofs.Prelude.{◌≡◌, ℕ, ℤ, true, false, List, [], Result, Ok, Err, IfOk, refl, sym, ap, ◌∙◌, Invariant, Resume, Term, Code, FrameView, state_in, restored, TurnStateView, TurnInputView, ExitView, failing, Played, undoes, all_hold, exits, kept, whole_turn}
 
 pub kept_undone : (g : TurnInputView) (n : ℕ) (invariants : List Term) (s : TurnStateView) (resume : Resume) (w : Played) → w ≡ whole_turn g n s resume → undoes w.exit ≡ true → exits s w.exit ≡ kept g n invariants s resume
 kept_undone g n invariants s resume w is undone = rw (sym is, undone) refl

@@ -1,17 +1,10 @@
 -- What is kept of a turn.
-use Rattle.std.proofs.Common.{◌≡◌, ℕ, zero, suc, ℤ, Bool, true, false, if◌then◌else◌, Option, Some, None, List, [], ◌∷◌, refl, sym, subst, ap, ◌∙◌, ◌⊎◌, inl, inr, arith}
-use Rattle.std.specs.Prelude.{IsTrue, Contains, nat_lt, ◌^◌}
+use Rattle.swift_undo.proofs.Prelude.{◌≡◌, ℕ, zero, suc, ℤ, Bool, true, false, if◌then◌else◌, Option, Some, None, List, [], ◌∷◌, refl, sym, subst, ap, ◌∙◌, ◌⊎◌, inl, inr, arith, IsTrue, Contains, nat_lt, ◌^◌, Thrown, Cancelled, Invariant, Overflow, Steps, Turns, Depth, Tasks, Empty, Isolation, Resume, Term, Operation, Wanted, Code, ev, evs, holds, NextAction, first, ends, does, tests, TurnStateView, TurnInputView, InvocationView, EffectView, ExitView, calling, waiting, asking_next, yielding, closing, returning, failing, AfterStatement, goes, leaves, Played, scene, standing, with_value, with_invocation, given, perform, act, settled, at_limit, on, end_of, caught, received, raised_by, taken_by, taken, whole_turn, tail, left_by, exits, undoes, all_hold, kept_of, kept, fault_of, SaysUndone, IsUndone, IsUntouched, AllHold}
 use Rattle.swift_types.specs.declared.outcome.Fault.{Fault}
-use Rattle.swift_types.specs.declared.outcome.Fault.TheVariants.{Thrown, Cancelled, Invariant, Overflow, Steps, Turns, Depth, Tasks, Empty, Isolation}
-use Rattle.swift_types.specs.declared.outcome.Resume.{Resume}
 use Rattle.swift_types.specs.declared.outcome.Resume.TheVariants.{Start, Go, Value, Fault as Raise}
-use Rattle.script_code.specs.Tree.{Term, Operation, Wanted, Code}
 use Rattle.script_code.specs.Tree as code
-use Rattle.script_code.specs.Value.{ev, evs, holds}
-use Rattle.script_code.specs.Instructions.{NextAction, first, ends, does, tests}
 use Rattle.swift_interpreter.specs.Turn
-use Rattle.swift_interpreter.specs.Turn.{TurnStateView, TurnInputView, InvocationView, EffectView, ExitView, calling, waiting, asking_next, yielding, closing, returning, failing, AfterStatement, goes, leaves, Played, scene, standing, with_value, with_invocation, given, perform, act, settled, at_limit, on, end_of, turn, caught, received, raised_by, taken_by, taken, whole_turn, tail, left_by, exits, undoes, all_hold, kept_of, kept}
-use Rattle.swift_undo.specs.Laws.{fault_of, SaysUndone, IsUndone, IsUntouched, AllHold}
+use Rattle.swift_interpreter.specs.Turn.{turn}
 
 -- how a frame is left by a fault
 left_by_untouched : (f : Fault) (gs : List ℕ) (s : TurnStateView) → s.groups ≡ gs → IsUntouched s (left_by f gs s).state

@@ -1,3 +1,4 @@
+pub mod Prelude
 pub mod Keeping
 pub mod KeptTurns
 pub mod Spared

@@ -1,14 +1,5 @@
 -- The rows that invariants read stand beside them.
-use Rattle.std.proofs.Common.{◌≡◌, ℕ, zero, suc, ◌+◌, ◌<◌, Bool, true, false, if◌then◌else◌, Some, None, List, [], ◌∷◌, ◌++◌, length, map, take, set, get_or, refl, sym, ap, subst, ◌∙◌, inl, inr, arith}
-use Rattle.std.specs.Prelude.{Contains, slice_get}
-use Rattle.std.specs.declared.vec.Vec.{Vec}
-use Rattle.std.specs.declared.alloc.Global.{Global}
-use Rattle.std.proofs.lemmas.Bool.{cases_eq}
-use Rattle.std.proofs.lemmas.List.{get_or-map, get_or-set_other, get_or-set_same, get_or-take, length-map, length-take-le, map-append, map-set}
-use Rattle.std.proofs.lemmas.List.Elements.{Contains-append_left, Contains-push}
-use Rattle.script_code.specs.Tree.{Term}
-use Rattle.swift_undo.specs.Rows.{reads_only, row_of, rows_read, HaveRows}
-use Rattle.swift_undo.specs.RowsInside.{AreListed, places_of}
+use Rattle.swift_undo.proofs.Prelude.{◌≡◌, ℕ, zero, suc, ◌+◌, ◌<◌, Bool, true, false, if◌then◌else◌, Some, None, List, [], ◌∷◌, ◌++◌, length, map, take, set, get_or, refl, sym, ap, subst, ◌∙◌, inl, inr, arith, Contains, slice_get, Vec, Global, cases_eq, get_or-map, get_or-set_other, get_or-set_same, get_or-take, length-map, length-take-le, map-append, map-set, Contains-append_left, Contains-push, Term, reads_only, row_of, rows_read, HaveRows, AreListed, places_of}
 
 beside : (t : Term) (ts : List Term) (reads : Bool) → reads_only (row_of t) t ≡ reads → HaveRows (rows_read ts) ts → HaveRows (if reads then row_of t ∷ rows_read ts else []) (t ∷ ts)
 beside t ts true is have = (is, have)

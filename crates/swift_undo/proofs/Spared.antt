@@ -1,15 +1,5 @@
 -- Invariants whose rows have not changed still hold.
-use Rattle.std.proofs.Common.{◌≡◌, ℕ, zero, suc, ◌+◌, ◌<◌, ℤ, Bool, true, false, if◌then◌else◌, Option, Some, None, List, [], ◌∷◌, ◌==◌, length, drop, set, get_or, refl, sym, ap, subst, ◌∙◌, inl, inr, arith}
-use Rattle.std.specs.Prelude.{neg_ℤ}
-use Rattle.std.proofs.lemmas.Bool.{cases_eq, cond-false, ne_eqb, eq-eqb, eqb-true}
-use Rattle.std.proofs.lemmas.List.{get_or-set_other}
-use Rattle.std.proofs.lemmas.Option.{unwrap_or-slice_get}
-use Rattle.script_code.specs.Tree.{Term, number, variable, field, local, priority, cancelled, opposite, denial, binary}
-use Rattle.script_code.specs.Value.{ev, and_then, within, flag, is_zero, is_met, number_at, joined, only_fields, holds}
-use Rattle.swift_interpreter.specs.Saved.{restored, is_saved}
-use Rattle.swift_undo.specs.Laws.{AllHold}
-use Rattle.swift_undo.specs.Rows.{reads_only, AreSpared, HaveRows}
-use Rattle.swift_undo.specs.RowsInside.{OthersHold}
+use Rattle.swift_undo.proofs.Prelude.{◌≡◌, ℕ, zero, suc, ◌+◌, ◌<◌, ℤ, Bool, true, false, if◌then◌else◌, Option, Some, None, List, [], ◌∷◌, ◌==◌, length, drop, set, get_or, refl, sym, ap, subst, ◌∙◌, inl, inr, arith, neg_ℤ, cases_eq, cond-false, ne_eqb, eq-eqb, eqb-true, get_or-set_other, unwrap_or-slice_get, Term, number, variable, field, local, priority, cancelled, opposite, denial, binary, ev, and_then, within, flag, is_zero, is_met, number_at, joined, only_fields, holds, restored, is_saved, AllHold, reads_only, AreSpared, HaveRows, OthersHold}
 
 -- a row that was not saved is as before
 row_stays : (saved : List (ℕ × List ℤ)) (fields : List (List ℤ)) (row : ℕ) → is_saved saved row ≡ false → get_or (restored saved fields) row [] ≡ get_or fields row []

@@ -1,9 +1,6 @@
 -- How many tasks the first events of a log make. Proofs alone name this.
-use Rattle.std.proofs.Common.{◌≡◌, ◌+◌, ◌<◌, ℕ, true, false, List, length, ap, ◌∙◌, sym}
-use Rattle.std.specs.Prelude.{count_by, slice_index_or, take}
+use Rattle.swift_workers.proofs.Prelude.{◌≡◌, ◌+◌, ◌<◌, ℕ, true, false, List, length, ap, ◌∙◌, sym, count_by, slice_index_or, take, Event, is_made}
 use Rattle.std.proofs.lemmas.List.Sums.{count_by_more_no, count_by_more_yes}
-use Rattle.swift_events.specs.declared.event.Event.{Event}
-use Rattle.swift_events.specs.Events.{is_made}
 
 -- with one event more, which makes a task
 pub one_made : (es : List Event) (i : ℕ) (e : Event) → i < length es → ((d : Event) → e ≡ slice_index_or es i d) → is_made e ≡ true → count_by is_made (take (i + 1) es) ≡ count_by is_made (take i es) + 1

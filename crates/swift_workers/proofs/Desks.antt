@@ -1,19 +1,9 @@
 -- Executors and their desks, by place.
-use Rattle.std.proofs.Common.{◌≡◌, ℕ, zero, suc, ◌+◌, ◌<◌, Some, List, [], ◌∷◌, ◌++◌, length, get_or, refl, sym, subst, ap, ◌∙◌, arith, length-append}
-use Rattle.std.specs.Prelude.{Option, slice_get, slice_set, take, unwrap_or}
-use Rattle.std.specs.List.{zip}
-use Rattle.std.proofs.lemmas.Option.{none-some, same_Some, slice_get_read}
-use Rattle.swift_job.specs.Job.{JobView}
-use Rattle.swift_turn.specs.Body.{BodyView}
+use Rattle.swift_workers.proofs.Prelude.{◌≡◌, ℕ, zero, suc, ◌+◌, ◌<◌, Some, List, [], ◌∷◌, ◌++◌, length, get_or, refl, sym, subst, ap, ◌∙◌, arith, length-append, Option, slice_get, slice_set, take, unwrap_or, zip, none-some, same_Some, slice_get_read, JobView, BodyView, CanRunAt, SiteView, ExecView, DeskView, IsBookOf, IsDeskOf, after_run, has_found, has_sent, Hand, BookLockView, AreAtSites, AreDesksOf, AreHandsOf, IsHandOf}
 use Rattle.swift_shared_book.specs.Tickets.{TicketedJobView}
-use Rattle.swift_executor.specs.Site.{CanRunAt, SiteView}
 use Rattle.swift_executor.specs.declared.state_name.StateImage.{StateImage}
-use Rattle.swift_executor.specs.Exec.{ExecView, DeskView, IsBookOf, IsDeskOf, after_run, has_found, has_sent}
 use Rattle.swift_executor.specs.declared.ran.VisitOutcome.{VisitOutcome}
 use Rattle.swift_executor.specs.declared.ran.VisitOutcome.TheVariants.{Turn, Busy, Nothing}
-use Rattle.swift_workers.specs.declared.crew.Hand.{Hand}
-use Rattle.swift_shared_book.specs.Shared.{BookLockView}
-use Rattle.swift_workers.specs.CrewInside.{AreAtSites, AreDesksOf, AreHandsOf, IsHandOf}
 
 abbrev Each : List ExecView → List DeskView → Type 0
 Each execs desks = (k : ℕ) (e : ExecView) (d : DeskView) → slice_get execs k ≡ Some e → slice_get desks k ≡ Some d → IsDeskOf e d

@@ -1,24 +1,6 @@
 -- One executor more, and one task more, of what a run leaves.
-use Rattle.std.proofs.Common.{◌≡◌, ◌⊎◌, ℕ, suc, ◌+◌, ◌<◌, ◌≤◌, ℤ, List, [], ◌∷◌, ◌++◌, Some, Contains, length, map, refl, sym, subst, ap, ◌∙◌, arith, inl, inr, add-zero, length-append}
-use Rattle.std.proofs.lemmas.List.Elements.{Contains-append_left, Contains-append_right}
-use Rattle.std.specs.declared.vec.Vec.{Vec}
-use Rattle.std.specs.declared.alloc.Global.{Global}
-use Rattle.script_code.specs.Seen.{rows_of}
-use Rattle.swift_script.specs.Scripts.{ScriptView}
-use Rattle.swift_journal.specs.Checkpoints.{CheckpointRoomView, CheckpointView}
-use Rattle.swift_journal.specs.Records.{RecordView}
+use Rattle.swift_workers.proofs.Prelude.{◌≡◌, ◌⊎◌, ℕ, suc, ◌+◌, ◌<◌, ◌≤◌, ℤ, List, [], ◌∷◌, ◌++◌, Some, Contains, length, map, refl, sym, subst, ap, ◌∙◌, arith, inl, inr, add-zero, length-append, Contains-append_left, Contains-append_right, Vec, Global, rows_of, ScriptView, CheckpointRoomView, CheckpointView, RecordView, SiteView, TableId, Account, BookKnown, TurnOrder, at_rest, AreAtRest, IsAccountedFor, gathered, site_of, AccountsFor, orders_of, ExecStateView, ExecInvariant, Parts, AreReplayed, EachFrom, IsPartReplayed, KeepInvariants, Keeps, AreAccountedFor, AreParts}
 use Rattle.swift_journal.specs.Replay.{replay}
-use Rattle.swift_executor.specs.Site.{SiteView}
-use Rattle.atomic_table.specs.Seated.{TableId}
-use Rattle.swift_course.specs.Views.{Account, BookKnown, TurnOrder, at_rest}
-use Rattle.swift_course.specs.Reports.{AreAtRest, IsAccountedFor}
-use Rattle.swift_course.specs.Seats.{gathered}
-use Rattle.swift_executor.specs.Exec.{site_of}
-use Rattle.swift_executor.specs.Seats.{AccountsFor, orders_of}
-use Rattle.swift_executor.specs.State.{ExecStateView, ExecInvariant}
-use Rattle.swift_workers.specs.declared.leave.Parts.{Parts}
-use Rattle.swift_workers.specs.Leaves.{AreReplayed, EachFrom, IsPartReplayed, KeepInvariants, Keeps}
-use Rattle.swift_workers.specs.PartsInside.{AreAccountedFor, AreParts}
 
 abbrev Rows : Type 0
 Rows = Vec (Vec ℤ Global) Global

@@ -1,12 +1,5 @@
 -- The seat that opens accounts and adds roots, step by step.
-use Rattle.std.proofs.Common.{◌≡◌, ℕ, ◌+◌, Option, Some, None, [], ◌∷◌, sym, subst, ap, ◌∙◌}
-use Rattle.std.specs.Prelude.{IfSome}
-use Rattle.swift_script.specs.Scripts.{ScriptView}
-use Rattle.swift_course.specs.Views.{Maker, BookKnown, at_rest}
-use Rattle.swift_course.specs.Seats.{account_parted, maker_left}
-use Rattle.swift_shared_book.specs.Shared.{BookLockView, BookSeatView, IsSeatOf, knowing, seat_of}
-use Rattle.swift_executor.specs.Seats.{IsOpened}
-use Rattle.swift_workers.specs.CrewInside.{has_opened}
+use Rattle.swift_workers.proofs.Prelude.{◌≡◌, ℕ, ◌+◌, Option, Some, None, [], ◌∷◌, sym, subst, ap, ◌∙◌, IfSome, ScriptView, Maker, BookKnown, at_rest, account_parted, maker_left, BookLockView, BookSeatView, IsSeatOf, knowing, seat_of, IsOpened, has_opened}
 
 -- the seat of the maker after `n` accounts: seat `s`, knowing that it has opened these
 abbrev pub OpenedFrom : BookSeatView → ℕ → BookSeatView → Type 0

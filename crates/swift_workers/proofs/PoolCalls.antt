@@ -1,20 +1,9 @@
 -- The rule of a pool at each call.
-use Rattle.std.proofs.Common.{◌≡◌, ◌≢◌, ℕ, zero, suc, ◌+◌, ◌-◌, ◌<◌, ◌≤◌, List, [], ◌∷◌, ◌++◌, length, take, drop, Option, Some, None, IfNone, IfSome, IsErr, IsSome, Result, Ok, Err, Bool, true, false, refl, sym, ap, ◌∙◌, subst, inl, inr, ⊎_elim, arith, append-nil, set, slice_get}
-use Rattle.std.proofs.lemmas.List.{take_all}
-use Rattle.std.proofs.lemmas.Option.{none-some, same_Some}
-use Rattle.swift_types.specs.declared.id.ExecId.{ExecId}
-use Rattle.swift_script.specs.Scripts.{ScriptView}
+use Rattle.swift_workers.proofs.Prelude.{◌≡◌, ◌≢◌, ℕ, zero, suc, ◌+◌, ◌-◌, ◌<◌, ◌≤◌, List, [], ◌∷◌, ◌++◌, length, take, drop, Option, Some, None, IfNone, IfSome, IsErr, IsSome, Result, Ok, Err, Bool, true, false, refl, sym, ap, ◌∙◌, subst, inl, inr, ⊎_elim, arith, append-nil, set, slice_get, take_all, none-some, same_Some, ExecId, ScriptView, Halt, PoolTold, WorkerNext, Visit, Pause, Rest, Stop, IsAnswer, IsAtEnd, IsCall, IsCauseOf, IsEndOf, MayVisit, PoolCall, PoolCrew, PoolFacts, PoolKnown, PoolView, after_call, first_known, first_pool, has_put, or_else, split_left, split_new, stops, takes, tells, HoldsOf, IsInCourse, IsPoolCourse, HasCalled, IsPoolSeatOf, IsRunOut, SeatView, SharedPoolView}
 use Rattle.swift_shared_book.specs.LockSeat.{MayLearn, MayUnlock, MaySplit, free_seat, held_by}
-use Rattle.swift_workers.specs.declared.fault.Halt.{Halt}
 use Rattle.swift_workers.specs.declared.known.PoolImage.{PoolImage}
-use Rattle.swift_workers.specs.declared.known.PoolTold.{PoolTold}
 use Rattle.swift_workers.specs.declared.pool.Ended.{Ended}
 use Rattle.swift_workers.specs.declared.pool.Pool.{Pool}
-use Rattle.swift_workers.specs.declared.pool.WorkerNext.{WorkerNext}
-use Rattle.swift_workers.specs.declared.pool.WorkerNext.TheVariants.{Visit, Pause, Rest, Stop}
-use Rattle.swift_workers.specs.Pools.{IsAnswer, IsAtEnd, IsCall, IsCauseOf, IsEndOf, MayVisit, PoolCall, PoolCrew, PoolFacts, PoolKnown, PoolView, after_call, first_known, first_pool, has_put, or_else, split_left, split_new, stops, takes, tells}
-use Rattle.swift_workers.specs.PoolRule.{HoldsOf, IsInCourse, IsPoolCourse}
-use Rattle.swift_workers.specs.PoolCallsInside.{HasCalled, IsPoolSeatOf, IsRunOut, SeatView, SharedPoolView}
 use Rattle.swift_workers.specs.declared.shelf.PoolShelf.{PoolShelf}
 use Rattle.swift_workers.specs.PoolFactsInside.{facts_of}
 use Rattle.swift_workers.specs.PoolSeatsInside.{HasTaken, MayGiveBack}

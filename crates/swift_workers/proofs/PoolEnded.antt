@@ -1,14 +1,9 @@
 -- What workers leave that have ended or sleep.
-use Rattle.std.proofs.Common.{◌≡◌, ◌≢◌, ℕ, zero, suc, ◌+◌, ◌-◌, ◌<◌, ◌≤◌, Bool, cond, List, [], ◌∷◌, ◌++◌, length, take, drop, Option, Some, None, refl, sym, ap, ◌∙◌, subst, ⊎_elim, arith, length-append, length-drop, take-append-drop, eq-eqb, ne_eqb}
+use Rattle.swift_workers.proofs.Prelude.{◌≡◌, ◌≢◌, ℕ, zero, suc, ◌+◌, ◌-◌, ◌<◌, ◌≤◌, Bool, cond, List, [], ◌∷◌, ◌++◌, length, take, drop, Option, Some, None, refl, sym, ap, ◌∙◌, subst, ⊎_elim, arith, length-append, length-drop, take-append-drop, eq-eqb, ne_eqb, ExecId, PoolTold, WorkerNext, Visit, Pause, Rest, Stop, AreTurns, PoolCall, calls_of, first_pool, given_by, owed_after, owed_first, taken_in, takes, total}
 use Rattle.std.proofs.lemmas.Bool.{cases_eq, cases_lt}
 use mathlib.Core.Option.{some}
 use lib.ListN.{get_elem?}
-use Rattle.swift_types.specs.declared.id.ExecId.{ExecId}
-use Rattle.swift_workers.specs.declared.known.PoolTold.{PoolTold}
-use Rattle.swift_workers.specs.declared.pool.WorkerNext.{WorkerNext}
-use Rattle.swift_workers.specs.declared.pool.WorkerNext.TheVariants.{Visit, Pause, Rest, Stop}
 use Rattle.swift_workers.specs.PoolEnds.{HoldsNothing, SleepsOrEnds, WhoEndsLeavesNothing, ended_in, held_after, last_next, or_before}
-use Rattle.swift_workers.specs.Pools.{AreTurns, PoolCall, calls_of, first_pool, given_by, owed_after, owed_first, taken_in, takes, total}
 use Rattle.swift_workers.proofs.PoolLaws.{tokens_kept, total_append}
 
 -- One seat

@@ -1,13 +1,5 @@
 -- What follows from the history of a pool.
-use Rattle.std.proofs.Common.{◌≡◌, ℕ, ◌+◌, List, [], ◌∷◌, ◌++◌, Option, Some, None, refl, sym, ap, ◌∙◌, subst, arith, append_assoc, append-nil}
-use Rattle.std.specs.List.{All, AllByRecursion}
-use Rattle.swift_types.specs.declared.id.ExecId.{ExecId}
-use Rattle.swift_workers.specs.declared.pool.WorkerNext.{WorkerNext}
-use Rattle.swift_workers.specs.declared.pool.WorkerNext.TheVariants.{Visit, Pause, Rest, Stop}
-use Rattle.swift_workers.specs.declared.fault.Halt.{Halt}
-use Rattle.swift_workers.specs.Pools.{FirstCauseStays, IsAnswer, IsOldest, MayTake, OneWorkerTakesInOrder, PoolCrew, PoolFacts, TokensAreKept, given_by, has_put, or_else, put_in, taken_in, told_in, total}
-use Rattle.swift_workers.specs.PoolRule.{WhoRestsOwesNothing}
-use Rattle.swift_workers.specs.declared.known.PoolTold.{PoolTold}
+use Rattle.swift_workers.proofs.Prelude.{◌≡◌, ℕ, ◌+◌, List, [], ◌∷◌, ◌++◌, Option, Some, None, refl, sym, ap, ◌∙◌, subst, arith, append_assoc, append-nil, All, AllByRecursion, ExecId, WorkerNext, Visit, Pause, Rest, Stop, Halt, FirstCauseStays, IsAnswer, IsOldest, MayTake, OneWorkerTakesInOrder, PoolCrew, PoolFacts, TokensAreKept, given_by, has_put, or_else, put_in, taken_in, told_in, total, WhoRestsOwesNothing, PoolTold}
 use Rattle.swift_workers.proofs.PoolSteps.{answer_halt, total_at}
 
 pub total_append : {A : Type 0} (f : A → ℕ) (xs ys : List A) → total f (xs ++ ys) ≡ total f xs + total f ys

@@ -1,15 +1,8 @@
 -- Each kind of step keeps the rule of a pool.
-use Rattle.std.proofs.Common.{◌≡◌, ◌≢◌, ◌⊎◌, ℕ, zero, suc, ◌==◌, ◌+◌, ◌-◌, ◌<◌, ◌≤◌, Bool, true, false, cond, List, [], ◌∷◌, ◌++◌, set, length, Option, Some, None, refl, sym, ap, ◌∙◌, subst, ⊎_elim, inl, inr, arith, length-append, length-set, eq-eqb, ne_eqb}
+use Rattle.swift_workers.proofs.Prelude.{◌≡◌, ◌≢◌, ◌⊎◌, ℕ, zero, suc, ◌==◌, ◌+◌, ◌-◌, ◌<◌, ◌≤◌, Bool, true, false, cond, List, [], ◌∷◌, ◌++◌, set, length, Option, Some, None, refl, sym, ap, ◌∙◌, subst, ⊎_elim, inl, inr, arith, length-append, length-set, eq-eqb, ne_eqb, ExecId, WorkerNext, Visit, Pause, Rest, Stop, Halt, PoolTold, AreTurns, IsAnswer, IsAtEnd, IsCall, IsHistory, PoolCall, PoolCrew, PoolFacts, PoolView, PoolKnown, after_call, calls_of, first_known, first_pool, has_put, or_else, owed_after, owed_first, split_left, split_new, stops, takes, tells, total, IsKnown, IsInCourse, IsPoolCourse}
 use mathlib.Core.Option.{some, some-injective, some-ne-none}
 use lib.ListN.{get_elem?}
 use Rattle.atomic_table.proofs.Lists.{at_set}
-use Rattle.swift_types.specs.declared.id.ExecId.{ExecId}
-use Rattle.swift_workers.specs.declared.pool.WorkerNext.{WorkerNext}
-use Rattle.swift_workers.specs.declared.pool.WorkerNext.TheVariants.{Visit, Pause, Rest, Stop}
-use Rattle.swift_workers.specs.declared.fault.Halt.{Halt}
-use Rattle.swift_workers.specs.declared.known.PoolTold.{PoolTold}
-use Rattle.swift_workers.specs.Pools.{AreTurns, IsAnswer, IsAtEnd, IsCall, IsHistory, PoolCall, PoolCrew, PoolFacts, PoolView, PoolKnown, after_call, calls_of, first_known, first_pool, has_put, or_else, owed_after, owed_first, split_left, split_new, stops, takes, tells, total}
-use Rattle.swift_workers.specs.PoolRule.{IsKnown, IsInCourse, IsPoolCourse}
 
 -- Totals
 

@@ -1,26 +1,10 @@
 -- What is left of executors and of a book is the report of a run, as the laws of runs ask for it.
-use Rattle.std.proofs.Common.{◌≡◌, ℕ, zero, suc, ◌+◌, ◌<◌, ℤ, Some, List, [], ◌∷◌, map, length, refl, sym, subst, ap, ◌∙◌, arith, add-zero}
-use Rattle.std.specs.Prelude.{slice_get, unwrap_or}
-use Rattle.std.proofs.lemmas.Option.{none-some}
-use Rattle.std.specs.declared.vec.Vec.{Vec}
-use Rattle.std.specs.declared.alloc.Global.{Global}
-use Rattle.script_code.specs.Seen.{rows_of}
-use Rattle.swift_types.specs.declared.outcome.Ending.{Ending}
-use Rattle.swift_script.specs.Scripts.{ScriptView, executor_count, root_count}
-use Rattle.swift_journal.specs.Checkpoints.{CheckpointRoomView, CheckpointView}
-use Rattle.swift_journal.specs.Records.{RecordView}
-use Rattle.swift_events.specs.declared.event.Event.{Event}
-use Rattle.swift_events.specs.declared.life.Origin.{Origin}
+use Rattle.swift_workers.proofs.Prelude.{◌≡◌, ℕ, zero, suc, ◌+◌, ◌<◌, ℤ, Some, List, [], ◌∷◌, map, length, refl, sym, subst, ap, ◌∙◌, arith, add-zero, slice_get, unwrap_or, none-some, Vec, Global, rows_of, Ending, ScriptView, executor_count, root_count, CheckpointRoomView, CheckpointView, RecordView, Event, Origin, BookFacts, BookKnown, AreAtRest, HasHistory, IsAccountedFor, IsReportOf, Knows, RunsAreOrderly, Parts, AreEndings, EachFrom, IsEnding, AreAccountedFor, AreParts}
 use Rattle.swift_history.specs.Histories.{ReportView}
 use Rattle.swift_history.specs.Orderly.{IsOrderlyLegal}
-use Rattle.swift_course.specs.Views.{BookFacts, BookKnown}
-use Rattle.swift_course.specs.Reports.{AreAtRest, HasHistory, IsAccountedFor, IsReportOf, Knows, RunsAreOrderly}
 use Rattle.swift_course.specs.Whole.{HasWhole, RunsAreWhole}
 use Rattle.swift_report.specs.declared.report.Report.{Report}
 use Rattle.swift_certificate.specs.Reports.{report_view}
-use Rattle.swift_workers.specs.declared.leave.Parts.{Parts}
-use Rattle.swift_workers.specs.Leaves.{AreEndings, EachFrom, IsEnding}
-use Rattle.swift_workers.specs.PartsInside.{AreAccountedFor, AreParts}
 
 abbrev Rows : Type 0
 Rows = Vec (Vec ℤ Global) Global

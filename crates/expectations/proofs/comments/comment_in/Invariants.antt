@@ -1,5 +1,4 @@
-use Rattle.std.proofs.Common.{◌≡◌, length}
-use Rattle.expectations.specs.Comments.{comment_in}
+use Rattle.expectations.proofs.Prelude.{◌≡◌, length, comment_in}
 use Rattle.expectations.proofs.comments.comment_in.Given as goal
 
 abbrev pub invariant-bytes : goal.invariant-bytes

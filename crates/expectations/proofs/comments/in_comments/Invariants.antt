@@ -1,5 +1,4 @@
-use Rattle.std.proofs.Common.{◌≡◌, ◌++◌, true, drop, map}
-use Rattle.expectations.specs.Comments.{expected_from}
+use Rattle.expectations.proofs.Prelude.{◌≡◌, ◌++◌, true, drop, map, expected_from}
 use Rattle.expectations.proofs.comments.in_comments.Given as goal
 
 abbrev pub invariant-loop-at : goal.invariant-loop-at

@@ -1,5 +1,4 @@
-use Rattle.std.proofs.Common.{◌≡◌}
-use Rattle.expectations.specs.Meaning.{first_have_values}
+use Rattle.expectations.proofs.Prelude.{◌≡◌, first_have_values}
 use Rattle.expectations.proofs.judging.first_have_values.Given as goal
 
 abbrev pub invariant-loop-root : goal.invariant-loop-root

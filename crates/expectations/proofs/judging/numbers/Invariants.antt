@@ -1,5 +1,4 @@
-use Rattle.std.proofs.Common.{◌≡◌, map, take}
-use Rattle.expectations.specs.Meaning.{number_in}
+use Rattle.expectations.proofs.Prelude.{◌≡◌, map, take, number_in}
 use Rattle.expectations.proofs.judging.numbers.Given as goal
 
 abbrev pub invariant-loop-ended : goal.invariant-loop-ended

@@ -1,6 +1,4 @@
-use Rattle.std.proofs.Common.{◌≡◌, map}
-use Rattle.script_code.specs.Seen.{rows_of}
-use Rattle.expectations.specs.Meaning.{first_rows}
+use Rattle.expectations.proofs.Prelude.{◌≡◌, map, rows_of, first_rows}
 use Rattle.expectations.proofs.judging.rows.Given as goal
 
 abbrev pub invariant-loop-actor : goal.invariant-loop-actor

@@ -1,6 +1,4 @@
-use Rattle.std.proofs.Common.{◌≡◌, map, take}
-use Rattle.script_code.specs.Seen.{rows_of}
-use Rattle.expectations.specs.Meaning.{verdict_of}
+use Rattle.expectations.proofs.Prelude.{◌≡◌, map, take, rows_of, verdict_of}
 use Rattle.expectations.proofs.judging.verdicts.Given as goal
 
 abbrev pub invariant-loop-expectation : goal.invariant-loop-expectation

@@ -1,4 +1,4 @@
-use Rattle.std.proofs.Common.{refl}
+use Rattle.expectations.proofs.Prelude.{refl}
 use Rattle.expectations.proofs.Asking.{expected_next}
 use Rattle.expectations.proofs.question.add_comments.Goals as goal
 

@@ -1,5 +1,4 @@
-use Rattle.std.proofs.Common.{◌++◌, ℕ, List, map, take}
-use Rattle.expectations.specs.Questions.{AreExpected}
+use Rattle.expectations.proofs.Prelude.{◌++◌, ℕ, List, map, take, AreExpected}
 use Rattle.expectations.proofs.question.add_comments.Given as goal
 
 abbrev pub invariant-loop-comment : goal.invariant-loop-comment

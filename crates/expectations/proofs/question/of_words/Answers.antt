@@ -1,5 +1,4 @@
-use Rattle.std.proofs.Common.{[], sym, subst}
-use Rattle.expectations.specs.Questions.{AreExpected, no_more}
+use Rattle.expectations.proofs.Prelude.{[], sym, subst, AreExpected, no_more}
 use Rattle.expectations.proofs.Asking.{expected_next}
 use Rattle.expectations.proofs.question.of_words.Goals as goal
 

@@ -1,5 +1,4 @@
-use Rattle.std.proofs.Common.{map, take}
-use Rattle.expectations.specs.Questions.{AreExpected}
+use Rattle.expectations.proofs.Prelude.{map, take, AreExpected}
 use Rattle.expectations.proofs.question.of_words.Given as goal
 
 abbrev pub invariant-loop-word : goal.invariant-loop-word

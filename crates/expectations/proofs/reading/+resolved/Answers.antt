@@ -1,7 +1,4 @@
-use Rattle.std.proofs.Common.{rules, ℕ, List, ap, subst}
-use Rattle.script_code.specs.Tree.{term_of}
-use Rattle.script_grammar.specs.Tree.{view}
-use Rattle.expectations.specs.Texts.{Names}
+use Rattle.expectations.proofs.Prelude.{rules, ℕ, List, ap, subst, term_of, view, Names}
 use Rattle.expectations.proofs.Resolving.{both_read, minus_read, name_read, not_read, number_read}
 use Rattle.expectations.proofs.reading.+resolved.Goals as goal
 

@@ -1,5 +1,4 @@
-use Rattle.std.proofs.Common.{◌≡◌}
-use Rattle.expectations.specs.FailureText.{faulted}
+use Rattle.expectations.proofs.Prelude.{◌≡◌, faulted}
 use Rattle.expectations.proofs.reads.faulted.Given as goal
 
 abbrev pub invariant-loop-root : goal.invariant-loop-root

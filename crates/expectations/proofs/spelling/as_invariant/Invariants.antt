@@ -1,5 +1,4 @@
-use Rattle.std.proofs.Common.{◌≡◌, ◌++◌, map}
-use Rattle.script_tokens.specs.Pieces.{piece}
+use Rattle.expectations.proofs.Prelude.{◌≡◌, ◌++◌, map, piece}
 use Rattle.expectations.proofs.spelling.as_invariant.Given as goal
 
 abbrev pub invariant-loop-token : goal.invariant-loop-token

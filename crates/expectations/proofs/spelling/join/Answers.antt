@@ -1,8 +1,5 @@
-use Rattle.std.proofs.Common.{◌≡◌, ◌<◌, List, [], ◌∷◌, length, map, ap, ◌∙◌, arith}
+use Rattle.expectations.proofs.Prelude.{◌≡◌, ◌<◌, List, [], ◌∷◌, length, map, ap, ◌∙◌, arith, length-map, map-append, piece, Token}
 use Rattle.std.proofs.lemmas.Grind.{common_steps}
-use Rattle.std.proofs.lemmas.List.{length-map, map-append}
-use Rattle.script_tokens.specs.Pieces.{piece}
-use Rattle.script_tokens.specs.declared.token.Token.{Token}
 use Rattle.expectations.proofs.Joining.{joins_end, joins_first, tokens_shorter}
 use Rattle.expectations.proofs.spelling.join.Goals as goal
 

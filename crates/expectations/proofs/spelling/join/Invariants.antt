@@ -1,5 +1,4 @@
-use Rattle.std.proofs.Common.{length, map}
-use Rattle.script_tokens.specs.Pieces.{piece}
+use Rattle.expectations.proofs.Prelude.{length, map, piece}
 use Rattle.expectations.proofs.Joining.{GoesOn}
 use Rattle.expectations.proofs.spelling.join.Given as goal
 

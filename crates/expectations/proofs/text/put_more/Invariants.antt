@@ -1,6 +1,4 @@
-use Rattle.std.proofs.Common.{◌≡◌, ◌++◌, drop, map}
-use Rattle.script_code.specs.Seen.{rows_of}
-use Rattle.expectations.specs.FailureText.{more_text}
+use Rattle.expectations.proofs.Prelude.{◌≡◌, ◌++◌, drop, map, rows_of, more_text}
 use Rattle.expectations.proofs.text.put_more.Given as goal
 
 abbrev pub invariant-loop-place : goal.invariant-loop-place

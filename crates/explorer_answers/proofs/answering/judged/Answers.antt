@@ -1,10 +1,5 @@
-use Rattle.std.proofs.Common.{◌∙◌, ℤ, List, [], ◌∷◌, ◌++◌, Vec, map, take, sym, ap}
-use Rattle.std.specs.declared.alloc.Global.{Global}
-use Rattle.std.proofs.lemmas.List.{map_more, map_push}
-use Rattle.script_code.specs.Seen.{rows_of}
-use Rattle.expectations.specs.declared.expectation.Verdict.{Verdict}
+use Rattle.explorer_answers.proofs.Prelude.{◌∙◌, ℤ, List, [], ◌∷◌, ◌++◌, Vec, map, take, sym, ap, Global, map_more, map_push, rows_of, Verdict, verdicts_at, verdicts_in}
 use Rattle.expectations.specs.Meaning.{verdict_of}
-use Rattle.explorer_answers.specs.Answered.{verdicts_at, verdicts_in}
 use Rattle.explorer_answers.proofs.answering.judged.Goals as goal
 
 pub loop-outcome-preserved : goal.loop-outcome-preserved

@@ -1,5 +1,4 @@
-use Rattle.std.proofs.Common.{◌≡◌, map, take}
-use Rattle.explorer_answers.specs.Answered.{verdicts_in}
+use Rattle.explorer_answers.proofs.Prelude.{◌≡◌, map, take, verdicts_in}
 use Rattle.explorer_answers.proofs.answering.judged.Given as goal
 
 abbrev pub invariant-loop-outcome : goal.invariant-loop-outcome

@@ -1,4 +1,4 @@
-use Rattle.std.proofs.Common.{◌≡◌, drop}
+use Rattle.explorer_answers.proofs.Prelude.{◌≡◌, drop}
 use Rattle.explorer_answers.specs.Dots.{has_dots}
 use Rattle.explorer_answers.proofs.dots.has_dots.Given as goal
 

@@ -1,5 +1,4 @@
-use Rattle.std.proofs.Common.{◌≡◌, ◌++◌, drop}
-use Rattle.explorer_answers.specs.ListText.{outcomes_text}
+use Rattle.explorer_answers.proofs.Prelude.{◌≡◌, ◌++◌, drop, outcomes_text}
 use Rattle.explorer_answers.proofs.list_text.put_outcomes.Given as goal
 
 abbrev pub invariant-loop-place : goal.invariant-loop-place

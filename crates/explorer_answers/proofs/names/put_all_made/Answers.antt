@@ -1,11 +1,7 @@
-use Rattle.std.proofs.Common.{◌≡◌, ◌<◌, ℕ, ◌+◌, ◌++◌, List, drop, length, rules, sym, ap, ◌∙◌, append_assoc}
-use Rattle.std.specs.Prelude.{get_or}
-use Rattle.std.proofs.lemmas.List.{at_drop_more}
+use Rattle.explorer_answers.proofs.Prelude.{◌≡◌, ◌<◌, ℕ, ◌+◌, ◌++◌, List, drop, length, rules, sym, ap, ◌∙◌, append_assoc, get_or, at_drop_more, ScriptView, made_text, made_texts}
 use Rattle.swift_types.specs.declared.outcome.Ending.{Ending}
 use Rattle.swift_events.specs.declared.life.Origin.{Origin}
-use Rattle.swift_script.specs.Scripts.{ScriptView}
 use Rattle.task_names.specs.Names.{maker_of}
-use Rattle.explorer_answers.specs.Names.{made_text, made_texts}
 use Rattle.explorer_answers.proofs.names.put_all_made.Goals as goal
 
 -- one task more

@@ -1,5 +1,4 @@
-use Rattle.std.proofs.Common.{◌≡◌, ◌++◌, drop}
-use Rattle.explorer_answers.specs.Names.{made_texts}
+use Rattle.explorer_answers.proofs.Prelude.{◌≡◌, ◌++◌, drop, made_texts}
 use Rattle.explorer_answers.proofs.names.put_all_made.Given as goal
 
 abbrev pub invariant-loop-place : goal.invariant-loop-place

@@ -1,8 +1,4 @@
-use Rattle.std.proofs.Common.{◌∙◌, List, [], ◌∷◌, ◌++◌, Vec, map, take, sym, ap}
-use Rattle.std.specs.declared.alloc.Global.{Global}
-use Rattle.std.proofs.lemmas.List.{map_more, map_push}
-use Rattle.expectations.specs.declared.expectation.Verdict.{Verdict}
-use Rattle.explorer_answers.specs.SwiftAnswers.{swift_verdicts_at, swift_verdicts_in}
+use Rattle.explorer_answers.proofs.Prelude.{◌∙◌, List, [], ◌∷◌, ◌++◌, Vec, map, take, sym, ap, Global, map_more, map_push, Verdict, swift_verdicts_at, swift_verdicts_in}
 use Rattle.explorer_answers.proofs.swift_answer.swift_judged.Goals as goal
 
 pub loop-outcome-preserved : goal.loop-outcome-preserved

@@ -1,5 +1,4 @@
-use Rattle.std.proofs.Common.{◌≡◌, map, take}
-use Rattle.explorer_answers.specs.SwiftAnswers.{swift_verdicts_in}
+use Rattle.explorer_answers.proofs.Prelude.{◌≡◌, map, take, swift_verdicts_in}
 use Rattle.explorer_answers.proofs.swift_answer.swift_judged.Given as goal
 
 abbrev pub invariant-loop-outcome : goal.invariant-loop-outcome

@@ -1,6 +1,4 @@
-use Rattle.std.proofs.Common.{ℕ, ◌+◌, ◌++◌, List, drop, sym, ap, ◌∙◌, append_assoc}
-use Rattle.std.proofs.lemmas.List.{at_drop_more}
-use Rattle.explorer_answers.specs.SwiftText.{told_if, told_texts}
+use Rattle.explorer_answers.proofs.Prelude.{ℕ, ◌+◌, ◌++◌, List, drop, sym, ap, ◌∙◌, append_assoc, at_drop_more, told_if, told_texts}
 use Rattle.explorer_answers.proofs.swift_text.put_all.Goals as goal
 
 pub loop-place-preserved : goal.loop-place-preserved

@@ -1,5 +1,4 @@
-use Rattle.std.proofs.Common.{◌≡◌, ◌++◌, drop}
-use Rattle.explorer_answers.specs.SwiftText.{told_texts}
+use Rattle.explorer_answers.proofs.Prelude.{◌≡◌, ◌++◌, drop, told_texts}
 use Rattle.explorer_answers.proofs.swift_text.put_all.Given as goal
 
 abbrev pub invariant-loop-place : goal.invariant-loop-place

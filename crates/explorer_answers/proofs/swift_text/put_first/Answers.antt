@@ -1,6 +1,4 @@
-use Rattle.std.proofs.Common.{rules, ◌≡◌, false, sym, ap, ◌∙◌}
-use Rattle.std.specs.Prelude.{get_or}
-use Rattle.explorer_answers.specs.SwiftText.{fails}
+use Rattle.explorer_answers.proofs.Prelude.{rules, ◌≡◌, false, sym, ap, ◌∙◌, get_or, fails}
 use Rattle.explorer_answers.proofs.Failing.{swift_later}
 use Rattle.explorer_answers.proofs.swift_text.put_first.Goals as goal
 

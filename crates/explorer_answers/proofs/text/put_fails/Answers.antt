@@ -1,12 +1,6 @@
-use Rattle.std.proofs.Common.{◌≡◌, ℤ, ◌+◌, ◌++◌, List, Vec, map, ap, ◌∙◌}
-use Rattle.std.specs.Prelude.{codes, decimal}
-use Rattle.std.specs.declared.alloc.Global.{Global}
-use Rattle.script_code.specs.Seen.{rows_of}
+use Rattle.explorer_answers.proofs.Prelude.{◌≡◌, ℤ, ◌+◌, ◌++◌, List, Vec, map, ap, ◌∙◌, codes, decimal, Global, rows_of, Verdict, verdict_at, names_text}
 use Rattle.swift_explorer.specs.FoundText.{schedule_text}
-use Rattle.expectations.specs.declared.expectation.Verdict.{Verdict}
 use Rattle.expectations.specs.FailureText.{failure_text}
-use Rattle.explorer_answers.specs.AnswerText.{verdict_at}
-use Rattle.explorer_answers.specs.Names.{names_text}
 use Rattle.explorer_answers.proofs.Pieces.{five_pieces}
 use Rattle.explorer_answers.proofs.text.put_fails.Goals as goal
 

@@ -1,5 +1,4 @@
-use Rattle.std.proofs.Common.{◌≡◌, ◌++◌, drop}
-use Rattle.explorer_answers.specs.AnswerText.{failures_text}
+use Rattle.explorer_answers.proofs.Prelude.{◌≡◌, ◌++◌, drop, failures_text}
 use Rattle.explorer_answers.proofs.text.put_failures.Given as goal
 
 abbrev pub invariant-loop-place : goal.invariant-loop-place

@@ -1,7 +1,4 @@
-use Rattle.std.proofs.Common.{rules, ◌≡◌, true, sym, ap, ◌∙◌}
-use Rattle.std.specs.Prelude.{get_or}
-use Rattle.expectations.specs.Answers.{is_so}
-use Rattle.explorer_answers.specs.AnswerText.{verdict_at}
+use Rattle.explorer_answers.proofs.Prelude.{rules, ◌≡◌, true, sym, ap, ◌∙◌, get_or, is_so, verdict_at}
 use Rattle.explorer_answers.proofs.Failing.{first_later}
 use Rattle.explorer_answers.proofs.text.put_first.Goals as goal
 

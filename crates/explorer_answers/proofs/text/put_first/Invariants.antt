@@ -1,5 +1,4 @@
-use Rattle.std.proofs.Common.{◌≡◌, drop}
-use Rattle.explorer_answers.specs.AnswerText.{first_text}
+use Rattle.explorer_answers.proofs.Prelude.{◌≡◌, drop, first_text}
 use Rattle.explorer_answers.proofs.text.put_first.Given as goal
 
 abbrev pub invariant-loop-place : goal.invariant-loop-place

@@ -1,5 +1,4 @@
-use Rattle.std.proofs.Common.{◌+◌}
-use Rattle.std.specs.Prelude.{codes, decimal}
+use Rattle.explorer_answers.proofs.Prelude.{◌+◌, codes, decimal}
 use Rattle.explorer_answers.proofs.Pieces.{three_pieces}
 use Rattle.explorer_answers.proofs.text.put_place.Goals as goal
 

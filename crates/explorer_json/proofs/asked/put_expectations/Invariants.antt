@@ -1,5 +1,4 @@
-use Rattle.std.proofs.Common.{◌≡◌, ◌++◌, drop}
-use Rattle.explorer_json.specs.AnswerJson.{expectations_json}
+use Rattle.explorer_json.proofs.Prelude.{◌≡◌, ◌++◌, drop, expectations_json}
 use Rattle.explorer_json.proofs.asked.put_expectations.Given as goal
 
 abbrev pub invariant-loop-place : goal.invariant-loop-place

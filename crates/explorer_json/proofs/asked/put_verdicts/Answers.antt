@@ -1,8 +1,5 @@
-use Rattle.std.proofs.Common.{ℕ, ◌+◌, ◌++◌, List, drop, sym, ap, ◌∙◌, append_assoc}
-use Rattle.std.proofs.lemmas.List.{at_drop_more}
-use Rattle.swift_tool.specs.ReportJson.{comma}
+use Rattle.explorer_json.proofs.Prelude.{ℕ, ◌+◌, ◌++◌, List, drop, sym, ap, ◌∙◌, append_assoc, at_drop_more, comma, verdict_json, verdicts_json}
 use Rattle.explorer_answers.specs.AnswerText.{verdict_at}
-use Rattle.explorer_json.specs.AnswerJson.{verdict_json, verdicts_json}
 use Rattle.explorer_json.proofs.asked.put_verdicts.Goals as goal
 
 pub loop-place-preserved : goal.loop-place-preserved

@@ -1,5 +1,4 @@
-use Rattle.std.proofs.Common.{◌≡◌, ◌++◌, drop}
-use Rattle.explorer_json.specs.AnswerJson.{verdicts_json}
+use Rattle.explorer_json.proofs.Prelude.{◌≡◌, ◌++◌, drop, verdicts_json}
 use Rattle.explorer_json.proofs.asked.put_verdicts.Given as goal
 
 abbrev pub invariant-loop-place : goal.invariant-loop-place

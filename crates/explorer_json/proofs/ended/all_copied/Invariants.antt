@@ -1,5 +1,4 @@
-use Rattle.std.proofs.Common.{◌≡◌, map, take}
-use Rattle.script_code.specs.Seen.{rows_of}
+use Rattle.explorer_json.proofs.Prelude.{◌≡◌, map, take, rows_of}
 use Rattle.explorer_json.proofs.ended.all_copied.Given as goal
 
 abbrev pub invariant-loop-rows : goal.invariant-loop-rows

@@ -1,7 +1,4 @@
-use Rattle.std.proofs.Common.{◌∙◌, ℤ, List, [], ◌∷◌, ◌++◌, Vec, take, take_all, sym, ap, arith}
-use Rattle.std.specs.declared.alloc.Global.{Global}
-use Rattle.std.proofs.lemmas.List.{map_more, map_push}
-use Rattle.script_code.specs.Seen.{rows_of}
+use Rattle.explorer_json.proofs.Prelude.{◌∙◌, ℤ, List, [], ◌∷◌, ◌++◌, Vec, take, take_all, sym, ap, arith, Global, map_more, map_push, rows_of}
 use Rattle.explorer_json.proofs.ended.copy_of.Goals as goal
 
 pub loop-row-preserved : goal.loop-row-preserved

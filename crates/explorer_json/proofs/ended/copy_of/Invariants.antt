@@ -1,5 +1,4 @@
-use Rattle.std.proofs.Common.{◌≡◌, take}
-use Rattle.script_code.specs.Seen.{rows_of}
+use Rattle.explorer_json.proofs.Prelude.{◌≡◌, take, rows_of}
 use Rattle.explorer_json.proofs.ended.copy_of.Given as goal
 
 abbrev pub invariant-loop-row : goal.invariant-loop-row

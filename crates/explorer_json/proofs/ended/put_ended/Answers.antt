@@ -1,6 +1,4 @@
-use Rattle.std.proofs.Common.{◌∙◌}
-use Rattle.swift_tool.proofs.Joined.{said}
-use Rattle.explorer_json.specs.AnswerJson.{ended_json}
+use Rattle.explorer_json.proofs.Prelude.{◌∙◌, said, ended_json}
 use Rattle.explorer_json.proofs.Texts.{ended_same}
 use Rattle.explorer_json.proofs.ended.put_ended.Goals as goal
 

@@ -1,5 +1,4 @@
-use Rattle.std.proofs.Common.{◌≡◌, ◌++◌, drop}
-use Rattle.explorer_json.specs.Schedules.{steps_json}
+use Rattle.explorer_json.proofs.Prelude.{◌≡◌, ◌++◌, drop, steps_json}
 use Rattle.explorer_json.proofs.schedule.put_steps.Given as goal
 
 abbrev pub invariant-loop-place : goal.invariant-loop-place

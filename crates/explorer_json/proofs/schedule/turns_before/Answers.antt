@@ -1,7 +1,6 @@
-use Rattle.std.proofs.Common.{◌<◌, ◌+◌, length, sym, ap, ◌∙◌, arith}
+use Rattle.explorer_json.proofs.Prelude.{◌<◌, ◌+◌, length, sym, ap, ◌∙◌, arith, begins}
 use Rattle.std.proofs.lemmas.List.Sums.{count_by_more_no, count_by_more_yes}
 use Rattle.swift_explorer.specs.declared.moves.Move.TheVariants as step
-use Rattle.swift_explorer.specs.FoundText.{begins}
 use Rattle.explorer_json.proofs.schedule.turns_before.Goals.{then-begins, else-begins}
 use Rattle.explorer_json.proofs.schedule.turns_before.Goals as goal
 

@@ -1,6 +1,4 @@
-use Rattle.std.proofs.Common.{ℕ, ◌+◌, ◌++◌, List, drop, sym, ap, ◌∙◌, append_assoc}
-use Rattle.std.proofs.lemmas.List.{at_drop_more}
-use Rattle.explorer_json.specs.Strings.{bytes_json}
+use Rattle.explorer_json.proofs.Prelude.{ℕ, ◌+◌, ◌++◌, List, drop, sym, ap, ◌∙◌, append_assoc, at_drop_more, bytes_json}
 use Rattle.explorer_json.proofs.string.put_bytes.Goals as goal
 
 pub loop-place-preserved : goal.loop-place-preserved

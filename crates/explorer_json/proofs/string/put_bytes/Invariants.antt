@@ -1,5 +1,4 @@
-use Rattle.std.proofs.Common.{◌≡◌, ◌++◌, drop}
-use Rattle.explorer_json.specs.Strings.{bytes_json}
+use Rattle.explorer_json.proofs.Prelude.{◌≡◌, ◌++◌, drop, bytes_json}
 use Rattle.explorer_json.proofs.string.put_bytes.Given as goal
 
 abbrev pub invariant-loop-place : goal.invariant-loop-place

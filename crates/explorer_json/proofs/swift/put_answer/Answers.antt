@@ -1,9 +1,5 @@
-use Rattle.std.proofs.Common.{ℕ, List, ◌++◌, ap, ◌∙◌}
-use Rattle.std.specs.Prelude.{codes}
-use Rattle.swift_tool.proofs.Joined.{seven_joined}
+use Rattle.explorer_json.proofs.Prelude.{ℕ, List, ◌++◌, ap, ◌∙◌, codes, seven_joined, expectations_json, outcomes_json, start_json, swift_head_json}
 use Rattle.explorer_answers.specs.SwiftAnswers.{swift_answer_of}
-use Rattle.explorer_json.specs.AnswerJson.{expectations_json, outcomes_json, start_json}
-use Rattle.explorer_json.specs.SwiftJson.{swift_head_json}
 use Rattle.explorer_json.proofs.swift.put_answer.Goals as goal
 
 pub returns : goal.returns

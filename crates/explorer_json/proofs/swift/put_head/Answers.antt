@@ -1,8 +1,4 @@
-use Rattle.std.proofs.Common.{◌≡◌, List, ◌++◌, subst}
-use Rattle.std.specs.Prelude.{OnOk, codes}
-use Rattle.swift_tool.proofs.Joined.{three_joined}
-use Rattle.explorer_json.specs.AnswerJson.{search_json}
-use Rattle.explorer_json.specs.SwiftJson.{meanings_json}
+use Rattle.explorer_json.proofs.Prelude.{◌≡◌, List, ◌++◌, subst, OnOk, codes, three_joined, search_json, meanings_json}
 use Rattle.explorer_json.proofs.swift.put_head.Goals as goal
 
 pub returns : goal.returns

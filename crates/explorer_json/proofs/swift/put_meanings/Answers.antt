@@ -1,8 +1,5 @@
-use Rattle.std.proofs.Common.{ℕ, ◌+◌, ◌++◌, List, drop, sym, ap, ◌∙◌, append_assoc}
-use Rattle.std.proofs.lemmas.List.{at_drop_more}
-use Rattle.swift_tool.specs.ReportJson.{comma}
+use Rattle.explorer_json.proofs.Prelude.{ℕ, ◌+◌, ◌++◌, List, drop, sym, ap, ◌∙◌, append_assoc, at_drop_more, comma, meaning_json, meanings_json}
 use Rattle.explorer_answers.specs.SwiftMeanings.{meaning}
-use Rattle.explorer_json.specs.SwiftJson.{meaning_json, meanings_json}
 use Rattle.explorer_json.proofs.swift.put_meanings.Goals as goal
 
 pub loop-place-preserved : goal.loop-place-preserved

@@ -1,5 +1,4 @@
-use Rattle.std.proofs.Common.{◌≡◌, ◌++◌, drop}
-use Rattle.explorer_json.specs.SwiftJson.{meanings_json}
+use Rattle.explorer_json.proofs.Prelude.{◌≡◌, ◌++◌, drop, meanings_json}
 use Rattle.explorer_json.proofs.swift.put_meanings.Given as goal
 
 abbrev pub invariant-loop-place : goal.invariant-loop-place

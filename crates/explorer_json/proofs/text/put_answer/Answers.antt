@@ -1,8 +1,5 @@
-use Rattle.std.proofs.Common.{ℕ, List, ◌++◌, ap, ◌∙◌}
-use Rattle.std.specs.Prelude.{codes}
-use Rattle.swift_tool.proofs.Joined.{seven_joined}
+use Rattle.explorer_json.proofs.Prelude.{ℕ, List, ◌++◌, ap, ◌∙◌, codes, seven_joined, expectations_json, outcomes_json, search_json, start_json}
 use Rattle.explorer_answers.specs.Answered.{answer_of}
-use Rattle.explorer_json.specs.AnswerJson.{expectations_json, outcomes_json, search_json, start_json}
 use Rattle.explorer_json.proofs.text.put_answer.Goals as goal
 
 pub returns : goal.returns

@@ -1,9 +1,4 @@
-use Rattle.std.proofs.Common.{◌≡◌, ◌+◌, List, ◌++◌, ap, sym, refl, ◌∙◌, append_assoc}
-use Rattle.std.specs.Prelude.{codes, decimal}
-use Rattle.swift_tool.proofs.Joined.{onto, six_joined}
-use Rattle.swift_tool.specs.ReportJson.{comma}
-use Rattle.explorer_json.specs.AnswerJson.{ended_json}
-use Rattle.explorer_json.specs.Schedules.{schedule_json}
+use Rattle.explorer_json.proofs.Prelude.{◌≡◌, ◌+◌, List, ◌++◌, ap, sym, refl, ◌∙◌, append_assoc, codes, decimal, onto, six_joined, comma, ended_json, schedule_json}
 use Rattle.explorer_json.proofs.text.put_outcome.Goals as goal
 
 pub returns : goal.returns

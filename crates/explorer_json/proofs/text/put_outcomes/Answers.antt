@@ -1,6 +1,4 @@
-use Rattle.std.proofs.Common.{ℕ, ◌+◌, ◌++◌, List, drop, sym, ap, ◌∙◌, append_assoc}
-use Rattle.std.proofs.lemmas.List.{at_drop_more}
-use Rattle.explorer_json.specs.AnswerJson.{outcome_json, outcomes_json}
+use Rattle.explorer_json.proofs.Prelude.{ℕ, ◌+◌, ◌++◌, List, drop, sym, ap, ◌∙◌, append_assoc, at_drop_more, outcome_json, outcomes_json}
 use Rattle.explorer_json.proofs.text.put_outcomes.Goals as goal
 
 pub loop-place-preserved : goal.loop-place-preserved

@@ -1,5 +1,4 @@
-use Rattle.std.proofs.Common.{◌≡◌, ◌++◌, drop}
-use Rattle.explorer_json.specs.AnswerJson.{outcomes_json}
+use Rattle.explorer_json.proofs.Prelude.{◌≡◌, ◌++◌, drop, outcomes_json}
 use Rattle.explorer_json.proofs.text.put_outcomes.Given as goal
 
 abbrev pub invariant-loop-place : goal.invariant-loop-place

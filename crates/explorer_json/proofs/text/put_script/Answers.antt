@@ -1,6 +1,4 @@
-use Rattle.std.proofs.Common.{◌≡◌, ◌∙◌, ℕ, List, ◌++◌, subst}
-use Rattle.std.specs.Prelude.{OnOk}
-use Rattle.explorer_json.specs.AnswerJson.{sum_json}
+use Rattle.explorer_json.proofs.Prelude.{◌≡◌, ◌∙◌, ℕ, List, ◌++◌, subst, OnOk, sum_json}
 use Rattle.explorer_json.proofs.text.put_script.Goals as goal
 
 pub returns : goal.returns

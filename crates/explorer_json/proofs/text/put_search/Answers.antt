@@ -1,8 +1,4 @@
-use Rattle.std.proofs.Common.{ℕ, List, ◌++◌, ap, sym, refl, ◌∙◌, append_assoc}
-use Rattle.std.specs.Prelude.{codes, decimal}
-use Rattle.swift_tool.proofs.Joined.{six_joined}
-use Rattle.explorer_json.specs.AnswerJson.{end_json, to_go_json}
-use Rattle.explorer_json.specs.Schedules.{broken_json}
+use Rattle.explorer_json.proofs.Prelude.{ℕ, List, ◌++◌, ap, sym, refl, ◌∙◌, append_assoc, codes, decimal, six_joined, end_json, to_go_json, broken_json}
 use Rattle.explorer_json.proofs.text.put_search.Goals as goal
 
 pub returns : goal.returns

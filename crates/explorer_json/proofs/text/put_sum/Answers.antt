@@ -1,5 +1,4 @@
-use Rattle.std.specs.Prelude.{codes}
-use Rattle.swift_tool.proofs.Joined.{three_joined}
+use Rattle.explorer_json.proofs.Prelude.{codes, three_joined}
 use Rattle.explorer_json.proofs.text.put_sum.Goals as goal
 
 pub returns : goal.returns

@@ -1,18 +1,4 @@
-use Rattle.std.proofs.Common.{◌≡◌, ℤ, true, List, IsTrue, map, sym, subst}
-use Rattle.std.specs.Prelude.{is_some}
-use Rattle.std.specs.List.{list_all}
-use Rattle.script_code.specs.Seen.{rows_of}
-use Rattle.swift_events.specs.declared.life.Origin.{Origin}
-use Rattle.swift_types.specs.declared.outcome.Ending.{Ending}
-use Rattle.swift_script.specs.Scripts.{ScriptView}
-use Rattle.swift_explorer.specs.Outcomes.{HasEachOutcome, NeverBreaks}
-use Rattle.swift_certificate.specs.Reports.{report_view}
-use Rattle.expectations.specs.declared.answer.Answer.{Answer}
-use Rattle.expectations.specs.Answers.{is_so, status_of}
-use Rattle.expectations.specs.Meaning.{verdict_of}
-use Rattle.expectations.specs.Questions.{IsAsked}
-use Rattle.expectations.proofs.Holding.{all_mapped, answer_holds}
-use Rattle.explorer_answers.specs.Answered.{answer_of, verdicts_at, verdicts_in}
+use Rattle.explorer_laws.proofs.Prelude.{◌≡◌, ℤ, true, List, IsTrue, map, sym, subst, is_some, list_all, rows_of, Origin, Ending, ScriptView, HasEachOutcome, NeverBreaks, report_view, Answer, is_so, status_of, verdict_of, IsAsked, all_mapped, answer_holds, answer_of, verdicts_at, verdicts_in}
 use Rattle.explorer_laws.proofs.Meeting.{all_meet}
 use Rattle.explorer_laws.proofs.OfRuns.{is_none, listed, one_script, unbroken}
 use Rattle.explorer_laws.proofs.laws.each_run_meets.Goals as goal

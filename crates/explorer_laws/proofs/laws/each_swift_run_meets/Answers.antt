@@ -1,21 +1,5 @@
-use Rattle.std.proofs.Common.{◌≡◌, ℤ, true, false, List, [], IsTrue, map, sym, ap, subst, ◌∙◌}
-use Rattle.std.specs.Prelude.{is_some}
-use Rattle.std.specs.List.{list_all}
-use Rattle.script_code.specs.Seen.{rows_of}
-use Rattle.swift_events.specs.declared.life.Origin.{Origin}
-use Rattle.swift_types.specs.declared.outcome.Ending.{Ending}
-use Rattle.swift_script.specs.Scripts.{ScriptView}
-use Rattle.swift_explorer.specs.Outcomes.{HasEachOutcome, NeverBreaks}
-use Rattle.swift_certificate.specs.Reports.{report_view}
-use Rattle.expectations.specs.declared.answer.Answer.{Answer}
-use Rattle.expectations.specs.declared.expectation.Verdict.{Verdict}
-use Rattle.expectations.specs.Answers.{is_so, status_of}
-use Rattle.expectations.specs.Meaning.{verdict_of}
-use Rattle.expectations.specs.Questions.{IsAsked}
-use Rattle.expectations.proofs.Holding.{all_mapped, answer_holds}
-use Rattle.explorer_answers.specs.Answered.{verdicts_at}
+use Rattle.explorer_laws.proofs.Prelude.{◌≡◌, ℤ, true, false, List, [], IsTrue, map, sym, ap, subst, ◌∙◌, is_some, list_all, rows_of, Origin, Ending, ScriptView, HasEachOutcome, NeverBreaks, report_view, Answer, Verdict, is_so, status_of, verdict_of, IsAsked, all_mapped, answer_holds, verdicts_at, at_limit, ends_process, is_outcome}
 use Rattle.explorer_answers.specs.SwiftAnswers.{goes_on, swift_answer_of, swift_verdicts_at, swift_verdicts_in}
-use Rattle.explorer_answers.specs.SwiftMeanings.{at_limit, ends_process, is_outcome}
 use Rattle.explorer_laws.proofs.Meeting.{all_meet}
 use Rattle.explorer_laws.proofs.OfRuns.{is_none, listed, one_script, unbroken}
 use Rattle.explorer_laws.proofs.SwiftEnds.{all_at, neither, no_end, outcome_is, taken}

@@ -1,8 +1,4 @@
-use Rattle.std.proofs.Common.{rules, ◌<◌, ◌∙◌, ap, inl, inr, length, refl, sym, subst}
-use Rattle.std.proofs.lemmas.Option.{slice_get_read}
-use Rattle.std.specs.Arc.{arc_value}
-use Rattle.swift_script.specs.Accepted.{IsAccepted}
-use Rattle.swift_script.specs.Scripts.{ScriptView}
+use Rattle.nuchapay.proofs.Prelude.{rules, ◌<◌, ◌∙◌, ap, inl, inr, length, refl, sym, subst, slice_get_read, arc_value, IsAccepted, ScriptView}
 use Rattle.explorer_differences.specs.Difference.{difference_text}
 use Rattle.nuchapay.proofs.differences.pair_compared.Goals as goal
 

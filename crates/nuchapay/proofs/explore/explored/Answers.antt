@@ -1,12 +1,6 @@
-use Rattle.std.proofs.Common.{List, map, sym, subst, ◌∙◌, ap}
-use Rattle.std.specs.Arc.{arc_value}
-use Rattle.swift_script.specs.Accepted.{IsAccepted}
-use Rattle.swift_script.specs.Scripts.{ScriptView}
-use Rattle.expectations.specs.declared.expectation.Expectation.{Expectation}
-use Rattle.expectations.specs.Questions.{IsAsked}
+use Rattle.nuchapay.proofs.Prelude.{List, map, sym, subst, ◌∙◌, ap, arc_value, IsAccepted, ScriptView, Expectation, IsAsked, IsKept, IsSaidOf}
 use Rattle.explorer_answers.specs.Answered.{answer_of}
 use Rattle.explorer_json.specs.AnswerJson.{answer_json}
-use Rattle.nuchapay.specs.Searches.{IsKept, IsSaidOf}
 use Rattle.nuchapay.proofs.explore.explored.Goals as goal
 
 pub returns : goal.returns

@@ -1,4 +1,4 @@
-use Rattle.std.proofs.Common.{arith}
+use Rattle.nuchapay.proofs.Prelude.{arith}
 use Rattle.nuchapay.proofs.explore.found_by.Goals as goal
 
 pub returns : goal.returns

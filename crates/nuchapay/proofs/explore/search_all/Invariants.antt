@@ -1,5 +1,4 @@
-use Rattle.std.proofs.Common.{◌≡◌, ◌-◌}
-use Rattle.std.specs.Arc.{arc_value}
+use Rattle.nuchapay.proofs.Prelude.{◌≡◌, ◌-◌, arc_value}
 use Rattle.nuchapay.proofs.explore.search_all.Given as goal
 
 abbrev pub invariant-parts : goal.invariant-parts

@@ -1,12 +1,6 @@
-use Rattle.std.proofs.Common.{List, map, sym, subst, ◌∙◌, ap}
-use Rattle.std.specs.Arc.{arc_value}
-use Rattle.swift_script.specs.Accepted.{IsAccepted}
-use Rattle.swift_script.specs.Scripts.{ScriptView}
-use Rattle.expectations.specs.declared.expectation.Expectation.{Expectation}
-use Rattle.expectations.specs.Questions.{IsAsked}
+use Rattle.nuchapay.proofs.Prelude.{List, map, sym, subst, ◌∙◌, ap, arc_value, IsAccepted, ScriptView, Expectation, IsAsked, IsKept}
 use Rattle.explorer_answers.specs.SwiftAnswers.{swift_answer_of}
 use Rattle.explorer_json.specs.SwiftJson.{swift_answer_json}
-use Rattle.nuchapay.specs.Searches.{IsKept}
 use Rattle.nuchapay.specs.SwiftSearches.{IsSwiftSaidOf}
 use Rattle.nuchapay.proofs.explore_swift.explored_swift.Goals as goal
 

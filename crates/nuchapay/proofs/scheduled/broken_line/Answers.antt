@@ -1,6 +1,4 @@
-use Rattle.std.proofs.Common.{sym, subst}
-use Rattle.std.specs.Arc.{arc_value}
-use Rattle.swift_script.specs.Accepted.{IsAccepted}
+use Rattle.nuchapay.proofs.Prelude.{sym, subst, arc_value, IsAccepted}
 use Rattle.nuchapay.proofs.scheduled.broken_line.Goals as goal
 
 pub returns : goal.returns

@@ -1,5 +1,4 @@
-use Rattle.std.proofs.Common.{rules, refl, subst}
-use Rattle.std.specs.Arc.{arc_value}
+use Rattle.nuchapay.proofs.Prelude.{rules, refl, subst, arc_value}
 use Rattle.swift_explorer.specs.declared.completion.Completion.{Completion}
 use Rattle.swift_explorer.specs.Completions.{IsCompletion, IsWhole}
 use Rattle.nuchapay.proofs.Chosen.{first_of}

@@ -1,8 +1,4 @@
-use Rattle.std.proofs.Common.{rules, ◌<◌, ◌∙◌, List, length, refl, subst, take_all, arith}
-use Rattle.std.proofs.lemmas.Option.{slice_get_read}
-use Rattle.std.specs.Arc.{arc_value}
-use Rattle.swift_explorer.specs.declared.moves.Move.{Move}
-use Rattle.nuchapay.specs.Scheduled.{IsScheduledReport}
+use Rattle.nuchapay.proofs.Prelude.{rules, ◌<◌, ◌∙◌, List, length, refl, subst, take_all, arith, slice_get_read, arc_value, Move, IsScheduledReport}
 use Rattle.nuchapay.proofs.scheduled.outcome_run.Goals as goal
 
 pub returns-in_default : goal.returns-in_default

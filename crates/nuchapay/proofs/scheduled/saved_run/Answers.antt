@@ -1,10 +1,6 @@
-use Rattle.std.proofs.Common.{List, rules, sym, subst}
-use Rattle.std.specs.Arc.{arc_value}
-use Rattle.swift_script.specs.Accepted.{IsAccepted}
-use Rattle.swift_explorer.specs.declared.moves.Move.{Move}
+use Rattle.nuchapay.proofs.Prelude.{List, rules, sym, subst, arc_value, IsAccepted, Move, IsAsMeant, IsCompleted}
 use Rattle.explorer_files.specs.declared.saved.SavedSchedule.{SavedSchedule}
 use Rattle.explorer_files.specs.Saved.{IsSavedAs}
-use Rattle.nuchapay.specs.Scheduled.{IsAsMeant, IsCompleted}
 use Rattle.nuchapay.proofs.scheduled.saved_run.Goals as goal
 
 pub returns-in_ok-meant-in-Steps : goal.returns-in_ok-meant-in-Steps

@@ -1,4 +1,4 @@
-use Rattle.std.proofs.Common.{rules}
+use Rattle.nuchapay.proofs.Prelude.{rules}
 use Rattle.nuchapay.proofs.scheduled.scheduled_report.Goals as goal
 
 pub returns : goal.returns

@@ -1,5 +1,4 @@
-use Rattle.std.proofs.Common.{rules}
-use Rattle.std.specs.Arc.{arc_value}
+use Rattle.nuchapay.proofs.Prelude.{rules, arc_value}
 use Rattle.nuchapay.proofs.show.show_run.Goals as goal
 
 pub returns : goal.returns

@@ -1,6 +1,4 @@
-use Rattle.std.proofs.Common.{subst}
-use Rattle.std.specs.Arc.{arc_value}
-use Rattle.swift_script.specs.Scripts.{ScriptView}
+use Rattle.nuchapay.proofs.Prelude.{subst, arc_value, ScriptView}
 use Rattle.nuchapay.specs.Runs.{IsAsked}
 use Rattle.nuchapay.proofs.values.explained_turn.Goals as goal
 

@@ -1,8 +1,4 @@
-use Rattle.std.proofs.Common.{◌≡◌, ◌∙◌, false, ap, subst}
-use Rattle.std.specs.Arc.{arc_value}
-use Rattle.swift_script.specs.Scripts.{ScriptView}
-use Rattle.swift_report.specs.Text.{report_text}
-use Rattle.swift_tool.specs.Run.{end_well}
+use Rattle.nuchapay.proofs.Prelude.{◌≡◌, ◌∙◌, false, ap, subst, arc_value, ScriptView, report_text, end_well}
 use Rattle.nuchapay_runs.specs.Notes.{IsAnnotated}
 use Rattle.nuchapay.proofs.OfRun.{run_of}
 use Rattle.nuchapay.proofs.values.report_of.Goals as goal

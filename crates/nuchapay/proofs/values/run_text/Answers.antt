@@ -1,12 +1,8 @@
-use Rattle.std.proofs.Common.{◌≡◌, ap, sym, subst, ◌∙◌}
-use Rattle.std.specs.Arc.{arc_value}
-use Rattle.swift_script.specs.Accepted.{IsAccepted}
-use Rattle.swift_script.specs.Scripts.{ScriptView, executor_count, root_count}
+use Rattle.nuchapay.proofs.Prelude.{◌≡◌, ap, sym, subst, ◌∙◌, arc_value, IsAccepted, ScriptView, executor_count, root_count, HoldInvariants}
 use Rattle.swift_history.specs.Orderly.{IsOrderlyLegal}
 use Rattle.swift_course.specs.Whole.{HasWhole}
 use Rattle.swift_certificate.specs.Reports.{report_view}
 use Rattle.swift_workers.specs.Leaves.{AreEndings, AreReplayed, KeepInvariants}
-use Rattle.swift_tool.specs.Run.{HoldInvariants}
 use Rattle.swift_tool.proofs.Invariants.{invariants_hold}
 use Rattle.nuchapay.proofs.values.run_text.Goals as goal
 

@@ -1,8 +1,4 @@
-use Rattle.std.proofs.Common.{◌≡◌, ◌∙◌, ℕ, List, [], ◌∷◌, ◌++◌, Vec, map, take, take_all, sym, ap, arith}
-use Rattle.std.specs.declared.alloc.Global.{Global}
-use Rattle.std.proofs.lemmas.List.{map_more, map_push}
-use Rattle.run_pictures.specs.declared.values.change.TurnValues.{TurnValues}
-use Rattle.nuchapay_runs.specs.Broken.{broken_text, broken_texts}
+use Rattle.nuchapay_runs.proofs.Prelude.{◌≡◌, ◌∙◌, ℕ, List, [], ◌∷◌, ◌++◌, Vec, map, take, take_all, sym, ap, arith, Global, map_more, map_push, TurnValues, broken_text, broken_texts}
 use Rattle.nuchapay_runs.proofs.broken.broken_invariants.Goals as goal
 
 pub loop-turn-preserved : goal.loop-turn-preserved

@@ -1,6 +1,4 @@
-use Rattle.std.proofs.Common.{◌≡◌, ℕ, Vec, map, take}
-use Rattle.std.specs.declared.alloc.Global.{Global}
-use Rattle.nuchapay_runs.specs.Broken.{broken_texts}
+use Rattle.nuchapay_runs.proofs.Prelude.{◌≡◌, ℕ, Vec, map, take, Global, broken_texts}
 use Rattle.nuchapay_runs.proofs.broken.broken_invariants.Given as goal
 
 abbrev pub invariant-loop-turn : goal.invariant-loop-turn

@@ -1,5 +1,5 @@
 use Rattle.std.proofs.lemmas.Result.{IfOk-weaker}
-use Rattle.nuchapay_runs.specs.Explains.{Explains, IsNotFolded}
+use Rattle.nuchapay_runs.proofs.Prelude.{Explains, IsNotFolded}
 use Rattle.nuchapay_runs.proofs.Explaining.{explains_there}
 use Rattle.nuchapay_runs.proofs.explained.explain_turn.Goals as goal
 

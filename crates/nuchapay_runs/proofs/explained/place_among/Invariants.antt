@@ -1,6 +1,4 @@
-use Rattle.std.proofs.Common.{◌≡◌, ◌+◌, drop, map}
-use Rattle.script_compiler.specs.IsCompiled.{actor_number}
-use Rattle.nuchapay_runs.specs.Why.{place_among}
+use Rattle.nuchapay_runs.proofs.Prelude.{◌≡◌, ◌+◌, drop, map, actor_number, place_among}
 use Rattle.nuchapay_runs.proofs.explained.place_among.Given as goal
 
 abbrev pub invariant-loop-place : goal.invariant-loop-place

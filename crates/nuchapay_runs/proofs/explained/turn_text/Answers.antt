@@ -1,8 +1,6 @@
-use Rattle.std.proofs.Common.{◌≡◌, ℕ, sym, ap, subst, ◌∙◌}
+use Rattle.nuchapay_runs.proofs.Prelude.{◌≡◌, ℕ, sym, ap, subst, ◌∙◌, method_actor, method_code, RecordView, owned_view}
 use Rattle.script_code.specs.Instructions.{FollowsCode}
 use Rattle.script_code.specs.Layout.{code_at}
-use Rattle.swift_script.specs.Scripts.{method_actor, method_code}
-use Rattle.swift_journal.specs.Records.{RecordView, owned_view}
 use Rattle.nuchapay_runs.proofs.explained.turn_text.Goals as goal
 
 pub why_text-requires-clause-actor : goal.why_text-requires-clause-actor

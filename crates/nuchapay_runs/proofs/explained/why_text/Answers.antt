@@ -1,11 +1,4 @@
-use Rattle.std.proofs.Common.{◌<◌, length, refl, sym, ap, ◌∙◌, arith, rules}
-use Rattle.script_code.specs.Seen.{rows_of}
-use Rattle.swift_journal.specs.Records.{owned_view}
-use Rattle.swift_report.specs.Text.{line_of}
-use Rattle.run_pictures.specs.Values.{values_view, values_views}
-use Rattle.nuchapay_runs.specs.LinesInside.{line_in}
-use Rattle.nuchapay_runs.specs.NamedInside.{names_view}
-use Rattle.nuchapay_runs.specs.Why.{KnownTurn}
+use Rattle.nuchapay_runs.proofs.Prelude.{◌<◌, length, refl, sym, ap, ◌∙◌, arith, rules, rows_of, owned_view, line_of, values_view, values_views, line_in, names_view, KnownTurn}
 use Rattle.nuchapay_runs.proofs.Explaining.{is_last, is_why}
 use Rattle.nuchapay_runs.proofs.Playing.{as_many, own_values}
 use Rattle.nuchapay_runs.proofs.explained.why_text.Goals as goal

@@ -1,5 +1,4 @@
-use Rattle.std.proofs.Common.{ap}
-use Rattle.swift_report.specs.Text.{turn_text}
+use Rattle.nuchapay_runs.proofs.Prelude.{ap, turn_text}
 use Rattle.swift_report.specs.declared.line.Line.{Line}
 use Rattle.nuchapay_runs.proofs.Joined.{both, same}
 use Rattle.nuchapay_runs.proofs.explained.write_head.Goals as goal

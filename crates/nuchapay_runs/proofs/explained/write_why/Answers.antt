@@ -1,8 +1,4 @@
-use Rattle.std.proofs.Common.{◌≡◌, ℕ, List, ap, ◌∙◌}
-use Rattle.script_code.specs.Seen.{rows_of}
-use Rattle.run_pictures.specs.Values.{values_view}
-use Rattle.nuchapay_runs.specs.NamedInside.{names_view}
-use Rattle.nuchapay_runs.specs.Why.{fields_text, own_place, place_among}
+use Rattle.nuchapay_runs.proofs.Prelude.{◌≡◌, ℕ, List, ap, ◌∙◌, rows_of, values_view, names_view, fields_text, own_place, place_among}
 use Rattle.nuchapay_runs.proofs.Joined.{both, same}
 use Rattle.nuchapay_runs.proofs.explained.write_why.Goals as goal
 

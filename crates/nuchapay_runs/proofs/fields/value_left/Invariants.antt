@@ -1,6 +1,4 @@
-use Rattle.std.proofs.Common.{◌≡◌, drop}
-use Rattle.script_code.specs.Seen.{rows_of}
-use Rattle.nuchapay_runs.specs.False.{value_left}
+use Rattle.nuchapay_runs.proofs.Prelude.{◌≡◌, drop, rows_of, value_left}
 use Rattle.nuchapay_runs.proofs.fields.value_left.Given as goal
 
 abbrev pub invariant-loop-change : goal.invariant-loop-change

@@ -1,5 +1,4 @@
-use Rattle.std.proofs.Common.{◌≡◌, drop}
-use Rattle.nuchapay_runs.specs.False.{has_field}
+use Rattle.nuchapay_runs.proofs.Prelude.{◌≡◌, drop, has_field}
 use Rattle.nuchapay_runs.proofs.invariants.has_field.Given as goal
 
 abbrev pub invariant-loop-field : goal.invariant-loop-field

@@ -1,7 +1,4 @@
-use Rattle.std.proofs.Common.{◌≡◌, drop, map}
-use Rattle.std.specs.Prelude.{slice_get}
-use Rattle.script_compiler.specs.IsCompiled.{actor_number}
-use Rattle.nuchapay_runs.specs.False.{invariants_among}
+use Rattle.nuchapay_runs.proofs.Prelude.{◌≡◌, drop, map, slice_get, actor_number, invariants_among}
 use Rattle.nuchapay_runs.proofs.invariants.invariant_among.Given as goal
 
 abbrev pub invariant-loop-actor : goal.invariant-loop-actor

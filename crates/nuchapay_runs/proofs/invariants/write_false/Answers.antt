@@ -1,7 +1,5 @@
-use Rattle.std.proofs.Common.{List, [], ap, ◌∙◌}
-use Rattle.script_code.specs.Seen.{rows_of}
+use Rattle.nuchapay_runs.proofs.Prelude.{List, [], ap, ◌∙◌, rows_of, left_text}
 use Rattle.script_code.specs.declared.formula.FieldPlace.{FieldPlace}
-use Rattle.nuchapay_runs.specs.False.{left_text}
 use Rattle.nuchapay_runs.proofs.Joined.{both, same}
 use Rattle.nuchapay_runs.proofs.invariants.write_false.Goals as goal
 

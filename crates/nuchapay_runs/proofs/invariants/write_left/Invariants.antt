@@ -1,6 +1,4 @@
-use Rattle.std.proofs.Common.{[], drop}
-use Rattle.script_code.specs.Seen.{rows_of}
-use Rattle.nuchapay_runs.specs.False.{left_text}
+use Rattle.nuchapay_runs.proofs.Prelude.{[], drop, rows_of, left_text}
 use Rattle.nuchapay_runs.proofs.Joined.{UpTo}
 use Rattle.nuchapay_runs.proofs.invariants.write_left.Given as goal
 

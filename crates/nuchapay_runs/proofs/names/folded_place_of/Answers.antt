@@ -1,4 +1,4 @@
-use Rattle.std.proofs.Common.{◌<◌, length, arith}
+use Rattle.nuchapay_runs.proofs.Prelude.{◌<◌, length, arith}
 use Rattle.nuchapay_runs.proofs.Standing.{folded_at}
 use Rattle.nuchapay_runs.proofs.names.folded_place_of.Goals as goal
 

@@ -1,4 +1,4 @@
-use Rattle.std.proofs.Common.{◌<◌, length, arith}
+use Rattle.nuchapay_runs.proofs.Prelude.{◌<◌, length, arith}
 use Rattle.nuchapay_runs.proofs.names.place_of.Goals as goal
 
 pub returns-then-is_turn : goal.returns-then-is_turn

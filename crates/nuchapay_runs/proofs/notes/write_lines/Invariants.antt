@@ -1,5 +1,4 @@
-use Rattle.std.proofs.Common.{drop}
-use Rattle.nuchapay_runs.specs.Notes.{change_lines, note_lines}
+use Rattle.nuchapay_runs.proofs.Prelude.{drop, change_lines, note_lines}
 use Rattle.nuchapay_runs.proofs.Joined.{UpTo}
 use Rattle.nuchapay_runs.proofs.notes.write_lines.Given as goal
 

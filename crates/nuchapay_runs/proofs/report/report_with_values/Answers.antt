@@ -1,9 +1,5 @@
-use Rattle.std.proofs.Common.{ℕ, List, sym, subst}
-use Rattle.std.specs.Prelude.{false}
-use Rattle.swift_report.specs.Text.{report_text}
-use Rattle.nuchapay_runs.specs.Notes.{IsAnnotated}
+use Rattle.nuchapay_runs.proofs.Prelude.{ℕ, List, sym, subst, false, report_text, IsAnnotated, if_ok}
 use Rattle.nuchapay_runs.proofs.Annotated.{noted_is_annotated}
-use Rattle.run_pictures.proofs.Answered.{if_ok}
 use Rattle.nuchapay_runs.proofs.report.report_with_values.Goals as goal
 
 pub returns-clause-annotated : goal.returns-clause-annotated

@@ -1,6 +1,4 @@
-use Rattle.std.proofs.Common.{ℕ, ◌+◌, ap}
-use Rattle.swift_report.specs.Text.{heading_text}
-use Rattle.run_pictures.proofs.Answered.{on_ok}
+use Rattle.nuchapay_runs.proofs.Prelude.{ℕ, ◌+◌, ap, heading_text, on_ok}
 use Rattle.nuchapay_runs.proofs.Joined.{both, same}
 use Rattle.nuchapay_runs.proofs.report.write_noted_executor.Goals as goal
 

@@ -1,5 +1,4 @@
-use Rattle.std.proofs.Common.{drop}
-use Rattle.nuchapay_runs.specs.Noted.{noted_executors}
+use Rattle.nuchapay_runs.proofs.Prelude.{drop, noted_executors}
 use Rattle.nuchapay_runs.proofs.Joined.{UpTo}
 use Rattle.nuchapay_runs.proofs.report.write_noted_executors.Given as goal
 

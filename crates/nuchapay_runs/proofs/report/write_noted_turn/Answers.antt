@@ -1,12 +1,5 @@
-use Rattle.std.proofs.Common.{ℤ, List, ap, ap₂, ◌∙◌}
+use Rattle.nuchapay_runs.proofs.Prelude.{ℤ, List, ap, ap₂, ◌∙◌, rows_of, RecordView, owned_view, turn_text, line_in, first_lines, notes_text, note_lines, ValuesView, turn_values, values_view}
 use Rattle.std.specs.Global.{Vec}
-use Rattle.script_code.specs.Seen.{rows_of}
-use Rattle.swift_journal.specs.Records.{RecordView, owned_view}
-use Rattle.swift_report.specs.Text.{turn_text}
-use Rattle.nuchapay_runs.specs.LinesInside.{line_in}
-use Rattle.nuchapay_runs.specs.Noted.{first_lines, notes_text}
-use Rattle.nuchapay_runs.specs.Notes.{note_lines}
-use Rattle.run_pictures.specs.Values.{ValuesView, turn_values, values_view}
 use Rattle.run_pictures.specs.declared.picture.boxes.TurnBox.{TurnBox}
 use Rattle.nuchapay_runs.proofs.Joined.{both, same}
 use Rattle.nuchapay_runs.proofs.Noting.{notes_after}

@@ -1,5 +1,4 @@
-use Rattle.std.proofs.Common.{◌<◌, length, rules}
-use Rattle.script_code.specs.Seen.{rows_of}
+use Rattle.nuchapay_runs.proofs.Prelude.{◌<◌, length, rules, rows_of}
 use Rattle.nuchapay_runs.proofs.Noting.{noted_more}
 use Rattle.nuchapay_runs.proofs.report.write_noted_turns.Goals as goal
 

@@ -1,6 +1,4 @@
-use Rattle.std.proofs.Common.{◌≡◌, ◌+◌, drop, length}
-use Rattle.script_code.specs.Seen.{rows_of}
-use Rattle.nuchapay_runs.specs.Noted.{noted_turns}
+use Rattle.nuchapay_runs.proofs.Prelude.{◌≡◌, ◌+◌, drop, length, rows_of, noted_turns}
 use Rattle.nuchapay_runs.proofs.Joined.{UpTo}
 use Rattle.nuchapay_runs.proofs.report.write_noted_turns.Given as goal
 

@@ -1,5 +1,4 @@
-use Rattle.std.proofs.Common.{◌≡◌, drop}
-use Rattle.nuchapay_runs.specs.Statements.{awaited_at}
+use Rattle.nuchapay_runs.proofs.Prelude.{◌≡◌, drop, awaited_at}
 use Rattle.nuchapay_runs.proofs.statement.awaited_at.Given as goal
 
 abbrev pub invariant-loop-instruction : goal.invariant-loop-instruction

@@ -1,8 +1,5 @@
-use Rattle.std.proofs.Common.{sym, subst}
+use Rattle.nuchapay_runs.proofs.Prelude.{sym, subst, names_view, Says, cancel_text}
 use Rattle.script_code.specs.declared.instruction.Cancelled.{Cancelled}
-use Rattle.nuchapay_runs.specs.NamedInside.{names_view}
-use Rattle.nuchapay_runs.specs.SaysInside.{Says}
-use Rattle.nuchapay_runs.specs.Statements.{cancel_text}
 use Rattle.nuchapay_runs.proofs.Joined.{both, same}
 use Rattle.nuchapay_runs.proofs.statement.write_cancel.Goals as goal
 

@@ -1,8 +1,5 @@
-use Rattle.std.proofs.Common.{drop}
-use Rattle.std.specs.Prelude.{codes}
+use Rattle.nuchapay_runs.proofs.Prelude.{drop, codes, names_view, listed_text}
 use Rattle.script_code.specs.Tree.{terms_of}
-use Rattle.nuchapay_runs.specs.NamedInside.{names_view}
-use Rattle.nuchapay_runs.specs.Statements.{listed_text}
 use Rattle.nuchapay_runs.proofs.Joined.{UpTo}
 use Rattle.nuchapay_runs.proofs.statement.write_listed.Given as goal
 

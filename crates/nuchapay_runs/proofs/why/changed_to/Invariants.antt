@@ -1,5 +1,4 @@
-use Rattle.std.proofs.Common.{◌≡◌, drop}
-use Rattle.nuchapay_runs.specs.Why.{changed_to}
+use Rattle.nuchapay_runs.proofs.Prelude.{◌≡◌, drop, changed_to}
 use Rattle.nuchapay_runs.proofs.why.changed_to.Given as goal
 
 abbrev pub invariant-loop-change : goal.invariant-loop-change

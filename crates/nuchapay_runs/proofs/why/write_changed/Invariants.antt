@@ -1,6 +1,4 @@
-use Rattle.std.proofs.Common.{drop}
-use Rattle.std.specs.Prelude.{flat_map}
-use Rattle.nuchapay_runs.specs.Why.{blamed_text}
+use Rattle.nuchapay_runs.proofs.Prelude.{drop, flat_map, blamed_text}
 use Rattle.nuchapay_runs.proofs.Joined.{UpTo}
 use Rattle.nuchapay_runs.proofs.why.write_changed.Given as goal
 

@@ -1,8 +1,4 @@
-use Rattle.std.proofs.Common.{ℤ, List, map, ap, ◌∙◌}
-use Rattle.script_code.specs.Seen.{pair_of}
-use Rattle.script_code.specs.declared.sight.Binding.{Binding}
-use Rattle.nuchapay_runs.specs.NamedInside.{names_view}
-use Rattle.nuchapay_runs.specs.Why.{bindings_text, variables_text}
+use Rattle.nuchapay_runs.proofs.Prelude.{ℤ, List, map, ap, ◌∙◌, pair_of, Binding, names_view, bindings_text, variables_text}
 use Rattle.nuchapay_runs.proofs.Bound.{own_turned}
 use Rattle.nuchapay_runs.proofs.Joined.{both, same}
 use Rattle.nuchapay_runs.proofs.why.write_found.Goals as goal

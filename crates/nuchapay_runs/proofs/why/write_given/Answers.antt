@@ -1,5 +1,4 @@
-use Rattle.std.proofs.Common.{ap}
-use Rattle.std.specs.Prelude.{decimal}
+use Rattle.nuchapay_runs.proofs.Prelude.{ap, decimal}
 use Rattle.nuchapay_runs.proofs.Joined.{both, same}
 use Rattle.nuchapay_runs.proofs.why.write_given.Goals as goal
 

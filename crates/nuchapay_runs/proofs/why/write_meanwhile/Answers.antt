@@ -1,9 +1,4 @@
-use Rattle.std.proofs.Common.{◌<◌, List, length, ap, sym, ◌∙◌, arith}
-use Rattle.std.specs.Prelude.{flat_map}
-use Rattle.std.proofs.lemmas.List.{get_or-map, length-map}
-use Rattle.run_pictures.specs.Values.{values_view, values_views}
-use Rattle.nuchapay_runs.specs.Why.{blamed_text}
-use Rattle.run_pictures.specs.declared.values.change.Change.{Change}
+use Rattle.nuchapay_runs.proofs.Prelude.{◌<◌, List, length, ap, sym, ◌∙◌, arith, flat_map, get_or-map, length-map, values_view, values_views, blamed_text, Change}
 use Rattle.nuchapay_runs.proofs.Joined.{same}
 use Rattle.nuchapay_runs.proofs.Meanwhile.{meanwhile_more}
 use Rattle.nuchapay_runs.proofs.why.write_meanwhile.Goals as goal

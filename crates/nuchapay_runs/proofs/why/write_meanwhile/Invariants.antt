@@ -1,6 +1,4 @@
-use Rattle.std.specs.Prelude.{slice_range}
-use Rattle.run_pictures.specs.Values.{values_views}
-use Rattle.nuchapay_runs.specs.Why.{meanwhile_text}
+use Rattle.nuchapay_runs.proofs.Prelude.{slice_range, values_views, meanwhile_text}
 use Rattle.nuchapay_runs.proofs.Joined.{UpTo}
 use Rattle.nuchapay_runs.proofs.why.write_meanwhile.Given as goal
 

@@ -1,6 +1,4 @@
-use Rattle.std.proofs.Common.{◌≡◌, ℤ, ◌<◌, ◌≤◌, length, reverse, ap, arith, rules, w64, to_z, of_z}
-use Rattle.std.proofs.lemmas.List.{at_drop_all, length-reverse}
-use Rattle.nuchapay_runs.specs.Why.{binding_text, bindings_text}
+use Rattle.nuchapay_runs.proofs.Prelude.{◌≡◌, ℤ, ◌<◌, ◌≤◌, length, reverse, ap, arith, rules, w64, to_z, of_z, at_drop_all, length-reverse, binding_text, bindings_text}
 use Rattle.nuchapay_runs.proofs.Bound.{bound_more}
 use Rattle.nuchapay_runs.proofs.Joined.{ended, same}
 use Rattle.nuchapay_runs.proofs.why.write_outer.Goals as goal

@@ -1,5 +1,4 @@
-use Rattle.std.proofs.Common.{◌≡◌, drop, length, reverse}
-use Rattle.nuchapay_runs.specs.Why.{bindings_text}
+use Rattle.nuchapay_runs.proofs.Prelude.{◌≡◌, drop, length, reverse, bindings_text}
 use Rattle.nuchapay_runs.proofs.Joined.{UpTo}
 use Rattle.nuchapay_runs.proofs.why.write_outer.Given as goal
 

@@ -1,6 +1,4 @@
-use Rattle.std.proofs.Common.{drop, map}
-use Rattle.script_code.specs.Seen.{pair_of}
-use Rattle.nuchapay_runs.specs.Why.{bindings_text}
+use Rattle.nuchapay_runs.proofs.Prelude.{drop, map, pair_of, bindings_text}
 use Rattle.nuchapay_runs.proofs.Joined.{UpTo}
 use Rattle.nuchapay_runs.proofs.why.write_own.Given as goal
 

@@ -1,5 +1,4 @@
-use Rattle.std.proofs.Common.{drop}
-use Rattle.nuchapay_runs.specs.Why.{row_text}
+use Rattle.nuchapay_runs.proofs.Prelude.{drop, row_text}
 use Rattle.nuchapay_runs.proofs.Joined.{UpTo}
 use Rattle.nuchapay_runs.proofs.why.write_row.Given as goal
 

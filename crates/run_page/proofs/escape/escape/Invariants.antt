@@ -1,5 +1,4 @@
-use Rattle.std.proofs.Common.{◌≡◌, ◌++◌, drop}
-use Rattle.run_page.specs.Escapes.{escaped}
+use Rattle.run_page.proofs.Prelude.{◌≡◌, ◌++◌, drop, escaped}
 use Rattle.run_page.proofs.escape.escape.Given as goal
 
 abbrev pub invariant-loop-byte : goal.invariant-loop-byte

@@ -1,5 +1,4 @@
-use Rattle.std.proofs.Common.{subst}
-use Rattle.nuchapay_runs.specs.Explains.{Explains, Tells}
+use Rattle.run_page.proofs.Prelude.{subst, Explains, Tells}
 use Rattle.run_page.proofs.Explained.{one}
 use Rattle.run_page.proofs.explanations.explanation.Goals as goal
 

@@ -1,6 +1,4 @@
-use Rattle.std.proofs.Common.{◌<◌, ◌≤◌, [], length, drop, rules, refl, subst, sym, ap, append-nil}
-use Rattle.std.proofs.lemmas.List.{drop_all}
-use Rattle.run_page.specs.RunJson.{AreTold, applied_turns}
+use Rattle.run_page.proofs.Prelude.{◌<◌, ◌≤◌, [], length, drop, rules, refl, subst, sym, ap, append-nil, drop_all, AreTold, applied_turns}
 use Rattle.run_page.proofs.Explained.{more}
 use Rattle.run_page.proofs.explanations.explanations.Goals as goal
 

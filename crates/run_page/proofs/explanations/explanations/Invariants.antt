@@ -1,5 +1,4 @@
-use Rattle.std.proofs.Common.{◌≡◌, ℕ, List, ◌++◌, drop, length}
-use Rattle.run_page.specs.RunJson.{AppendsTold, AreTold, ExplainedTurn, IsToldOfRun, all_explained_json, applied_turns}
+use Rattle.run_page.proofs.Prelude.{◌≡◌, ℕ, List, ◌++◌, drop, length, AppendsTold, AreTold, ExplainedTurn, IsToldOfRun, all_explained_json, applied_turns}
 use Rattle.run_page.proofs.explanations.explanations.Given as goal
 
 abbrev pub invariant-loop-place : goal.invariant-loop-place

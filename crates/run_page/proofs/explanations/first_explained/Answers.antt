@@ -1,6 +1,4 @@
-use Rattle.std.proofs.Common.{◌≡◌, ℕ, ◌-◌, ◌+◌, ◌<◌, Bool, if◌then◌else◌, ap, ◌∙◌, arith, drop, length}
-use Rattle.run_page.specs.RunJson.{applied_turns}
-use Rattle.run_page.specs.declared.explanations.TheConstants.{EXPLAINED}
+use Rattle.run_page.proofs.Prelude.{◌≡◌, ℕ, ◌-◌, ◌+◌, ◌<◌, Bool, if◌then◌else◌, ap, ◌∙◌, arith, drop, length, applied_turns, EXPLAINED}
 use Rattle.run_page.proofs.Applied.{counted_from, last_of}
 use Rattle.run_page.proofs.explanations.first_explained.Goals as goal
 use Rattle.run_page.proofs.explanations.first_explained.Goals.{then-is_some+else-many-eq-EXPLAINED, else-is_some}

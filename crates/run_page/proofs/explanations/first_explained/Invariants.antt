@@ -1,6 +1,4 @@
-use Rattle.std.proofs.Common.{◌≡◌, ◌≤◌, ◌-◌, drop, length}
-use Rattle.run_page.specs.RunJson.{applied_turns}
-use Rattle.run_page.specs.declared.explanations.TheConstants.{EXPLAINED}
+use Rattle.run_page.proofs.Prelude.{◌≡◌, ◌≤◌, ◌-◌, drop, length, applied_turns, EXPLAINED}
 use Rattle.run_page.proofs.explanations.first_explained.Given as goal
 
 abbrev pub invariant-loop-back : goal.invariant-loop-back

@@ -1,4 +1,4 @@
-use Rattle.std.proofs.Common.{◌<◌, length, rules}
+use Rattle.run_page.proofs.Prelude.{◌<◌, length, rules}
 use Rattle.run_page.proofs.Events.{events_more}
 use Rattle.run_page.proofs.log.events.Goals as goal
 

@@ -1,5 +1,4 @@
-use Rattle.std.proofs.Common.{◌≡◌, ◌++◌, drop, length}
-use Rattle.run_page.specs.RunJson.{events_json}
+use Rattle.run_page.proofs.Prelude.{◌≡◌, ◌++◌, drop, length, events_json}
 use Rattle.run_page.proofs.log.events.Given as goal
 
 abbrev pub invariant-loop-place : goal.invariant-loop-place

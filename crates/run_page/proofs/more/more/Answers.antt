@@ -1,5 +1,4 @@
-use Rattle.std.specs.Prelude.{codes}
-use Rattle.run_page.specs.RunJson.{IsToldOfRun, all_explained_json, heading_json, run_json}
+use Rattle.run_page.proofs.Prelude.{codes, IsToldOfRun, all_explained_json, heading_json, run_json}
 use Rattle.run_page.proofs.Joined.{between, onto}
 use Rattle.run_page.proofs.more.more.Goals as goal
 

@@ -1,7 +1,4 @@
-use Rattle.std.proofs.Common.{ℕ, List, ◌++◌, ap, ◌∙◌, false}
-use Rattle.swift_tool.specs.ReportJson.{report_json}
-use Rattle.run_page.specs.Pages.{page_bytes}
-use Rattle.run_page.specs.RunJson.{more_json}
+use Rattle.run_page.proofs.Prelude.{ℕ, List, ◌++◌, ap, ◌∙◌, false, report_json, page_bytes, more_json}
 use Rattle.run_page.proofs.Plain.{plain}
 use Rattle.run_page.proofs.page.page_text.Goals as goal
 

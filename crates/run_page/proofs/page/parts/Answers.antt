@@ -1,9 +1,4 @@
-use Rattle.std.proofs.Common.{ℕ, List, ◌++◌, false}
-use Rattle.swift_tool.specs.ReportJson.{report_json}
-use Rattle.run_page.specs.Escapes.{escaped}
-use Rattle.run_page.specs.Pages.{back_text, front_text}
-use Rattle.run_page.specs.RunJson.{ExplainedTurn, IsToldOfRun, more_json}
-use Rattle.run_page.specs.declared.texts.frame.TheConstants.{MIDDLE}
+use Rattle.run_page.proofs.Prelude.{ℕ, List, ◌++◌, false, report_json, escaped, back_text, front_text, ExplainedTurn, IsToldOfRun, more_json, MIDDLE}
 use Rattle.run_page.proofs.Joined.{between, onto}
 use Rattle.run_page.proofs.page.parts.Goals as goal
 

@@ -1,5 +1,4 @@
-use Rattle.std.proofs.Common.{◌≡◌, ◌++◌, drop}
-use Rattle.run_page.specs.Escapes.{quoted}
+use Rattle.run_page.proofs.Prelude.{◌≡◌, ◌++◌, drop, quoted}
 use Rattle.run_page.proofs.quote.quote.Given as goal
 
 abbrev pub invariant-loop-byte : goal.invariant-loop-byte

@@ -1,6 +1,4 @@
-use Rattle.std.proofs.Common.{◌++◌}
-use Rattle.run_page.specs.Pages.{script_text}
-use Rattle.run_page.specs.declared.texts.frame.TheConstants.{BELOW, END}
+use Rattle.run_page.proofs.Prelude.{◌++◌, script_text, BELOW, END}
 use Rattle.run_page.proofs.Joined.{onto, onto_last}
 use Rattle.run_page.proofs.texts.back.Goals as goal
 

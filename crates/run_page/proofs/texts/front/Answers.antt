@@ -1,5 +1,4 @@
-use Rattle.std.proofs.Common.{◌++◌}
-use Rattle.run_page.specs.declared.texts.frame.TheConstants.{BODY, HEAD}
+use Rattle.run_page.proofs.Prelude.{◌++◌, BODY, HEAD}
 use Rattle.run_page.specs.declared.texts.style.TheConstants.{STYLE}
 use Rattle.run_page.proofs.Joined.{onto, onto_last}
 use Rattle.run_page.proofs.texts.front.Goals as goal

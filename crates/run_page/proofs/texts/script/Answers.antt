@@ -1,4 +1,4 @@
-use Rattle.std.proofs.Common.{◌++◌}
+use Rattle.run_page.proofs.Prelude.{◌++◌}
 use Rattle.run_page.specs.declared.texts.chosen.TheConstants.{CHOSEN}
 use Rattle.run_page.specs.declared.texts.lanes.TheConstants.{LANES}
 use Rattle.run_page.specs.declared.texts.method.TheConstants.{METHOD}

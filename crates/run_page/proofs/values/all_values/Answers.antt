@@ -1,6 +1,4 @@
-use Rattle.std.proofs.Common.{ℕ, ◌+◌, ◌-◌, ◌++◌, List, sym, ap, ◌∙◌, append_assoc, arith}
-use Rattle.swift_script.specs.Scripts.{executor_count}
-use Rattle.run_page.specs.RunJson.{all_values_json, listed_json}
+use Rattle.run_page.proofs.Prelude.{ℕ, ◌+◌, ◌-◌, ◌++◌, List, sym, ap, ◌∙◌, append_assoc, arith, executor_count, all_values_json, listed_json}
 use Rattle.run_page.proofs.Executors.{values_of}
 use Rattle.run_page.proofs.values.all_values.Goals as goal
 

@@ -1,6 +1,4 @@
-use Rattle.std.proofs.Common.{◌≡◌, ◌++◌, ◌-◌}
-use Rattle.swift_script.specs.Scripts.{executor_count}
-use Rattle.run_page.specs.RunJson.{all_values_json}
+use Rattle.run_page.proofs.Prelude.{◌≡◌, ◌++◌, ◌-◌, executor_count, all_values_json}
 use Rattle.run_page.proofs.values.all_values.Given as goal
 
 abbrev pub invariant-loop-place : goal.invariant-loop-place

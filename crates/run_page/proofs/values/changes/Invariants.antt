@@ -1,5 +1,4 @@
-use Rattle.std.proofs.Common.{◌≡◌, ◌++◌, drop}
-use Rattle.run_page.specs.RunJson.{changes_json}
+use Rattle.run_page.proofs.Prelude.{◌≡◌, ◌++◌, drop, changes_json}
 use Rattle.run_page.proofs.values.changes.Given as goal
 
 abbrev pub invariant-loop-one : goal.invariant-loop-one

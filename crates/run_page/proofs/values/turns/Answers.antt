@@ -1,7 +1,4 @@
-use Rattle.std.proofs.Common.{ℕ, ◌+◌, ◌++◌, List, drop, sym, ap, ◌∙◌, append_assoc}
-use Rattle.std.proofs.lemmas.List.{at_drop_more}
-use Rattle.run_pictures.specs.Values.{values_view, values_views}
-use Rattle.run_page.specs.RunJson.{turn_json, turns_json}
+use Rattle.run_page.proofs.Prelude.{ℕ, ◌+◌, ◌++◌, List, drop, sym, ap, ◌∙◌, append_assoc, at_drop_more, values_view, values_views, turn_json, turns_json}
 use Rattle.run_page.proofs.values.turns.Goals as goal
 
 pub loop-place-preserved : goal.loop-place-preserved

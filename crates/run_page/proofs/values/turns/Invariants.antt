@@ -1,6 +1,4 @@
-use Rattle.std.proofs.Common.{◌≡◌, ◌++◌, drop}
-use Rattle.run_pictures.specs.Values.{values_views}
-use Rattle.run_page.specs.RunJson.{turns_json}
+use Rattle.run_page.proofs.Prelude.{◌≡◌, ◌++◌, drop, values_views, turns_json}
 use Rattle.run_page.proofs.values.turns.Given as goal
 
 abbrev pub invariant-loop-place : goal.invariant-loop-place

@@ -1,9 +1,4 @@
-use Rattle.std.proofs.Common.{◌++◌, ◌∙◌, List, map, sym, length}
-use Rattle.std.proofs.lemmas.List.{append-nil, at_drop_all}
-use Rattle.script_grammar.specs.declared.declaration.Actor.{Actor}
-use Rattle.script_grammar.specs.Tree.{view_actor}
-use Rattle.script_compiler.specs.Compiled.{actors_from}
-use Rattle.script_compiler.specs.IsCompiled.{actor_view}
+use Rattle.script_compiler.proofs.Prelude.{◌++◌, ◌∙◌, List, map, sym, length, append-nil, at_drop_all, Actor, view_actor, actors_from, actor_view}
 use Rattle.script_compiler.proofs.actors.compile_actors.Goals as goal
 
 pub returns : goal.returns

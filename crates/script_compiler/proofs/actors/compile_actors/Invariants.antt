@@ -1,7 +1,4 @@
-use Rattle.std.proofs.Common.{◌≡◌, ◌++◌, map, drop, length}
-use Rattle.script_grammar.specs.Tree.{view_actor}
-use Rattle.script_compiler.specs.Compiled.{actors_from}
-use Rattle.script_compiler.specs.IsCompiled.{actor_view}
+use Rattle.script_compiler.proofs.Prelude.{◌≡◌, ◌++◌, map, drop, length, view_actor, actors_from, actor_view}
 use Rattle.script_compiler.proofs.actors.compile_actors.Given as goal
 
 abbrev pub invariant-loop-actor : goal.invariant-loop-actor

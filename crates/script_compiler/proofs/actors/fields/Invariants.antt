@@ -1,6 +1,4 @@
-use Rattle.std.proofs.Common.{◌≡◌, ◌++◌, map, drop}
-use Rattle.script_grammar.specs.Tree.{view_field}
-use Rattle.script_compiler.specs.IsCompiled.{field_view}
+use Rattle.script_compiler.proofs.Prelude.{◌≡◌, ◌++◌, map, drop, view_field, field_view}
 use Rattle.script_compiler.proofs.actors.fields.Given as goal
 
 abbrev pub invariant-loop-one : goal.invariant-loop-one

@@ -1,9 +1,4 @@
-use Rattle.std.proofs.Common.{◌++◌, map, length, ap, arith}
-use Rattle.std.proofs.lemmas.List.{length-map}
-use Rattle.script_grammar.specs.Tree.{view_executor, view_actor}
-use Rattle.script_compiler.specs.Checked.{tree_from}
-use Rattle.script_compiler.specs.Compiled.{own_executors}
-use Rattle.script_compiler.specs.IsCompiled.{actor_view}
+use Rattle.script_compiler.proofs.Prelude.{◌++◌, map, length, ap, arith, length-map, view_executor, view_actor, tree_from, own_executors, actor_view}
 use Rattle.script_compiler.proofs.InOrder.{few_here, new_here}
 use Rattle.script_compiler.proofs.Small.{small_here}
 use Rattle.script_compiler.proofs.ExecutorsMade.{as_many, by_actors, same_invariants}

@@ -1,12 +1,4 @@
-use Rattle.std.proofs.Common.{ap, subst, sym, ◌∙◌, length, arith}
-use Rattle.std.specs.Prelude.{IfOk}
-use Rattle.std.proofs.lemmas.List.{length-map}
-use Rattle.script_grammar.specs.Tree.{view_actor}
-use Rattle.script_names.specs.Directory.{DirectoryView}
-use Rattle.script_compiler.specs.Plan.{PlanView}
-use Rattle.script_compiler.specs.Checked.{tree_from, IsChecked}
-use Rattle.script_compiler.specs.Compiled.{compiled_by}
-use Rattle.script_compiler.specs.IsCompiled.{IsCompiled}
+use Rattle.script_compiler.proofs.Prelude.{ap, subst, sym, ◌∙◌, length, arith, IfOk, length-map, view_actor, DirectoryView, PlanView, tree_from, IsChecked, compiled_by, IsCompiled}
 use Rattle.script_compiler.proofs.ByKinds.{plan_made}
 use Rattle.script_compiler.proofs.InOrder.{few_here, few_declared}
 use Rattle.script_compiler.proofs.Room.{few_names}

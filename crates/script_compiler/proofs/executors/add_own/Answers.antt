@@ -1,10 +1,4 @@
-use Rattle.std.proofs.Common.{◌++◌, ◌∙◌, List, map, sym, length}
-use Rattle.std.proofs.lemmas.List.{append-nil, at_drop_all}
-use Rattle.script_grammar.specs.declared.declaration.Actor.{Actor}
-use Rattle.script_grammar.specs.Tree.{view_actor}
-use Rattle.script_compiler.specs.Compiled.{own_executors}
-use Rattle.script_compiler.specs.IsCompiled.{executor_view}
-use Rattle.script_compiler.specs.MembersInside.{executors_by}
+use Rattle.script_compiler.proofs.Prelude.{◌++◌, ◌∙◌, List, map, sym, length, append-nil, at_drop_all, Actor, view_actor, own_executors, executor_view, executors_by}
 use Rattle.script_compiler.proofs.executors.add_own.Goals as goal
 
 pub returns-clause-view : goal.returns-clause-view

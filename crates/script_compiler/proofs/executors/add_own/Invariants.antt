@@ -1,9 +1,4 @@
-use Rattle.std.proofs.Common.{◌≡◌, ◌++◌, map, drop, length}
-use Rattle.std.specs.Prelude.{All}
-use Rattle.script_grammar.specs.Tree.{view_actor}
-use Rattle.script_compiler.specs.Compiled.{own_executors}
-use Rattle.script_compiler.specs.IsCompiled.{actor_view, executor_view, HasInvariants}
-use Rattle.script_compiler.specs.MembersInside.{executors_by}
+use Rattle.script_compiler.proofs.Prelude.{◌≡◌, ◌++◌, map, drop, length, All, view_actor, own_executors, actor_view, executor_view, HasInvariants, executors_by}
 use Rattle.script_compiler.proofs.executors.add_own.Given as goal
 
 abbrev pub invariant-loop-actor : goal.invariant-loop-actor

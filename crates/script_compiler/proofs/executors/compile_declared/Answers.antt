@@ -1,9 +1,5 @@
-use Rattle.std.proofs.Common.{◌++◌, ◌∙◌, List, map, sym, length}
-use Rattle.std.proofs.lemmas.List.{append-nil, at_drop_all}
+use Rattle.script_compiler.proofs.Prelude.{◌++◌, ◌∙◌, List, map, sym, length, append-nil, at_drop_all, view_executor, executor_view, executors_by}
 use Rattle.script_grammar.specs.declared.declaration.Executor.{Executor}
-use Rattle.script_grammar.specs.Tree.{view_executor}
-use Rattle.script_compiler.specs.IsCompiled.{executor_view}
-use Rattle.script_compiler.specs.MembersInside.{executors_by}
 use Rattle.script_compiler.proofs.executors.compile_declared.Goals as goal
 
 pub returns-clause-view : goal.returns-clause-view

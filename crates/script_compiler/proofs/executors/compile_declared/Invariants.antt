@@ -1,8 +1,4 @@
-use Rattle.std.proofs.Common.{◌≡◌, ◌++◌, map, drop, length}
-use Rattle.std.specs.Prelude.{All}
-use Rattle.script_grammar.specs.Tree.{view_executor}
-use Rattle.script_compiler.specs.IsCompiled.{actor_view, executor_view, HasInvariants}
-use Rattle.script_compiler.specs.MembersInside.{executors_by}
+use Rattle.script_compiler.proofs.Prelude.{◌≡◌, ◌++◌, map, drop, length, All, view_executor, actor_view, executor_view, HasInvariants, executors_by}
 use Rattle.script_compiler.proofs.executors.compile_declared.Given as goal
 
 abbrev pub invariant-loop-executor : goal.invariant-loop-executor

@@ -1,9 +1,4 @@
-use Rattle.std.proofs.Common.{◌++◌, ◌∙◌, List, map, sym}
-use Rattle.std.proofs.lemmas.List.{append-nil, at_drop_all}
-use Rattle.swift_types.specs.declared.id.ActorId.{ActorId}
-use Rattle.script_code.specs.Tree.{terms_of}
-use Rattle.script_compiler.specs.Compiled.{invariants_among}
-use Rattle.script_compiler.specs.IsCompiled.{actor_number, actor_view}
+use Rattle.script_compiler.proofs.Prelude.{◌++◌, ◌∙◌, List, map, sym, append-nil, at_drop_all, ActorId, terms_of, invariants_among, actor_number, actor_view}
 use Rattle.script_compiler.proofs.executors.invariants.Goals as goal
 
 pub returns : goal.returns

@@ -1,7 +1,4 @@
-use Rattle.std.proofs.Common.{◌≡◌, ◌++◌, map, drop}
-use Rattle.script_code.specs.Tree.{terms_of}
-use Rattle.script_compiler.specs.Compiled.{invariants_among}
-use Rattle.script_compiler.specs.IsCompiled.{actor_number, actor_view}
+use Rattle.script_compiler.proofs.Prelude.{◌≡◌, ◌++◌, map, drop, terms_of, invariants_among, actor_number, actor_view}
 use Rattle.script_compiler.proofs.executors.invariants.Given as goal
 
 abbrev pub invariant-loop-member : goal.invariant-loop-member

@@ -1,4 +1,4 @@
-use Rattle.std.proofs.Common.{◌∙◌, refl, sym, ap}
+use Rattle.script_compiler.proofs.Prelude.{◌∙◌, refl, sym, ap}
 use Rattle.script_compiler.proofs.Steps.{member_here, member_not}
 use Rattle.script_compiler.proofs.executors.members.Goals as goal
 use Rattle.script_compiler.proofs.executors.members.Goals.{then-executor+in_ok-push, else-executor}

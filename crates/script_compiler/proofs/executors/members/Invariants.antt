@@ -1,6 +1,4 @@
-use Rattle.std.proofs.Common.{◌≡◌, ◌++◌, ◌-◌, map}
-use Rattle.script_compiler.specs.IsCompiled.{actor_number}
-use Rattle.script_compiler.specs.MembersInside.{members_below}
+use Rattle.script_compiler.proofs.Prelude.{◌≡◌, ◌++◌, ◌-◌, map, actor_number, members_below}
 use Rattle.script_compiler.proofs.executors.members.Given as goal
 
 abbrev pub invariant-loop-actor : goal.invariant-loop-actor

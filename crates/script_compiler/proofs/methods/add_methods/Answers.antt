@@ -1,5 +1,4 @@
-use Rattle.std.proofs.Common.{arith}
-use Rattle.script_compiler.specs.Compiled.{method_of}
+use Rattle.script_compiler.proofs.Prelude.{arith, method_of}
 use Rattle.script_compiler.proofs.InOrder.{methods_next}
 use Rattle.script_compiler.proofs.Small.{method_next}
 use Rattle.script_compiler.proofs.Steps.{method_more}

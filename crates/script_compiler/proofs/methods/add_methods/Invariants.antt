@@ -1,11 +1,4 @@
-use Rattle.std.proofs.Common.{◌≡◌, ◌≤◌, ◌++◌, true, List, map, take, drop}
-use Rattle.std.specs.List.{AllZip}
-use Rattle.swift_types.specs.declared.limits.TheConstants.{BYTES}
-use Rattle.script_grammar.specs.Tree.{view_method}
-use Rattle.script_grammar.specs.Size.{methods_size}
-use Rattle.script_compiler.specs.Compiled.{MethodView, method_of}
-use Rattle.script_compiler.specs.IsCompiled.{IsMethod}
-use Rattle.script_compiler.specs.NamesInside.{methods_new}
+use Rattle.script_compiler.proofs.Prelude.{◌≡◌, ◌≤◌, ◌++◌, true, List, map, take, drop, AllZip, BYTES, view_method, methods_size, MethodView, method_of, IsMethod, methods_new}
 use Rattle.script_compiler.proofs.methods.add_methods.Given as goal
 
 abbrev pub invariant-loop-method : goal.invariant-loop-method

@@ -1,10 +1,4 @@
-use Rattle.std.proofs.Common.{◌++◌, ◌∙◌, List, map, sym, subst, arith}
-use Rattle.std.proofs.lemmas.List.{append-nil, at_drop_all}
-use Rattle.std.specs.List.{AllZip}
-use Rattle.script_grammar.specs.declared.declaration.Actor.{Actor}
-use Rattle.script_grammar.specs.Tree.{view_actor}
-use Rattle.script_compiler.specs.Compiled.{methods_from}
-use Rattle.script_compiler.specs.IsCompiled.{IsMethod}
+use Rattle.script_compiler.proofs.Prelude.{◌++◌, ◌∙◌, List, map, sym, subst, arith, append-nil, at_drop_all, AllZip, Actor, view_actor, methods_from, IsMethod}
 use Rattle.script_compiler.proofs.InOrder.{actors_next}
 use Rattle.script_compiler.proofs.Small.{actor_next}
 use Rattle.script_compiler.proofs.Steps.{actor_more}

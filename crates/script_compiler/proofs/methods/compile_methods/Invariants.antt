@@ -1,9 +1,4 @@
-use Rattle.std.proofs.Common.{◌≡◌, ◌≤◌, true, map, drop}
-use Rattle.swift_types.specs.declared.limits.TheConstants.{BYTES}
-use Rattle.script_grammar.specs.Tree.{view_actor}
-use Rattle.script_compiler.specs.Compiled.{methods_from}
-use Rattle.script_compiler.specs.MembersInside.{actors_size}
-use Rattle.script_compiler.specs.NamesInside.{actors_new}
+use Rattle.script_compiler.proofs.Prelude.{◌≡◌, ◌≤◌, true, map, drop, BYTES, view_actor, methods_from, actors_size, actors_new}
 use Rattle.script_compiler.proofs.Steps.{AreDone}
 use Rattle.script_compiler.proofs.methods.compile_methods.Given as goal
 

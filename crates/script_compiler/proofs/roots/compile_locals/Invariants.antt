@@ -1,6 +1,4 @@
-use Rattle.std.proofs.Common.{◌≡◌, ◌++◌, map, drop}
-use Rattle.script_grammar.specs.Tree.{view_local}
-use Rattle.script_compiler.specs.IsCompiled.{local_view}
+use Rattle.script_compiler.proofs.Prelude.{◌≡◌, ◌++◌, map, drop, view_local, local_view}
 use Rattle.script_compiler.proofs.roots.compile_locals.Given as goal
 
 abbrev pub invariant-loop-local : goal.invariant-loop-local

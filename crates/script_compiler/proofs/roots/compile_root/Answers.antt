@@ -1,5 +1,4 @@
-use Rattle.std.proofs.Common.{◌∙◌}
-use Rattle.script_grammar.specs.Tree.{view_root}
+use Rattle.script_compiler.proofs.Prelude.{◌∙◌, view_root}
 use Rattle.script_compiler.proofs.RootsMade.{root_made}
 use Rattle.script_compiler.proofs.roots.compile_root.Goals as goal
 

@@ -1,9 +1,5 @@
-use Rattle.std.proofs.Common.{◌+◌, ◌++◌, ◌∙◌, List, map, drop, ap, sym}
-use Rattle.std.proofs.lemmas.List.{append-nil, at_drop_all}
+use Rattle.script_compiler.proofs.Prelude.{◌+◌, ◌++◌, ◌∙◌, List, map, drop, ap, sym, append-nil, at_drop_all, view_root, root_of, root_view}
 use Rattle.script_grammar.specs.declared.declaration.Root.{Root}
-use Rattle.script_grammar.specs.Tree.{view_root}
-use Rattle.script_compiler.specs.Compiled.{root_of}
-use Rattle.script_compiler.specs.IsCompiled.{root_view}
 use Rattle.script_compiler.proofs.Steps.{front, one_more}
 use Rattle.script_compiler.proofs.roots.compile_roots.Goals as goal
 

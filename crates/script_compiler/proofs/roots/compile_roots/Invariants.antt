@@ -1,7 +1,4 @@
-use Rattle.std.proofs.Common.{◌≡◌, ◌++◌, map, drop}
-use Rattle.script_grammar.specs.Tree.{view_root}
-use Rattle.script_compiler.specs.Compiled.{root_of}
-use Rattle.script_compiler.specs.IsCompiled.{root_view}
+use Rattle.script_compiler.proofs.Prelude.{◌≡◌, ◌++◌, map, drop, view_root, root_of, root_view}
 use Rattle.script_compiler.proofs.roots.compile_roots.Given as goal
 
 abbrev pub invariant-loop-root : goal.invariant-loop-root

@@ -1,8 +1,4 @@
-use Rattle.std.proofs.Common.{◌++◌, ◌∙◌, List, map, sym}
-use Rattle.std.proofs.lemmas.List.{append-nil, at_drop_all}
-use Rattle.script_compiler.specs.declared.compiled.CompiledExecutor.{CompiledExecutor}
-use Rattle.script_compiler.specs.IsCompiled.{actor_view, executor_view}
-use Rattle.script_compiler.specs.RowsInside.{rows_in, all_rows_of}
+use Rattle.script_compiler.proofs.Prelude.{◌++◌, ◌∙◌, List, map, sym, append-nil, at_drop_all, CompiledExecutor, actor_view, executor_view, rows_in, all_rows_of}
 use Rattle.script_compiler.proofs.start.all_rows.Goals as goal
 
 pub returns : goal.returns

@@ -1,6 +1,4 @@
-use Rattle.std.proofs.Common.{◌≡◌, ◌++◌, map, drop}
-use Rattle.script_compiler.specs.IsCompiled.{actor_view, executor_view}
-use Rattle.script_compiler.specs.RowsInside.{rows_in, all_rows_of}
+use Rattle.script_compiler.proofs.Prelude.{◌≡◌, ◌++◌, map, drop, actor_view, executor_view, rows_in, all_rows_of}
 use Rattle.script_compiler.proofs.start.all_rows.Given as goal
 
 abbrev pub invariant-loop-executor : goal.invariant-loop-executor

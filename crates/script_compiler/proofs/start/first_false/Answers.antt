@@ -1,8 +1,4 @@
-use Rattle.std.proofs.Common.{List, map, ap, ◌∙◌}
-use Rattle.script_compiler.specs.declared.compiled.CompiledActor.{CompiledActor}
-use Rattle.script_compiler.specs.declared.compiled.CompiledExecutor.{CompiledExecutor}
-use Rattle.script_compiler.specs.IsCompiled.{actor_view, executor_view}
-use Rattle.script_compiler.specs.RowsInside.{rows_in, all_rows_of, first_false_in}
+use Rattle.script_compiler.proofs.Prelude.{List, map, ap, ◌∙◌, CompiledActor, CompiledExecutor, actor_view, executor_view, rows_in, all_rows_of, first_false_in}
 use Rattle.script_compiler.proofs.Starting.{first_of}
 use Rattle.script_compiler.proofs.start.first_false.Goals as goal
 

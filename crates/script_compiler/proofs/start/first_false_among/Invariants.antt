@@ -1,6 +1,4 @@
-use Rattle.std.proofs.Common.{◌≡◌, map, drop}
-use Rattle.script_compiler.specs.IsCompiled.{actor_view}
-use Rattle.script_compiler.specs.RowsInside.{first_false_in, all_rows_of}
+use Rattle.script_compiler.proofs.Prelude.{◌≡◌, map, drop, actor_view, first_false_in, all_rows_of}
 use Rattle.script_compiler.proofs.start.first_false_among.Given as goal
 
 abbrev pub invariant-loop-k : goal.invariant-loop-k

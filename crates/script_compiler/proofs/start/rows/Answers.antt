@@ -1,9 +1,4 @@
-use Rattle.std.proofs.Common.{◌++◌, ◌∙◌, List, map, sym}
-use Rattle.std.proofs.lemmas.List.{append-nil, at_drop_all}
-use Rattle.swift_types.specs.declared.id.ActorId.{ActorId}
-use Rattle.script_code.specs.Seen.{rows_of}
-use Rattle.script_compiler.specs.IsCompiled.{actor_number, actor_view}
-use Rattle.script_compiler.specs.RowsInside.{rows_among}
+use Rattle.script_compiler.proofs.Prelude.{◌++◌, ◌∙◌, List, map, sym, append-nil, at_drop_all, ActorId, rows_of, actor_number, actor_view, rows_among}
 use Rattle.script_compiler.proofs.start.rows.Goals as goal
 
 pub returns : goal.returns

@@ -1,7 +1,4 @@
-use Rattle.std.proofs.Common.{◌≡◌, ◌++◌, map, drop}
-use Rattle.script_code.specs.Seen.{rows_of}
-use Rattle.script_compiler.specs.IsCompiled.{actor_number, actor_view}
-use Rattle.script_compiler.specs.RowsInside.{rows_among}
+use Rattle.script_compiler.proofs.Prelude.{◌≡◌, ◌++◌, map, drop, rows_of, actor_number, actor_view, rows_among}
 use Rattle.script_compiler.proofs.start.rows.Given as goal
 
 abbrev pub invariant-loop-member : goal.invariant-loop-member

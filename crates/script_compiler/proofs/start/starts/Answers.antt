@@ -1,7 +1,5 @@
-use Rattle.std.proofs.Common.{◌++◌, ◌∙◌, List, map, sym}
-use Rattle.std.proofs.lemmas.List.{append-nil, at_drop_all}
+use Rattle.script_compiler.proofs.Prelude.{◌++◌, ◌∙◌, List, map, sym, append-nil, at_drop_all, field_view}
 use Rattle.script_compiler.specs.declared.compiled.CompiledField.{CompiledField}
-use Rattle.script_compiler.specs.IsCompiled.{field_view}
 use Rattle.script_compiler.proofs.start.starts.Goals as goal
 
 pub returns : goal.returns

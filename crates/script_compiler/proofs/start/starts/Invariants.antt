@@ -1,5 +1,4 @@
-use Rattle.std.proofs.Common.{◌≡◌, ◌++◌, map, drop}
-use Rattle.script_compiler.specs.IsCompiled.{field_view}
+use Rattle.script_compiler.proofs.Prelude.{◌≡◌, ◌++◌, map, drop, field_view}
 use Rattle.script_compiler.proofs.start.starts.Given as goal
 
 abbrev pub invariant-loop-field : goal.invariant-loop-field

@@ -1,8 +1,4 @@
-use Rattle.std.proofs.Common.{◌++◌, ◌∙◌, List, sym}
-use Rattle.std.proofs.lemmas.List.{append-nil, at_drop_all}
-use Rattle.script_code.specs.declared.instruction.Instruction.{Instruction}
-use Rattle.script_compiler.specs.Waiting.{edges_made, waits_made}
-use Rattle.script_compiler.specs.ActsInside.{made_along}
+use Rattle.script_compiler.proofs.Prelude.{◌++◌, ◌∙◌, List, sym, append-nil, at_drop_all, Instruction, edges_made, waits_made, made_along}
 use Rattle.script_compiler.proofs.waits.add_method.Goals as goal
 
 pub returns-clause-edges : goal.returns-clause-edges

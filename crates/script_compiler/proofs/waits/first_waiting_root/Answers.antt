@@ -1,4 +1,4 @@
-use Rattle.script_compiler.specs.Waiting.{edges_of, waits_of, root_methods}
+use Rattle.script_compiler.proofs.Prelude.{edges_of, waits_of, root_methods}
 use Rattle.script_compiler.proofs.WaitsSame.{same_as_view, same_found, same_first, same_none, ok_then}
 use Rattle.script_compiler.proofs.waits.first_waiting_root.Goals as goal
 

@@ -1,7 +1,4 @@
-use Rattle.std.proofs.Common.{◌++◌, ◌∙◌, List, map, sym}
-use Rattle.std.proofs.lemmas.List.{append-nil, at_drop_all}
-use Rattle.script_compiler.specs.declared.compiled.CompiledRoot.{CompiledRoot}
-use Rattle.script_compiler.specs.IsCompiled.{root_view}
+use Rattle.script_compiler.proofs.Prelude.{◌++◌, ◌∙◌, List, map, sym, append-nil, at_drop_all, CompiledRoot, root_view}
 use Rattle.script_compiler.proofs.waits.methods_of.Goals as goal
 
 pub returns : goal.returns

@@ -1,5 +1,4 @@
-use Rattle.std.proofs.Common.{◌≡◌, ◌++◌, map, drop}
-use Rattle.script_compiler.specs.IsCompiled.{root_view}
+use Rattle.script_compiler.proofs.Prelude.{◌≡◌, ◌++◌, map, drop, root_view}
 use Rattle.script_compiler.proofs.waits.methods_of.Given as goal
 
 abbrev pub invariant-loop-root : goal.invariant-loop-root

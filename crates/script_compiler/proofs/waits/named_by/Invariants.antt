@@ -1,6 +1,4 @@
-use Rattle.std.proofs.Common.{◌≡◌, ◌++◌, drop}
-use Rattle.script_compiler.specs.Waiting.{edges_made, waits_made}
-use Rattle.script_compiler.specs.ActsInside.{made_through}
+use Rattle.script_compiler.proofs.Prelude.{◌≡◌, ◌++◌, drop, edges_made, waits_made, made_through}
 use Rattle.script_compiler.proofs.waits.named_by.Given as goal
 
 abbrev pub invariant-loop-k : goal.invariant-loop-k

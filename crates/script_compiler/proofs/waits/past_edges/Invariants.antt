@@ -1,5 +1,4 @@
-use Rattle.std.proofs.Common.{ℕ, ◌≤◌, ◌<◌, get_or}
-use Rattle.script_compiler.specs.declared.waits.first.CallEdge.{CallEdge}
+use Rattle.script_compiler.proofs.Prelude.{ℕ, ◌≤◌, ◌<◌, get_or, CallEdge}
 use Rattle.script_compiler.proofs.waits.past_edges.Given as goal
 
 abbrev pub invariant-loop-edge : goal.invariant-loop-edge

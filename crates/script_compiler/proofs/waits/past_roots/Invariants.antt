@@ -1,4 +1,4 @@
-use Rattle.std.proofs.Common.{ℕ, ◌≤◌, ◌<◌, get_or}
+use Rattle.script_compiler.proofs.Prelude.{ℕ, ◌≤◌, ◌<◌, get_or}
 use Rattle.script_compiler.proofs.waits.past_roots.Given as goal
 
 abbrev pub invariant-loop-method : goal.invariant-loop-method

@@ -1,5 +1,4 @@
-use Rattle.std.proofs.Common.{ℕ, ◌≤◌, ◌<◌, get_or}
-use Rattle.script_compiler.specs.declared.waits.first.RootWait.{RootWait}
+use Rattle.script_compiler.proofs.Prelude.{ℕ, ◌≤◌, ◌<◌, get_or, RootWait}
 use Rattle.script_compiler.proofs.waits.past_waits.Given as goal
 
 abbrev pub invariant-loop-wait : goal.invariant-loop-wait

@@ -1,8 +1,5 @@
-use Rattle.std.proofs.Common.{suc, ap, arith}
-use Rattle.std.proofs.lemmas.Grind.{common_steps}
+use Rattle.script_names.proofs.Prelude.{suc, ap, arith, common_steps, view_action, view_call, past_action}
 use Rattle.script_grammar.specs.declared.statement.Action.{Action}
-use Rattle.script_grammar.specs.Tree.{view_action, view_call}
-use Rattle.script_names.specs.Rules.{past_action}
 use Rattle.script_names.proofs.Grows.{call_grows}
 use Rattle.script_names.proofs.actions.action.Goals as goal
 

@@ -1,6 +1,4 @@
-use Rattle.std.proofs.Common.{arith}
-use Rattle.std.proofs.lemmas.Grind.{common_steps}
-use Rattle.script_grammar.specs.Tree.{view_actor}
+use Rattle.script_names.proofs.Prelude.{arith, common_steps, view_actor}
 use Rattle.script_names.proofs.Grows.{actor_grows}
 use Rattle.script_names.proofs.actors.actor.Goals as goal
 

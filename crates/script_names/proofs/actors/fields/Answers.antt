@@ -1,7 +1,4 @@
-use Rattle.std.proofs.Common.{◌≡◌, suc, List, drop, map, sym, ◌∙◌, arith}
-use Rattle.std.proofs.lemmas.List.{at_drop_all}
-use Rattle.script_grammar.specs.Tree.{view_field}
-use Rattle.script_names.specs.Rules.{fields_error, past_fields}
+use Rattle.script_names.proofs.Prelude.{◌≡◌, suc, List, drop, map, sym, ◌∙◌, arith, at_drop_all, view_field, fields_error, past_fields}
 use Rattle.script_grammar.specs.declared.declaration.Field.{Field}
 use Rattle.script_names.proofs.Grows.{fields_grow, from_next}
 use Rattle.script_names.proofs.actors.fields.Goals as goal

@@ -1,6 +1,4 @@
-use Rattle.std.proofs.Common.{◌≡◌, [], drop, map}
-use Rattle.script_grammar.specs.Tree.{view_field}
-use Rattle.script_names.specs.Rules.{fields_error, past_fields}
+use Rattle.script_names.proofs.Prelude.{◌≡◌, [], drop, map, view_field, fields_error, past_fields}
 use Rattle.script_names.proofs.actors.fields.Given as goal
 
 abbrev pub invariant-loop-field : goal.invariant-loop-field

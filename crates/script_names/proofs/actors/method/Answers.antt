@@ -1,5 +1,4 @@
-use Rattle.std.proofs.Common.{arith}
-use Rattle.script_grammar.specs.Tree.{view_method}
+use Rattle.script_names.proofs.Prelude.{arith, view_method}
 use Rattle.script_names.proofs.Grows.{method_grows}
 use Rattle.script_names.proofs.actors.method.Goals as goal
 

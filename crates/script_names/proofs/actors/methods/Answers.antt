@@ -1,8 +1,4 @@
-use Rattle.std.proofs.Common.{◌≡◌, suc, List, drop, map, sym, ◌∙◌, arith}
-use Rattle.std.proofs.lemmas.List.{at_drop_all}
-use Rattle.script_grammar.specs.Tree.{view_method}
-use Rattle.script_names.specs.Scope.{fields_alone}
-use Rattle.script_names.specs.Rules.{methods_error, past_method, past_methods}
+use Rattle.script_names.proofs.Prelude.{◌≡◌, suc, List, drop, map, sym, ◌∙◌, arith, at_drop_all, view_method, fields_alone, methods_error, past_method, past_methods}
 use Rattle.script_grammar.specs.declared.declaration.Method.{Method}
 use Rattle.script_names.proofs.Grows.{methods_grow, from_next}
 use Rattle.script_names.proofs.actors.methods.Goals as goal

@@ -1,7 +1,4 @@
-use Rattle.std.proofs.Common.{◌≡◌, [], drop, map}
-use Rattle.script_grammar.specs.Tree.{view_method}
-use Rattle.script_names.specs.Scope.{fields_alone}
-use Rattle.script_names.specs.Rules.{methods_error, past_methods}
+use Rattle.script_names.proofs.Prelude.{◌≡◌, [], drop, map, view_method, fields_alone, methods_error, past_methods}
 use Rattle.script_names.proofs.actors.methods.Given as goal
 
 abbrev pub invariant-loop-next : goal.invariant-loop-next

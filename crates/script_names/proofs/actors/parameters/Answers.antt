@@ -1,7 +1,4 @@
-use Rattle.std.proofs.Common.{◌≡◌, suc, List, drop, map, sym, ◌∙◌, arith}
-use Rattle.std.proofs.lemmas.List.{at_drop_all}
-use Rattle.script_grammar.specs.Tree.{text_of}
-use Rattle.script_names.specs.Rules.{parameters_error, past_names, with_parameters}
+use Rattle.script_names.proofs.Prelude.{◌≡◌, suc, List, drop, map, sym, ◌∙◌, arith, at_drop_all, text_of, parameters_error, past_names, with_parameters}
 use Rattle.script_grammar.specs.declared.expression.Name.{Name}
 use Rattle.script_names.proofs.Grows.{names_grow, from_next}
 use Rattle.script_names.proofs.actors.parameters.Goals as goal

@@ -1,6 +1,4 @@
-use Rattle.std.proofs.Common.{◌≡◌, drop, map}
-use Rattle.script_grammar.specs.Tree.{text_of}
-use Rattle.script_names.specs.Rules.{parameters_error, past_names, with_parameters}
+use Rattle.script_names.proofs.Prelude.{◌≡◌, drop, map, text_of, parameters_error, past_names, with_parameters}
 use Rattle.script_names.proofs.actors.parameters.Given as goal
 
 abbrev pub invariant-loop-param : goal.invariant-loop-param

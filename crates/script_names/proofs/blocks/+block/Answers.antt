@@ -1,9 +1,4 @@
-use Rattle.std.proofs.Common.{◌≡◌, suc, List, drop, map, sym, ◌∙◌, arith, rules}
-use Rattle.std.proofs.lemmas.List.{at_drop_all}
-use Rattle.script_grammar.specs.Tree.{view_stmt, block_tree}
-use Rattle.script_names.specs.Rules.{block_error, past_stmt, past_block}
-use Rattle.script_grammar.specs.declared.statement.Stmt.{Stmt, the_lemmas}
-use Rattle.swift_types.specs.declared.limits.TheConstants.{BYTES}
+use Rattle.script_names.proofs.Prelude.{◌≡◌, suc, List, drop, map, sym, ◌∙◌, arith, rules, at_drop_all, view_stmt, block_tree, block_error, past_stmt, past_block, Stmt, the_lemmas, BYTES}
 use Rattle.script_names.proofs.Grows.{block_grows, from_next}
 use Rattle.script_names.proofs.Parts.{head_fits, test_fits, held_fits, left_is}
 use Rattle.script_names.proofs.blocks.+block.Goals as goal

@@ -1,8 +1,4 @@
-use Rattle.std.proofs.Common.{◌≡◌, drop, take, length, map}
-use Rattle.script_grammar.specs.Tree.{view_stmt, block_tree}
-use Rattle.script_names.specs.Rules.{block_error, past_block}
-use Rattle.script_names.specs.declared.scope.Outside.{Outside}
-use Rattle.script_names.specs.Scope.{ScopeView}
+use Rattle.script_names.proofs.Prelude.{◌≡◌, drop, take, length, map, view_stmt, block_tree, block_error, past_block, Outside, ScopeView}
 use Rattle.script_names.proofs.blocks.+block.Given as goal
 
 -- what stands after a block, where this stands outside

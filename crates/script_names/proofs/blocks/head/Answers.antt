@@ -1,8 +1,4 @@
-use Rattle.std.proofs.Common.{suc, ap, arith}
-use Rattle.std.proofs.lemmas.Grind.{common_steps}
-use Rattle.script_grammar.specs.declared.statement.Head.{Head}
-use Rattle.script_grammar.specs.Tree.{view, view_head}
-use Rattle.script_names.specs.Rules.{past_head}
+use Rattle.script_names.proofs.Prelude.{suc, ap, arith, common_steps, Head, view, view_head, past_head}
 use Rattle.script_names.proofs.Grows.{grows}
 use Rattle.script_names.proofs.blocks.head.Goals as goal
 

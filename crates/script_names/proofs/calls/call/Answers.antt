@@ -1,5 +1,4 @@
-use Rattle.std.proofs.Common.{arith}
-use Rattle.script_grammar.specs.Tree.{view_call}
+use Rattle.script_names.proofs.Prelude.{arith, view_call}
 use Rattle.script_names.proofs.Grows.{call_grows}
 use Rattle.script_names.proofs.calls.call.Goals as goal
 

@@ -1,6 +1,4 @@
-use Rattle.std.proofs.Common.{arith}
-use Rattle.script_grammar.specs.Tree.{view_if, view_awaited}
-use Rattle.script_names.specs.Rules.{past_awaited}
+use Rattle.script_names.proofs.Prelude.{arith, view_if, view_awaited, past_awaited}
 use Rattle.script_names.proofs.Grows.{if_grows}
 use Rattle.script_names.proofs.calls.wait.Goals as goal
 

@@ -1,6 +1,4 @@
-use Rattle.std.proofs.Common.{map}
-use Rattle.std.proofs.lemmas.Result.{err_from_is_err_and}
-use Rattle.script_grammar.specs.Tree.{view_decl}
+use Rattle.script_names.proofs.Prelude.{map, err_from_is_err_and, view_decl}
 use Rattle.script_names.proofs.Fails.{script_fails}
 use Rattle.script_names.proofs.declarations.check.Goals as goal
 

@@ -1,10 +1,5 @@
-use Rattle.std.proofs.Common.{◌≡◌, suc, List, drop, map, sym, ◌∙◌, arith}
-use Rattle.std.proofs.lemmas.List.{at_drop_all}
-use Rattle.std.proofs.lemmas.Result.{err_from_is_err_and}
-use Rattle.script_grammar.specs.Tree.{view_decl}
-use Rattle.script_names.specs.Rules.{past_decl, past_decls, declarations_error}
+use Rattle.script_names.proofs.Prelude.{◌≡◌, suc, List, drop, map, sym, ◌∙◌, arith, at_drop_all, err_from_is_err_and, view_decl, past_decl, past_decls, declarations_error, Decl}
 use Rattle.script_names.proofs.Fails.{declaration_fails}
-use Rattle.script_grammar.specs.declared.declaration.Decl.{Decl}
 use Rattle.script_names.proofs.Grows.{decls_grow, from_next}
 use Rattle.script_names.proofs.declarations.declarations.Goals as goal
 

@@ -1,6 +1,4 @@
-use Rattle.std.proofs.Common.{◌≡◌, [], drop, map}
-use Rattle.script_grammar.specs.Tree.{view_decl}
-use Rattle.script_names.specs.Rules.{declarations_error, past_decls, names_in}
+use Rattle.script_names.proofs.Prelude.{◌≡◌, [], drop, map, view_decl, declarations_error, past_decls, names_in}
 use Rattle.script_names.proofs.declarations.declarations.Given as goal
 
 abbrev pub invariant-loop-decl : goal.invariant-loop-decl

@@ -1,5 +1,4 @@
-use Rattle.std.proofs.Common.{arith}
-use Rattle.std.proofs.lemmas.Grind.{common_steps}
+use Rattle.script_names.proofs.Prelude.{arith, common_steps}
 use Rattle.script_names.proofs.declarations.root.Goals as goal
 
 pub returns-clause-finds : goal.returns-clause-finds

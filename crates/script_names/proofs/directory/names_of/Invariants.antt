@@ -1,6 +1,4 @@
-use Rattle.std.proofs.Common.{◌≡◌, [], drop, map}
-use Rattle.script_grammar.specs.Tree.{view_field}
-use Rattle.script_names.specs.Directory.{field_names, with_names}
+use Rattle.script_names.proofs.Prelude.{◌≡◌, [], drop, map, view_field, field_names, with_names}
 use Rattle.script_names.proofs.directory.names_of.Given as goal
 
 abbrev pub invariant-loop-field : goal.invariant-loop-field

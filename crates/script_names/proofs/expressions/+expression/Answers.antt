@@ -1,7 +1,5 @@
-use Rattle.std.proofs.Common.{ap, arith, rules}
-use Rattle.script_grammar.specs.declared.expression.Expr.{Expr, the_lemmas}
-use Rattle.script_grammar.specs.Tree.{view}
-use Rattle.script_names.specs.Rules.{past}
+use Rattle.script_names.proofs.Prelude.{ap, arith, rules, Expr, view, past}
+use Rattle.script_grammar.specs.declared.expression.Expr.{the_lemmas}
 use Rattle.script_names.proofs.Grows.{grows}
 use Rattle.script_names.proofs.expressions.+expression.Goals as goal
 

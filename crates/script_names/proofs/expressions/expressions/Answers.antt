@@ -1,8 +1,4 @@
-use Rattle.std.proofs.Common.{◌≡◌, suc, List, drop, map, sym, ◌∙◌, arith}
-use Rattle.std.proofs.lemmas.List.{at_drop_all}
-use Rattle.script_grammar.specs.Tree.{view}
-use Rattle.script_names.specs.Rules.{expressions_error, past, past_all}
-use Rattle.script_grammar.specs.declared.expression.Expr.{Expr}
+use Rattle.script_names.proofs.Prelude.{◌≡◌, suc, List, drop, map, sym, ◌∙◌, arith, at_drop_all, view, expressions_error, past, past_all, Expr}
 use Rattle.script_names.proofs.Grows.{all_grow, from_next}
 use Rattle.script_names.proofs.expressions.expressions.Goals as goal
 

@@ -1,6 +1,4 @@
-use Rattle.std.proofs.Common.{◌≡◌, drop, map}
-use Rattle.script_grammar.specs.Tree.{view}
-use Rattle.script_names.specs.Rules.{expressions_error, past_all}
+use Rattle.script_names.proofs.Prelude.{◌≡◌, drop, map, view, expressions_error, past_all}
 use Rattle.script_names.proofs.expressions.expressions.Given as goal
 
 abbrev pub invariant-loop-expr : goal.invariant-loop-expr

@@ -1,12 +1,4 @@
-use Rattle.std.proofs.Common.{◌≡◌, ◌++◌, ◌∷◌, ◌+◌, [], map, length, sym}
-use Rattle.std.proofs.lemmas.Result.{err_from_is_err_and}
-use Rattle.std.proofs.lemmas.List.{map_push}
-use Rattle.script_parser.specs.declared.fault.Kind.TheVariants.{EndsEarly}
-use Rattle.script_tokens.specs.Pieces.{piece}
-use Rattle.script_grammar.specs.Tree.{view_field}
-use Rattle.script_parser.specs.Model.Steps.{at}
-use Rattle.script_parser.specs.Model.Parts.{items_at}
-use Rattle.script_parser.specs.Model.Declarations.{fields_end, field_at}
+use Rattle.script_parser.proofs.Prelude.{◌≡◌, ◌++◌, ◌∷◌, ◌+◌, [], map, length, sym, err_from_is_err_and, map_push, EndsEarly, piece, view_field, at, items_at, fields_end, field_at}
 use Rattle.script_parser.proofs.Front.{goes_on, fails, stops, runs_out, refused_fails}
 use Rattle.script_parser.proofs.actor.fields.Goals as goal
 

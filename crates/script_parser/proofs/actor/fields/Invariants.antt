@@ -1,8 +1,4 @@
-use Rattle.std.proofs.Common.{◌≡◌, ◌-◌, ◌+◌, map, length}
-use Rattle.script_tokens.specs.Pieces.{piece}
-use Rattle.script_grammar.specs.Tree.{view_field}
-use Rattle.script_parser.specs.Model.Parts.{items_at}
-use Rattle.script_parser.specs.Model.Declarations.{fields_end, field_at}
+use Rattle.script_parser.proofs.Prelude.{◌≡◌, ◌-◌, ◌+◌, map, length, piece, view_field, items_at, fields_end, field_at}
 use Rattle.script_parser.proofs.Front.{with_front}
 use Rattle.script_parser.proofs.actor.fields.Given as goal
 

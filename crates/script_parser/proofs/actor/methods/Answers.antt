@@ -1,13 +1,4 @@
-use Rattle.std.proofs.Common.{◌≡◌, ◌++◌, ◌∷◌, ◌+◌, [], map, length, sym}
-use Rattle.std.proofs.lemmas.Result.{err_from_is_err_and}
-use Rattle.std.proofs.lemmas.List.{map_push}
-use Rattle.script_parser.specs.declared.fault.Kind.TheVariants.{EndsEarly}
-use Rattle.script_parser.specs.declared.limits.TheConstants.{NESTING}
-use Rattle.script_tokens.specs.Pieces.{piece}
-use Rattle.script_grammar.specs.Tree.{view_method}
-use Rattle.script_parser.specs.Model.Steps.{at}
-use Rattle.script_parser.specs.Model.Parts.{brace_at, items_at}
-use Rattle.script_parser.specs.Model.Declarations.{method_at}
+use Rattle.script_parser.proofs.Prelude.{◌≡◌, ◌++◌, ◌∷◌, ◌+◌, [], map, length, sym, err_from_is_err_and, map_push, EndsEarly, NESTING, piece, view_method, at, brace_at, items_at, method_at}
 use Rattle.script_parser.proofs.Front.{goes_on, fails, stops, runs_out, refused_fails}
 use Rattle.script_parser.proofs.actor.methods.Goals as goal
 

@@ -1,9 +1,4 @@
-use Rattle.std.proofs.Common.{◌≡◌, ◌-◌, ◌+◌, map, length}
-use Rattle.script_parser.specs.declared.limits.TheConstants.{NESTING}
-use Rattle.script_tokens.specs.Pieces.{piece}
-use Rattle.script_grammar.specs.Tree.{view_method}
-use Rattle.script_parser.specs.Model.Parts.{brace_at, items_at}
-use Rattle.script_parser.specs.Model.Declarations.{method_at}
+use Rattle.script_parser.proofs.Prelude.{◌≡◌, ◌-◌, ◌+◌, map, length, NESTING, piece, view_method, brace_at, items_at, method_at}
 use Rattle.script_parser.proofs.Front.{with_front}
 use Rattle.script_parser.proofs.actor.methods.Given as goal
 

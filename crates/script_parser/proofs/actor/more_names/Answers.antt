@@ -1,11 +1,4 @@
-use Rattle.std.proofs.Common.{◌≡◌, ◌++◌, ◌∷◌, ◌+◌, [], map, length, sym}
-use Rattle.std.proofs.lemmas.Result.{err_from_is_err_and}
-use Rattle.std.proofs.lemmas.List.{map_push}
-use Rattle.script_parser.specs.declared.fault.Kind.TheVariants.{EndsEarly}
-use Rattle.script_tokens.specs.Pieces.{piece}
-use Rattle.script_grammar.specs.Tree.{text_of}
-use Rattle.script_parser.specs.Model.Steps.{at}
-use Rattle.script_parser.specs.Model.Parts.{name_at, close_at, comma_at, items_at, with_first}
+use Rattle.script_parser.proofs.Prelude.{◌≡◌, ◌++◌, ◌∷◌, ◌+◌, [], map, length, sym, err_from_is_err_and, map_push, EndsEarly, piece, text_of, at, name_at, close_at, comma_at, items_at, with_first}
 use Rattle.script_parser.proofs.Front.{goes_on, fails, stops, runs_out, refused_fails}
 use Rattle.script_parser.proofs.actor.more_names.Goals as goal
 

@@ -1,7 +1,4 @@
-use Rattle.std.proofs.Common.{◌≡◌, ◌-◌, ◌+◌, map, length}
-use Rattle.script_tokens.specs.Pieces.{piece}
-use Rattle.script_grammar.specs.Tree.{text_of}
-use Rattle.script_parser.specs.Model.Parts.{name_at, close_at, comma_at, items_at, with_first}
+use Rattle.script_parser.proofs.Prelude.{◌≡◌, ◌-◌, ◌+◌, map, length, piece, text_of, name_at, close_at, comma_at, items_at, with_first}
 use Rattle.script_parser.proofs.Front.{with_front}
 use Rattle.script_parser.proofs.actor.more_names.Given as goal
 

@@ -1,14 +1,4 @@
-use Rattle.std.proofs.Common.{◌≡◌, ◌-◌, ◌++◌, ◌∷◌, ◌+◌, [], map, length, sym}
-use Rattle.std.proofs.lemmas.Result.{err_from_is_err_and}
-use Rattle.std.proofs.lemmas.List.{map_push}
-use Rattle.script_parser.specs.declared.fault.Kind.TheVariants.{EndsEarly}
-use Rattle.script_parser.specs.declared.limits.TheConstants.{NESTING}
-use Rattle.script_tokens.specs.Pieces.{piece}
-use Rattle.script_grammar.specs.declared.region.Atoms.TheVariants.{Every}
-use Rattle.script_grammar.specs.Tree.{view}
-use Rattle.script_parser.specs.Model.Expressions.{expr_in}
-use Rattle.script_parser.specs.Model.Steps.{at}
-use Rattle.script_parser.specs.Model.Parts.{close_at, comma_at, items_at, with_first}
+use Rattle.script_parser.proofs.Prelude.{◌≡◌, ◌-◌, ◌++◌, ◌∷◌, ◌+◌, [], map, length, sym, err_from_is_err_and, map_push, EndsEarly, NESTING, piece, Every, view, expr_in, at, close_at, comma_at, items_at, with_first}
 use Rattle.script_parser.proofs.Front.{goes_on, fails, stops, runs_out, refused_fails}
 use Rattle.script_parser.proofs.call.more_arguments.Goals as goal
 

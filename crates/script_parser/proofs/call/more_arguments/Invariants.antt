@@ -1,10 +1,4 @@
-use Rattle.std.proofs.Common.{◌≡◌, ◌-◌, ◌+◌, map, length}
-use Rattle.script_parser.specs.declared.limits.TheConstants.{NESTING}
-use Rattle.script_tokens.specs.Pieces.{piece}
-use Rattle.script_grammar.specs.declared.region.Atoms.TheVariants.{Every}
-use Rattle.script_grammar.specs.Tree.{view}
-use Rattle.script_parser.specs.Model.Expressions.{expr_in}
-use Rattle.script_parser.specs.Model.Parts.{close_at, comma_at, items_at, with_first}
+use Rattle.script_parser.proofs.Prelude.{◌≡◌, ◌-◌, ◌+◌, map, length, NESTING, piece, Every, view, expr_in, close_at, comma_at, items_at, with_first}
 use Rattle.script_parser.proofs.Front.{with_front}
 use Rattle.script_parser.proofs.call.more_arguments.Given as goal
 

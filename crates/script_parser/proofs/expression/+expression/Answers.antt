@@ -1,9 +1,4 @@
-use Rattle.std.proofs.Common.{◌-◌, map, sym, ◌∙◌}
-use Rattle.std.proofs.lemmas.Result.{err_from_is_err_and}
-use Rattle.script_parser.specs.declared.limits.TheConstants.{NESTING}
-use Rattle.script_tokens.specs.Pieces.{piece}
-use Rattle.script_grammar.specs.Tree.{view}
-use Rattle.script_parser.specs.Model.Expressions.{operands_at, level_at, inside_at}
+use Rattle.script_parser.proofs.Prelude.{◌-◌, map, sym, ◌∙◌, err_from_is_err_and, NESTING, piece, view, operands_at, level_at, inside_at}
 use Rattle.script_parser.proofs.Operands.{next_operand, operand_fails, operand_too_high}
 use Rattle.script_parser.proofs.Levels.{not_found, first_level, level_with, level_without, first_fails, operands_fail}
 use Rattle.script_parser.proofs.expression.+expression.Goals.{level-then-is_some+in_ok-next, level-else-is_some}

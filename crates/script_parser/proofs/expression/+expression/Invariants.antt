@@ -1,8 +1,4 @@
-use Rattle.std.proofs.Common.{◌≡◌, ◌-◌, ◌+◌, ◌*◌, Ok, map}
-use Rattle.script_parser.specs.declared.limits.TheConstants.{NESTING}
-use Rattle.script_tokens.specs.Pieces.{piece}
-use Rattle.script_grammar.specs.Tree.{view}
-use Rattle.script_parser.specs.Model.Expressions.{operands_at, level_at, inside_at}
+use Rattle.script_parser.proofs.Prelude.{◌≡◌, ◌-◌, ◌+◌, ◌*◌, Ok, map, NESTING, piece, view, operands_at, level_at, inside_at}
 use Rattle.script_parser.proofs.expression.+expression.Given as goal
 
 abbrev pub decreases-inside : goal.decreases-inside

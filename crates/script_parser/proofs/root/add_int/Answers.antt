@@ -1,5 +1,4 @@
-use Rattle.std.proofs.Common.{◌++◌, ◌∷◌, [], ℤ, ap, ◌∙◌, w64}
-use Rattle.std.proofs.lemmas.Int.{to_z-of_z}
+use Rattle.script_parser.proofs.Prelude.{◌++◌, ◌∷◌, [], ℤ, ap, ◌∙◌, w64, to_z-of_z}
 use Rattle.script_parser.proofs.root.add_int.Goals as goal
 
 pub returns-clause-ok : goal.returns-clause-ok

@@ -1,11 +1,4 @@
-use Rattle.std.proofs.Common.{◌++◌, ◌∷◌, ◌+◌, [], map, length, sym, ap, ◌∙◌, ℤ, w64}
-use Rattle.std.proofs.lemmas.Int.{to_z-of_z}
-use Rattle.std.proofs.lemmas.Result.{err_from_is_err_and}
-use Rattle.script_parser.specs.declared.fault.Kind.TheVariants.{EndsEarly}
-use Rattle.script_tokens.specs.Pieces.{piece}
-use Rattle.script_parser.specs.Model.Steps.{at}
-use Rattle.script_parser.specs.Model.Parts.{close_at, comma_at, items_at, with_first}
-use Rattle.script_parser.specs.Model.Declarations.{int_at}
+use Rattle.script_parser.proofs.Prelude.{◌++◌, ◌∷◌, ◌+◌, [], map, length, sym, ap, ◌∙◌, ℤ, w64, to_z-of_z, err_from_is_err_and, EndsEarly, piece, at, close_at, comma_at, items_at, with_first, int_at}
 use Rattle.script_parser.proofs.Front.{goes_on, fails, stops, runs_out, refused_fails}
 use Rattle.script_parser.proofs.root.more_ints.Goals as goal
 

@@ -1,7 +1,4 @@
-use Rattle.std.proofs.Common.{◌≡◌, ◌-◌, ◌+◌, map, length}
-use Rattle.script_tokens.specs.Pieces.{piece}
-use Rattle.script_parser.specs.Model.Parts.{close_at, comma_at, items_at, with_first}
-use Rattle.script_parser.specs.Model.Declarations.{int_at}
+use Rattle.script_parser.proofs.Prelude.{◌≡◌, ◌-◌, ◌+◌, map, length, piece, close_at, comma_at, items_at, with_first, int_at}
 use Rattle.script_parser.proofs.Front.{with_front}
 use Rattle.script_parser.proofs.root.more_ints.Given as goal
 

@@ -1,9 +1,4 @@
-use Rattle.std.proofs.Common.{◌≡◌, ◌-◌, ◌+◌, map, length}
-use Rattle.script_parser.specs.declared.limits.TheConstants.{NESTING}
-use Rattle.script_tokens.specs.Pieces.{piece}
-use Rattle.script_grammar.specs.Tree.{view_decl}
-use Rattle.script_parser.specs.Model.Parts.{items_at}
-use Rattle.script_parser.specs.Model.Declarations.{decls_end, decl_at}
+use Rattle.script_parser.proofs.Prelude.{◌≡◌, ◌-◌, ◌+◌, map, length, NESTING, piece, view_decl, items_at, decls_end, decl_at}
 use Rattle.script_parser.proofs.Front.{with_front}
 use Rattle.script_parser.proofs.script.decls.Given as goal
 

@@ -1,7 +1,4 @@
-use Rattle.std.proofs.Common.{map, length, sym}
-use Rattle.std.proofs.lemmas.List.{length-map}
-use Rattle.std.proofs.lemmas.Result.{err_from_is_err_and}
-use Rattle.script_tokens.specs.Pieces.{piece}
+use Rattle.script_parser.proofs.Prelude.{map, length, sym, length-map, err_from_is_err_and, piece}
 use Rattle.script_parser.proofs.Whole.{found_of, tree_of, none_of, not_accepted}
 use Rattle.script_parser.proofs.script.parse.Goals as goal
 

@@ -1,8 +1,4 @@
-use Rattle.std.proofs.Common.{◌≡◌, ◌-◌, ◌+◌, ◌*◌, map, length}
-use Rattle.script_parser.specs.declared.limits.TheConstants.{NESTING}
-use Rattle.script_tokens.specs.Pieces.{piece}
-use Rattle.script_grammar.specs.Tree.{view_stmt}
-use Rattle.script_parser.specs.Model.Statements.{many_at, block_at}
+use Rattle.script_parser.proofs.Prelude.{◌≡◌, ◌-◌, ◌+◌, ◌*◌, map, length, NESTING, piece, view_stmt, many_at, block_at}
 use Rattle.script_parser.proofs.Front.{with_front}
 use Rattle.script_parser.proofs.statement.+statement.Given as goal
 

@@ -1,9 +1,4 @@
-use Rattle.std.proofs.Common.{◌≡◌, sym, ap, subst, ◌∙◌}
-use Rattle.script_tokens.specs.Lexes.{Lexes}
-use Rattle.script_grammar.specs.Grammar.{IsScript}
-use Rattle.script_printing.specs.Pieces.{pieces_of_script}
-use Rattle.script_printing.specs.Printed.{printed}
-use Rattle.script_printing.specs.Script.{declarations_of, script_in}
+use Rattle.script_printing.proofs.Prelude.{◌≡◌, sym, ap, subst, ◌∙◌, Lexes, IsScript, pieces_of_script, printed, declarations_of, script_in}
 use Rattle.script_printing.proofs.ByKind.{script_again}
 use Rattle.script_printing.proofs.Lexed.{script_lexes}
 use Rattle.script_printing.proofs.SpelledWhole.{script}

@@ -1,5 +1,4 @@
-use Rattle.script_printing.specs.Printed.{printed}
-use Rattle.script_printing.specs.Script.{script_in}
+use Rattle.script_printing.proofs.Prelude.{printed, script_in}
 use Rattle.script_printing.proofs.PrintedSpells.{readable_again}
 use Rattle.script_printing.proofs.Plain.{script_is_text, text_is_ascii}
 use Rattle.script_printing.proofs.laws.printed_is_ascii.Goals as goal

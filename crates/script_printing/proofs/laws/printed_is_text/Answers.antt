@@ -1,4 +1,4 @@
-use Rattle.script_printing.specs.Script.{script_in}
+use Rattle.script_printing.proofs.Prelude.{script_in}
 use Rattle.script_printing.proofs.PrintedSpells.{readable_again}
 use Rattle.script_printing.proofs.Plain.{script_is_text}
 use Rattle.script_printing.proofs.laws.printed_is_text.Goals as goal

@@ -1,6 +1,4 @@
-use Rattle.std.proofs.Common.{◌≡◌, map, take}
-use Rattle.std.specs.List.{flat_map}
-use Rattle.script_printing.specs.Printed.{after}
+use Rattle.script_printing.proofs.Prelude.{◌≡◌, map, take, flat_map, after}
 use Rattle.script_printing.proofs.list.write_all.Given as goal
 
 abbrev pub invariant-loop-item : goal.invariant-loop-item

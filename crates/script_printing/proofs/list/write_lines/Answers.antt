@@ -1,7 +1,4 @@
-use Rattle.std.proofs.Common.{◌∷◌, arith, sym}
-use Rattle.std.proofs.lemmas.List.{append-nil, take_all}
-use Rattle.script_tokens.specs.Pieces.{Key}
-use Rattle.script_printing.specs.Printed.{line_of}
+use Rattle.script_printing.proofs.Prelude.{◌∷◌, arith, sym, append-nil, take_all, Key, line_of}
 use Rattle.script_printing.proofs.Written.{wrote_next}
 use Rattle.script_printing.proofs.list.write_lines.Goals as goal
 

@@ -1,7 +1,4 @@
-use Rattle.std.proofs.Common.{◌≡◌, ◌++◌, ◌∷◌, map, take}
-use Rattle.std.specs.List.{flat_map}
-use Rattle.script_tokens.specs.Pieces.{Key}
-use Rattle.script_printing.specs.Printed.{line_of}
+use Rattle.script_printing.proofs.Prelude.{◌≡◌, ◌++◌, ◌∷◌, map, take, flat_map, Key, line_of}
 use Rattle.script_printing.proofs.list.write_lines.Given as goal
 
 abbrev pub invariant-loop-item : goal.invariant-loop-item

@@ -1,4 +1,4 @@
-use Rattle.std.proofs.lemmas.List.{take_rest}
+use Rattle.script_printing.proofs.Prelude.{take_rest}
 use Rattle.script_printing.proofs.Written.{after_no_list, after_list}
 use Rattle.script_printing.proofs.list.write_list.Goals as goal
 

@@ -1,6 +1,4 @@
-use Rattle.std.proofs.Common.{arith, sym}
-use Rattle.std.proofs.lemmas.List.{take_all}
-use Rattle.script_printing.specs.Pieces.{after_comma}
+use Rattle.script_printing.proofs.Prelude.{arith, sym, take_all, after_comma}
 use Rattle.script_printing.proofs.Written.{after_none, after_next}
 use Rattle.script_printing.proofs.list.write_more.Goals as goal
 

@@ -1,6 +1,4 @@
-use Rattle.std.proofs.Common.{map}
-use Rattle.script_grammar.specs.Tree.{view_executor, view_local, view_actor, view_root}
-use Rattle.script_printing.specs.Script.{ScriptView}
+use Rattle.script_printing.proofs.Prelude.{map, view_executor, view_local, view_actor, view_root, ScriptView}
 use Rattle.script_printing.proofs.Written.{script_written}
 use Rattle.script_printing.proofs.script.print.Goals as goal
 

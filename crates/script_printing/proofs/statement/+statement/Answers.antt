@@ -1,6 +1,4 @@
-use Rattle.std.proofs.Common.{◌∙◌, sym, ap, arith}
-use Rattle.std.proofs.lemmas.List.{take_all}
-use Rattle.script_grammar.specs.Tree.{view_stmt}
+use Rattle.script_printing.proofs.Prelude.{◌∙◌, sym, ap, arith, take_all, view_stmt}
 use Rattle.script_printing.proofs.Written.{after_none, then_after}
 use Rattle.script_printing.proofs.Blocks.{after_next_stmt, view_stmt-Do, view_stmt-Block, view_stmt-IfElse}
 use Rattle.script_printing.proofs.statement.+statement.Goals as goal

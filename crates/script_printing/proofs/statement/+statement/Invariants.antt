@@ -1,7 +1,4 @@
-use Rattle.std.proofs.Common.{◌≡◌, map, take}
-use Rattle.script_grammar.specs.Tree.{view_stmt, block_tree}
-use Rattle.script_printing.specs.Pieces.{pieces_of_block}
-use Rattle.script_printing.specs.Printed.{after}
+use Rattle.script_printing.proofs.Prelude.{◌≡◌, map, take, view_stmt, block_tree, pieces_of_block, after}
 use Rattle.script_printing.proofs.statement.+statement.Given as goal
 
 abbrev pub invariant-write_stmts-loop-stmt : goal.invariant-write_stmts-loop-stmt

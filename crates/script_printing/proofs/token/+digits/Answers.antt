@@ -1,5 +1,4 @@
-use Rattle.std.proofs.Common.{◌++◌, ap, sym, ◌∙◌, arith}
-use Rattle.std.proofs.lemmas.Fmt.{decimal_step}
+use Rattle.script_printing.proofs.Prelude.{◌++◌, ap, sym, ◌∙◌, arith, decimal_step}
 use mathlib.Core.List.{append_assoc}
 use Rattle.script_printing.proofs.token.+digits.Goals as goal
 

@@ -1,9 +1,4 @@
-use Rattle.std.proofs.Common.{◌<◌, get_or, length, map, rules}
-use Rattle.std.proofs.lemmas.List.{length-map}
-use Rattle.std.proofs.lemmas.Option.{slice_get-get_or}
-use Rattle.script_code.specs.Seen.{rows_of}
-use Rattle.swift_certificate.specs.Reports.{report_view}
-use Rattle.swift_certificate.specs.ReplayInside.{at_the_start}
+use Rattle.swift_certificate.proofs.Prelude.{◌<◌, get_or, length, map, rules, length-map, slice_get-get_or, rows_of, report_view, at_the_start}
 use Rattle.swift_certificate.proofs.Ended.{all_ended, at_place, ended_next, seen_at}
 use Rattle.swift_certificate.proofs.ends.are_ended.Goals as goal
 

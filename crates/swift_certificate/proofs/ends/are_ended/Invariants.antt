@@ -1,11 +1,4 @@
-use Rattle.std.proofs.Common.{◌≡◌, ◌<◌, ℕ, ℤ, List, Some, map}
-use Rattle.std.specs.Prelude.{slice_get}
-use Rattle.script_code.specs.Seen.{rows_of}
-use Rattle.swift_journal.specs.Records.{RecordView}
-use Rattle.swift_journal.specs.Checkpoints.{CheckpointView}
-use Rattle.swift_certificate.specs.declared.playing.ExecutorProgress.{ExecutorProgress}
-use Rattle.swift_certificate.specs.Reports.{report_view}
-use Rattle.swift_certificate.specs.ReplayInside.{EndsAt}
+use Rattle.swift_certificate.proofs.Prelude.{◌≡◌, ◌<◌, ℕ, ℤ, List, Some, map, slice_get, rows_of, RecordView, CheckpointView, ExecutorProgress, report_view, EndsAt}
 use Rattle.swift_certificate.proofs.ends.are_ended.Given as goal
 
 abbrev pub invariant-loop-place : goal.invariant-loop-place

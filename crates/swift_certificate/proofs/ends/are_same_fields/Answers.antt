@@ -1,7 +1,4 @@
-use Rattle.std.proofs.Common.{◌∙◌, ℤ, List, [], ◌∷◌, ◌++◌, Vec, get_or, take, take_all, refl, sym, ap, arith}
-use Rattle.std.specs.declared.alloc.Global.{Global}
-use Rattle.std.proofs.lemmas.List.{map_more}
-use Rattle.script_code.specs.Seen.{rows_of}
+use Rattle.swift_certificate.proofs.Prelude.{◌∙◌, ℤ, List, [], ◌∷◌, ◌++◌, Vec, get_or, take, take_all, refl, sym, ap, arith, Global, map_more, rows_of}
 use Rattle.swift_certificate.proofs.ends.are_same_fields.Goals as goal
 
 pub loop-place-preserved : goal.loop-place-preserved

@@ -1,5 +1,4 @@
-use Rattle.std.proofs.Common.{◌≡◌, take}
-use Rattle.script_code.specs.Seen.{rows_of}
+use Rattle.swift_certificate.proofs.Prelude.{◌≡◌, take, rows_of}
 use Rattle.swift_certificate.proofs.ends.are_same_fields.Given as goal
 
 abbrev pub invariant-loop-place : goal.invariant-loop-place

@@ -1,6 +1,4 @@
-use Rattle.std.proofs.Common.{◌≡◌, ◌<◌, ◌∙◌, ℕ, true, refl, sym, subst, arith, inl, inr}
-use Rattle.std.proofs.lemmas.Bool.{cases_eq}
-use Rattle.swift_events.specs.Relations.{opened_by, is_closed}
+use Rattle.swift_certificate.proofs.Prelude.{◌≡◌, ◌<◌, ◌∙◌, ℕ, true, refl, sym, subst, arith, inl, inr, cases_eq, opened_by, is_closed}
 use Rattle.swift_certificate.proofs.ends.have_closed.Goals as goal
 
 pub loop-place-preserved : goal.loop-place-preserved

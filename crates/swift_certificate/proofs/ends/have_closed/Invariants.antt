@@ -1,5 +1,4 @@
-use Rattle.std.proofs.Common.{◌≡◌, ◌<◌, ℕ, true}
-use Rattle.swift_events.specs.Relations.{opened_by, is_closed}
+use Rattle.swift_certificate.proofs.Prelude.{◌≡◌, ◌<◌, ℕ, true, opened_by, is_closed}
 use Rattle.swift_certificate.proofs.ends.have_closed.Given as goal
 
 abbrev pub invariant-loop-place : goal.invariant-loop-place

@@ -1,8 +1,4 @@
-use Rattle.std.proofs.Common.{◌≡◌, ◌∙◌, ◌<◌, Some, length, refl, sym, ap, arith, inl, inr}
-use Rattle.std.specs.Prelude.{slice_get}
-use Rattle.std.proofs.lemmas.Bool.{cases_eq}
-use Rattle.std.proofs.lemmas.Option.{get_or_from_slice_get, slice_get_within}
-use Rattle.swift_events.specs.Lives.{life_of}
+use Rattle.swift_certificate.proofs.Prelude.{◌≡◌, ◌∙◌, ◌<◌, Some, length, refl, sym, ap, arith, inl, inr, slice_get, cases_eq, get_or_from_slice_get, slice_get_within, life_of}
 use Rattle.swift_certificate.proofs.ends.have_ended.Goals as goal
 
 pub loop-place-preserved : goal.loop-place-preserved

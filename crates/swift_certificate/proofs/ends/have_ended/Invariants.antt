@@ -1,8 +1,4 @@
-use Rattle.std.proofs.Common.{◌≡◌, ◌<◌, ℕ, Some}
-use Rattle.std.specs.Prelude.{slice_get}
-use Rattle.swift_types.specs.declared.outcome.Ending.{Ending}
-use Rattle.swift_events.specs.declared.life.Origin.{Origin}
-use Rattle.swift_events.specs.Lives.{life_of}
+use Rattle.swift_certificate.proofs.Prelude.{◌≡◌, ◌<◌, ℕ, Some, slice_get, Ending, Origin, life_of}
 use Rattle.swift_certificate.proofs.ends.have_ended.Given as goal
 
 abbrev pub invariant-loop-place : goal.invariant-loop-place

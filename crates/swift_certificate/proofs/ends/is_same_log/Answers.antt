@@ -1,5 +1,4 @@
-use Rattle.std.proofs.Common.{◌≡◌, refl, sym, ◌∙◌, arith}
-use Rattle.std.proofs.lemmas.List.{take_more_same}
+use Rattle.swift_certificate.proofs.Prelude.{◌≡◌, refl, sym, ◌∙◌, arith, take_more_same}
 use Rattle.swift_certificate.proofs.ends.is_same_log.Goals as goal
 
 pub loop-place-preserved : goal.loop-place-preserved

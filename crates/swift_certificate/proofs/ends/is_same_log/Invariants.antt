@@ -1,4 +1,4 @@
-use Rattle.std.proofs.Common.{◌≡◌, take}
+use Rattle.swift_certificate.proofs.Prelude.{◌≡◌, take}
 use Rattle.swift_certificate.proofs.ends.is_same_log.Given as goal
 
 abbrev pub invariant-loop-place : goal.invariant-loop-place

@@ -1,4 +1,4 @@
-use Rattle.std.proofs.Common.{subst}
+use Rattle.swift_certificate.proofs.Prelude.{subst}
 use Rattle.std.specs.Bool.{IsTrue}
 use Rattle.std.specs.Cmp.Rules.{signed_items}
 use Rattle.swift_certificate.proofs.ends.is_same_row.Goals as goal

@@ -1,5 +1,4 @@
-use Rattle.std.proofs.Common.{sym, subst, List, ℤ}
-use Rattle.std.specs.Prelude.{IsTrue, Some}
+use Rattle.swift_certificate.proofs.Prelude.{sym, subst, List, ℤ, IsTrue, Some}
 use Rattle.script_code.specs.Value.{holds}
 use Rattle.swift_certificate.proofs.laws.legal_reports_keep_invariants.Goals as goal
 

@@ -1,8 +1,4 @@
-use Rattle.std.proofs.Common.{◌≡◌, ◌∙◌, ◌+◌, List, take, sym, ap, take_all, arith}
-use Rattle.std.specs.Prelude.{count_by}
-use Rattle.swift_interpreter.specs.Frames.{effect_views}
-use Rattle.swift_interpreter.specs.declared.effect.Effect.{Effect}
-use Rattle.swift_history.specs.Histories.{makes_own, opens_group}
+use Rattle.swift_certificate.proofs.Prelude.{◌≡◌, ◌∙◌, ◌+◌, List, take, sym, ap, take_all, arith, count_by, effect_views, Effect, makes_own, opens_group}
 use Rattle.swift_certificate.proofs.playing.counts_after.Goals.{then-makes_own+in_ok-counts, else-makes_own}
 use Rattle.swift_certificate.proofs.playing.counts_after.Goals.{then-opens_group+in_ok-counts-2, else-opens_group}
 use Rattle.swift_certificate.specs.declared.playing.MadeCounts.{MadeCounts}

@@ -1,7 +1,4 @@
-use Rattle.std.proofs.Common.{◌≡◌, ◌+◌, take}
-use Rattle.std.specs.Prelude.{count_by}
-use Rattle.swift_interpreter.specs.Frames.{effect_views}
-use Rattle.swift_history.specs.Histories.{makes_own, opens_group}
+use Rattle.swift_certificate.proofs.Prelude.{◌≡◌, ◌+◌, take, count_by, effect_views, makes_own, opens_group}
 use Rattle.swift_certificate.proofs.playing.counts_after.Given as goal
 
 abbrev pub invariant-loop-effect : goal.invariant-loop-effect

@@ -1,7 +1,4 @@
-use Rattle.std.proofs.Common.{rules, ◌≡◌, ◌∙◌, ◌<◌, Some, ap, length, refl, arith}
-use Rattle.swift_interpreter.specs.Frames.{effect_views, frame_view, frame_if}
-use Rattle.swift_interpreter.specs.TurnStates.{exit_view}
-use Rattle.swift_journal.specs.Checkpoints.{FoldedView, folded_view}
+use Rattle.swift_certificate.proofs.Prelude.{rules, ◌≡◌, ◌∙◌, ◌<◌, Some, ap, length, refl, arith, effect_views, frame_view, frame_if, exit_view, FoldedView, folded_view}
 use Rattle.swift_certificate.proofs.Played.{found_folded, folds, map_answer, same_turn}
 use Rattle.swift_certificate.proofs.playing.fold.Goals as goal
 

@@ -1,7 +1,4 @@
-use Rattle.std.proofs.Common.{rules, ap, refl}
-use Rattle.swift_interpreter.specs.Frames.{effect_views, frame_view, frame_if}
-use Rattle.swift_interpreter.specs.TurnStates.{exit_view}
-use Rattle.swift_turn.specs.Body.{BodyView}
+use Rattle.swift_certificate.proofs.Prelude.{rules, ap, refl, effect_views, frame_view, frame_if, exit_view, BodyView}
 use Rattle.swift_certificate.proofs.Played.{takes}
 use Rattle.swift_certificate.proofs.playing.go_on.Goals as goal
 

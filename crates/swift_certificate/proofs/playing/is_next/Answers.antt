@@ -1,5 +1,4 @@
-use Rattle.std.proofs.Common.{rules, ◌∙◌, ◌<◌, Some, ap, length, refl, arith}
-use Rattle.swift_journal.specs.Records.{RecordView}
+use Rattle.swift_certificate.proofs.Prelude.{rules, ◌∙◌, ◌<◌, Some, ap, length, refl, arith, RecordView}
 use Rattle.swift_certificate.proofs.Played.{found_record}
 use Rattle.swift_certificate.proofs.playing.is_next.Goals as goal
 

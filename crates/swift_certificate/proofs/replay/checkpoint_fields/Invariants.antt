@@ -1,5 +1,4 @@
-use Rattle.std.proofs.Common.{◌≡◌, map, take}
-use Rattle.script_code.specs.Seen.{rows_of}
+use Rattle.swift_certificate.proofs.Prelude.{◌≡◌, map, take, rows_of}
 use Rattle.swift_certificate.proofs.replay.checkpoint_fields.Given as goal
 
 abbrev pub invariant-loop-checkpoint : goal.invariant-loop-checkpoint

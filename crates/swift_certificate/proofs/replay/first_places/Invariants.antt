@@ -1,6 +1,4 @@
-use Rattle.std.proofs.Common.{◌≡◌, ◌-◌, ◌≤◌, vec_len, replicate}
-use Rattle.std.specs.Prelude.{vec_capacity}
-use Rattle.swift_certificate.specs.ReplayInside.{at_the_start}
+use Rattle.swift_certificate.proofs.Prelude.{◌≡◌, ◌-◌, ◌≤◌, vec_len, replicate, vec_capacity, at_the_start}
 use Rattle.swift_certificate.proofs.replay.first_places.Given as goal
 
 abbrev pub invariant-fill : goal.invariant-fill

@@ -1,6 +1,4 @@
-use Rattle.std.proofs.Common.{◌≡◌}
-use Rattle.swift_certificate.specs.Reports.{report_view}
-use Rattle.swift_certificate.specs.ReplayInside.{IsReplay}
+use Rattle.swift_certificate.proofs.Prelude.{◌≡◌, report_view, IsReplay}
 use Rattle.swift_certificate.proofs.whole.follow.Given as goal
 
 abbrev pub invariant-loop-place : goal.invariant-loop-place

@@ -1,7 +1,4 @@
-use Rattle.std.proofs.Common.{ℕ, suc, inl, inr, ◌≤◌, ◌<◌, length, arith, ◌≡◌, ◌∙◌, refl}
-use Rattle.swift_types.specs.Priority.{rank}
-use Rattle.swift_escalation.specs.LevelsInside.{level_of, edge_at}
-use Rattle.std.proofs.lemmas.Bool.{cases_lt}
+use Rattle.swift_escalation.proofs.Prelude.{ℕ, suc, inl, inr, ◌≤◌, ◌<◌, length, arith, ◌≡◌, ◌∙◌, refl, rank, level_of, edge_at, cases_lt}
 use Rattle.swift_escalation.proofs.Raise.{raise_more, up_by_set, done_more, level_of-set_same}
 use Rattle.swift_escalation.proofs.graph.raise_followers.Goals as goal
 use Rattle.swift_escalation.proofs.graph.raise_followers.Goals.{then-is_below+in-Ok, else-is_below}

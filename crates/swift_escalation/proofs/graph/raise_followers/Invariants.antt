@@ -1,6 +1,4 @@
-use Rattle.std.proofs.Common.{◌≡◌, ℕ, ◌≤◌, ◌<◌, Some, length, vec_capacity}
-use Rattle.swift_types.specs.Priority.{rank}
-use Rattle.swift_escalation.specs.LevelsInside.{level_of, edge_at, end_of, Raising}
+use Rattle.swift_escalation.proofs.Prelude.{◌≡◌, ℕ, ◌≤◌, ◌<◌, Some, length, vec_capacity, rank, level_of, edge_at, end_of, Raising}
 use Rattle.swift_escalation.proofs.graph.raise_followers.Given as goal
 
 abbrev pub invariant-loop-next : goal.invariant-loop-next

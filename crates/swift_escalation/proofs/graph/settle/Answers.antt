@@ -1,10 +1,4 @@
-use Rattle.std.proofs.lemmas.List.Sums.{count_by-le-length}
-use Rattle.std.proofs.lemmas.List.Elements.{Contains-push}
-use Rattle.swift_types.specs.declared.priority.Priority.{Priority}
-use Rattle.std.proofs.Common.{List, nat_lt, ◌≡◌, ℕ, ◌<◌, ◌++◌, ◌∷◌, [], arith, ap, ◌∙◌}
-use Rattle.std.proofs.lemmas.List.{nil_from_length}
-use Rattle.swift_types.specs.Priority.{rank}
-use Rattle.swift_escalation.specs.LevelsInside.{level_of}
+use Rattle.swift_escalation.proofs.Prelude.{count_by-le-length, Contains-push, Priority, List, nat_lt, ◌≡◌, ℕ, ◌<◌, ◌++◌, ◌∷◌, [], arith, ap, ◌∙◌, nil_from_length, rank, level_of}
 use Rattle.swift_escalation.proofs.Raise.{below-set}
 use Rattle.swift_escalation.proofs.Settle.{settling_start, todo_start, settling_more, todo_more}
 use Rattle.swift_escalation.proofs.graph.settle.Goals as goal

@@ -1,6 +1,4 @@
-use Rattle.std.proofs.Common.{◌+◌, ◌≤◌, vec_capacity, vec_len}
-use Rattle.swift_types.specs.Priority.{rank}
-use Rattle.swift_escalation.specs.LevelsInside.{below, Settling, IsOpen}
+use Rattle.swift_escalation.proofs.Prelude.{◌+◌, ◌≤◌, vec_capacity, vec_len, rank, below, Settling, IsOpen}
 use Rattle.swift_escalation.proofs.graph.settle.Given as goal
 
 abbrev pub invariant-loop-task : goal.invariant-loop-task

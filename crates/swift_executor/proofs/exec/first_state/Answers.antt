@@ -1,16 +1,4 @@
-use Rattle.std.proofs.Common.{◌≡◌, ℕ, Some, [], true, refl, ap, sym, subst, rules}
-use Rattle.std.specs.Prelude.{List}
-use Rattle.std.proofs.lemmas.List.Sorted.{IsPermutation-refl}
-use Rattle.swift_history.specs.TurnEnds.{JobFacts}
-use Rattle.swift_script.specs.Scripts.{ScriptView}
-use Rattle.swift_shared_book.specs.Shared.{BookSeatView}
-use Rattle.swift_executor.specs.Account.{HasTaken}
-use Rattle.swift_executor.specs.Exec.{site_of}
-use Rattle.swift_executor.specs.Held.{GoesTogether}
-use Rattle.swift_executor.specs.Inbox.{TakerView}
-use Rattle.swift_executor.specs.Seats.{IsOpened, orders_of}
-use Rattle.swift_executor.specs.State.{ExecStateView, new_executor}
-use Rattle.swift_executor.specs.Taken.{taken_of}
+use Rattle.swift_executor.proofs.Prelude.{◌≡◌, ℕ, Some, [], true, refl, ap, sym, subst, rules, List, IsPermutation-refl, JobFacts, ScriptView, BookSeatView, HasTaken, site_of, GoesTogether, TakerView, IsOpened, orders_of, ExecStateView, new_executor, taken_of}
 use Rattle.swift_executor.proofs.SeatKept.{new_knows}
 use Rattle.swift_executor.proofs.exec.first_state.Goals as goal
 

@@ -1,5 +1,4 @@
-use Rattle.std.proofs.Common.{[], refl}
-use Rattle.std.proofs.lemmas.List.Sorted.{IsPermutation-refl}
+use Rattle.swift_executor.proofs.Prelude.{[], refl, IsPermutation-refl}
 use Rattle.swift_executor.proofs.laws.new_has_taken_none.Goals as goal
 
 pub returns : goal.returns

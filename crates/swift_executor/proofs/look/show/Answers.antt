@@ -1,9 +1,4 @@
-use Rattle.std.proofs.Common.{ap, sym, subst, ◌∙◌}
-use Rattle.swift_shared_book.specs.Calls.{facts_of}
-use Rattle.swift_shared_book.specs.Shared.{BookSeatView, OpenSeatView, seat_of}
-use Rattle.swift_executor.specs.Held.{GoesTogether, IsOfBook, IsResting}
-use Rattle.swift_executor.specs.Looks.{IsSeen}
-use Rattle.swift_executor.specs.Taken.{TakenView, taken_of}
+use Rattle.swift_executor.proofs.Prelude.{ap, sym, subst, ◌∙◌, facts_of, BookSeatView, OpenSeatView, seat_of, GoesTogether, IsOfBook, IsResting, IsSeen, TakenView, taken_of}
 use Rattle.swift_executor.proofs.SeatKept.{free_seen}
 use Rattle.swift_executor.proofs.Visits.{same_seat, seat_of_book}
 use Rattle.swift_executor.proofs.look.show.Goals as goal

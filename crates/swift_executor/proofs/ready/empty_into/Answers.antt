@@ -1,9 +1,4 @@
-use Rattle.std.proofs.Common.{◌≡◌, ◌<◌, true, false, true≢false, List, [], ◌∷◌, ◌++◌, append-nil, length, map, refl, sym, subst, arith}
-use Rattle.std.proofs.lemmas.List.Sorted.{IsPermutation-map, IsPermutation-pop_more, IsPermutation-refl}
-use Rattle.std.specs.List.Sorted.{IsPermutation}
-use Rattle.swift_job.specs.Job.{JobView}
-use Rattle.swift_executor.specs.Queue.{waiting}
-use Rattle.swift_executor.specs.declared.queue.waiting.Waiting.{Waiting}
+use Rattle.swift_executor.proofs.Prelude.{◌≡◌, ◌<◌, true, false, true≢false, List, [], ◌∷◌, ◌++◌, append-nil, length, map, refl, sym, subst, arith, IsPermutation-map, IsPermutation-pop_more, IsPermutation-refl, IsPermutation, JobView, waiting, Waiting}
 use Rattle.swift_executor.proofs.ready.empty_into.Goals as goal
 
 -- a list of which there is no more than nothing

@@ -1,5 +1,4 @@
-use Rattle.std.proofs.Common.{◌+◌, ◌≤◌, ◌++◌, length, map}
-use Rattle.std.specs.List.Sorted.{IsPermutation}
+use Rattle.swift_executor.proofs.Prelude.{◌+◌, ◌≤◌, ◌++◌, length, map, IsPermutation}
 use Rattle.std.specs.Vec.{vec_capacity, vec_len}
 use Rattle.swift_executor.proofs.ready.empty_into.Given as goal
 

@@ -1,8 +1,5 @@
-use Rattle.std.proofs.Common.{◌≢◌, subst, rules}
+use Rattle.swift_executor.proofs.Prelude.{◌≢◌, subst, rules, All-more, All, JobView}
 use Rattle.std.proofs.lemmas.List.{take_all}
-use Rattle.std.proofs.lemmas.List.Elements.{All-more}
-use Rattle.std.specs.List.{All}
-use Rattle.swift_job.specs.Job.{JobView}
 use Rattle.swift_executor.proofs.ready.place_behind.Goals as goal
 
 pub loop-place-preserved : goal.loop-place-preserved

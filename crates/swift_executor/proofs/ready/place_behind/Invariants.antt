@@ -1,5 +1,4 @@
-use Rattle.std.proofs.Common.{◌≢◌, take}
-use Rattle.std.specs.List.{All}
+use Rattle.swift_executor.proofs.Prelude.{◌≢◌, take, All}
 use Rattle.swift_executor.proofs.ready.place_behind.Given as goal
 
 abbrev pub invariant-loop-place : goal.invariant-loop-place

@@ -1,6 +1,4 @@
-use Rattle.swift_executor.specs.Exec.{IsAt}
-use Rattle.swift_executor.specs.Held.{IsOfBook}
-use Rattle.swift_executor.specs.Visits.{HasStayed}
+use Rattle.swift_executor.proofs.Prelude.{IsAt, IsOfBook, HasStayed}
 use Rattle.swift_executor.proofs.run.accept_all.Given as goal
 
 abbrev pub invariant-loop : goal.invariant-loop

@@ -1,6 +1,4 @@
-use Rattle.std.proofs.Common.{ap, sym, subst, ◌∙◌}
-use Rattle.swift_executor.specs.Exec.{IsAt}
-use Rattle.swift_executor.specs.Taken.{TakenView, taken_of}
+use Rattle.swift_executor.proofs.Prelude.{ap, sym, subst, ◌∙◌, IsAt, TakenView, taken_of}
 use Rattle.swift_executor.proofs.VisitSteps.{accepts_one}
 use Rattle.swift_executor.proofs.run.accept_one.Goals as goal
 

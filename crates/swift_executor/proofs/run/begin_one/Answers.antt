@@ -1,12 +1,4 @@
-use Rattle.std.proofs.Common.{◌≡◌, ap, sym, subst, inr, ◌∙◌}
-use Rattle.std.proofs.lemmas.Result.{err_from_is_err_and}
-use Rattle.swift_tasks.specs.Books.{BookView}
-use Rattle.swift_executor.specs.Held.{IsOfBook}
-use Rattle.swift_executor.specs.Refusals.{IsRefusal}
-use Rattle.swift_executor.specs.Seats.{HaveSeen}
-use Rattle.swift_executor.specs.State.{Chooses, ExecStateView, HasNone, LacksTask, refusal_to_begin}
-use Rattle.swift_executor.specs.Taken.{TakenView, taken_of}
-use Rattle.swift_executor.specs.Visits.{BeginsIn, IsNotBegun}
+use Rattle.swift_executor.proofs.Prelude.{◌≡◌, ap, sym, subst, inr, ◌∙◌, err_from_is_err_and, BookView, IsOfBook, IsRefusal, HaveSeen, Chooses, ExecStateView, HasNone, LacksTask, refusal_to_begin, TakenView, taken_of, BeginsIn, IsNotBegun}
 use Rattle.swift_executor.proofs.SeatKept.{chose_knows}
 use Rattle.swift_executor.proofs.Visits.{has_opened, seat_of_book, seen_of}
 use Rattle.swift_executor.proofs.VisitSteps.{begins_one, cannot_begin, cannot_choose, finds_none}

@@ -1,9 +1,4 @@
-use Rattle.std.proofs.Common.{false, map, sym, subst, inr}
-use Rattle.std.proofs.lemmas.Result.{err_from_is_err_and}
-use Rattle.swift_history.specs.Jobs.{job_facts}
-use Rattle.swift_executor.specs.State.{HasChosen, IsBegun}
-use Rattle.swift_executor.specs.Taken.{TakenView, taken_of}
-use Rattle.swift_executor.specs.Visits.{IsNotEnded}
+use Rattle.swift_executor.proofs.Prelude.{false, map, sym, subst, inr, err_from_is_err_and, job_facts, HasChosen, IsBegun, TakenView, taken_of, IsNotEnded}
 use Rattle.swift_executor.proofs.SeatKept.{played_knows}
 use Rattle.swift_executor.proofs.Visits.{is_played}
 use Rattle.swift_executor.proofs.VisitSteps.{cannot_end, cannot_play, finishes_one}

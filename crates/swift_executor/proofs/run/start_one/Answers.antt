@@ -1,10 +1,4 @@
-use Rattle.std.proofs.Common.{◌≡◌, length, ap, subst, sym, ◌∙◌, rules}
-use Rattle.std.proofs.lemmas.Result.{err_from_is_err_and}
-use Rattle.swift_course.specs.Views.{at_rest}
-use Rattle.swift_tasks.specs.Books.{BookView}
-use Rattle.swift_history.specs.Orderly.{has_last_root}
-use Rattle.swift_executor.specs.Seats.{IsSeatFor, KeepsOrder, orders_of}
-use Rattle.swift_executor.specs.State.{ExecStateView}
+use Rattle.swift_executor.proofs.Prelude.{◌≡◌, length, ap, subst, sym, ◌∙◌, rules, err_from_is_err_and, at_rest, BookView, has_last_root, IsSeatFor, KeepsOrder, orders_of, ExecStateView}
 use Rattle.swift_executor.proofs.Visits.{begun_in_order, begun_knows, is_picked}
 use Rattle.swift_executor.proofs.run.start_one.Goals as goal
 

@@ -1,5 +1,4 @@
-use Rattle.std.proofs.Common.{inl}
-use Rattle.std.proofs.lemmas.Result.{err_from_is_err_and}
+use Rattle.swift_executor.proofs.Prelude.{inl, err_from_is_err_and}
 use Rattle.swift_executor.proofs.run.turn_one.Goals as goal
 
 pub returns-in_err-task-clause-refused : goal.returns-in_err-task-clause-refused

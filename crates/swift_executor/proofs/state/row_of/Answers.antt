@@ -1,8 +1,4 @@
-use Rattle.std.proofs.Common.{◌≡◌, ◌+◌, suc, ℕ, [], drop, map, get_or, sym, subst, ◌∙◌, arith}
-use Rattle.std.proofs.lemmas.Bool.{eqb-false, eqb-true}
-use Rattle.std.proofs.lemmas.List.{get_or-map, length-map}
-use Rattle.swift_types.specs.declared.id.ActorId.{ActorId}
-use Rattle.swift_executor.specs.State.{fields_at}
+use Rattle.swift_executor.proofs.Prelude.{◌≡◌, ◌+◌, suc, ℕ, [], drop, map, get_or, sym, subst, ◌∙◌, arith, eqb-false, eqb-true, get_or-map, length-map, ActorId, fields_at}
 use Rattle.swift_executor.proofs.Rows.{hits, no_row, passes}
 use Rattle.swift_executor.proofs.state.row_of.Goals as goal
 

@@ -1,6 +1,4 @@
-use Rattle.std.proofs.Common.{◌≡◌, drop, map}
-use Rattle.swift_types.specs.declared.id.ActorId.{ActorId}
-use Rattle.swift_executor.specs.State.{fields_at}
+use Rattle.swift_executor.proofs.Prelude.{◌≡◌, drop, map, ActorId, fields_at}
 use Rattle.swift_executor.proofs.state.row_of.Given as goal
 
 abbrev pub invariant-loop-place : goal.invariant-loop-place

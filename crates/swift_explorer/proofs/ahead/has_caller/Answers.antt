@@ -1,5 +1,4 @@
-use Rattle.std.proofs.Common.{rules, subst}
-use Rattle.swift_turn.specs.Body.{HasFrames, TaskView, callers_of}
+use Rattle.swift_explorer.proofs.Prelude.{rules, subst, HasFrames, TaskView, callers_of}
 use Rattle.swift_explorer.proofs.Trial.{left_over}
 use Rattle.swift_explorer.proofs.ahead.has_caller.Goals as goal
 

@@ -1,7 +1,4 @@
-use Rattle.std.proofs.Common.{◌+◌, drop, Bool, sym, ap, ◌∙◌}
-use Rattle.std.specs.Prelude.{◌&&◌}
-use Rattle.script_code.specs.Tree.{terms_of}
-use Rattle.swift_reordering.specs.Away.{terms_look_away}
+use Rattle.swift_explorer.proofs.Prelude.{◌+◌, drop, Bool, sym, ap, ◌∙◌, ◌&&◌, terms_of, terms_look_away}
 use Rattle.swift_explorer.proofs.LooksAway.{away_from}
 use Rattle.swift_explorer.proofs.away.terms_look_away.Goals as goal
 

@@ -1,6 +1,4 @@
-use Rattle.std.proofs.Common.{◌≡◌, take}
-use Rattle.std.specs.Arc.{arc_value}
-use Rattle.swift_explorer.specs.HistoryInside.{IsPath}
+use Rattle.swift_explorer.proofs.Prelude.{◌≡◌, take, arc_value, IsPath}
 use Rattle.swift_explorer.proofs.completion.follow_or_stop.Given as goal
 
 abbrev pub invariant-loop-place : goal.invariant-loop-place

@@ -1,8 +1,4 @@
-use Rattle.std.proofs.Common.{◌∙◌, List, [], ◌∷◌, ◌++◌, append_assoc, sym, subst, ap}
-use Rattle.std.specs.Arc.{arc_value}
-use Rattle.swift_script.specs.Scripts.{ScriptView}
-use Rattle.swift_explorer.specs.declared.moves.Move.{Move}
-use Rattle.swift_explorer.specs.HistoryInside.{IsPath}
+use Rattle.swift_explorer.proofs.Prelude.{◌∙◌, List, [], ◌∷◌, ◌++◌, append_assoc, sym, subst, ap, arc_value, ScriptView, Move, IsPath}
 use Rattle.swift_explorer.proofs.Paths.{was_done}
 use Rattle.swift_explorer.proofs.completion.go_to_the_end.Goals as goal
 

@@ -1,7 +1,4 @@
-use Rattle.std.proofs.Common.{◌≡◌, List, ◌++◌}
-use Rattle.std.specs.Arc.{arc_value}
-use Rattle.swift_explorer.specs.declared.moves.Move.{Move}
-use Rattle.swift_explorer.specs.HistoryInside.{IsPath}
+use Rattle.swift_explorer.proofs.Prelude.{◌≡◌, List, ◌++◌, arc_value, Move, IsPath}
 use Rattle.swift_explorer.proofs.completion.go_to_the_end.Given as goal
 
 abbrev pub invariant-loop : goal.invariant-loop

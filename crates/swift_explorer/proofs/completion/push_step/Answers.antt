@@ -1,8 +1,4 @@
-use Rattle.std.proofs.Common.{List, refl, sym, subst}
-use Rattle.std.specs.Arc.{arc_value}
-use Rattle.swift_explorer.specs.declared.moves.Move.{Move}
-use Rattle.swift_explorer.specs.HistoryInside.{IsPath}
-use Rattle.swift_explorer.specs.Outcomes.{IsBrokenAfter}
+use Rattle.swift_explorer.proofs.Prelude.{List, refl, sym, subst, arc_value, Move, IsPath, IsBrokenAfter}
 use Rattle.swift_explorer.proofs.Paths.{path_breaks, path_push, path_some, was_done}
 use Rattle.swift_explorer.proofs.completion.push_step.Goals as goal
 

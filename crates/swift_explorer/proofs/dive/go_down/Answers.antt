@@ -1,8 +1,4 @@
-use Rattle.std.proofs.Common.{◌∙◌, sym, subst, ap}
-use Rattle.std.specs.Arc.{arc_value}
-use Rattle.swift_script.specs.Scripts.{ScriptView}
-use Rattle.swift_explorer.specs.HistoryInside.{IsPath}
-use Rattle.swift_explorer.specs.Outcomes.{IsBrokenAfter}
+use Rattle.swift_explorer.proofs.Prelude.{◌∙◌, sym, subst, ap, arc_value, ScriptView, IsPath, IsBrokenAfter}
 use Rattle.swift_explorer.proofs.Paths.{was_done}
 use Rattle.swift_explorer.proofs.dive.go_down.Goals as goal
 

@@ -1,8 +1,4 @@
-use Rattle.std.proofs.Common.{◌≡◌}
-use Rattle.std.specs.Prelude.{IfSome}
-use Rattle.std.specs.Arc.{arc_value}
-use Rattle.swift_explorer.specs.HistoryInside.{IsPath}
-use Rattle.swift_explorer.specs.Outcomes.{IsBrokenAfter}
+use Rattle.swift_explorer.proofs.Prelude.{◌≡◌, IfSome, arc_value, IsPath, IsBrokenAfter}
 use Rattle.swift_explorer.proofs.dive.go_down.Given as goal
 
 abbrev pub invariant-loop : goal.invariant-loop

@@ -1,9 +1,4 @@
-use Rattle.std.proofs.Common.{rules, List, sym, subst, ap}
-use Rattle.std.specs.Arc.{arc_value}
-use Rattle.swift_script.specs.Scripts.{ScriptView}
-use Rattle.swift_explorer.specs.declared.moves.Move.{Move}
-use Rattle.swift_explorer.specs.HistoryInside.{IsPath}
-use Rattle.swift_explorer.specs.Outcomes.{IfReached, IsOutcomeOf}
+use Rattle.swift_explorer.proofs.Prelude.{rules, List, sym, subst, ap, arc_value, ScriptView, Move, IsPath, IfReached, IsOutcomeOf}
 use Rattle.swift_explorer.proofs.dive.see_end.Goals as goal
 
 pub outcome-requires : goal.outcome-requires

@@ -1,5 +1,4 @@
-use Rattle.std.proofs.Common.{◌<◌, ℕ, subst, sym}
-use Rattle.swift_explorer.specs.FlagsInside.{names}
+use Rattle.swift_explorer.proofs.Prelude.{◌<◌, ℕ, subst, sym, names}
 use Rattle.swift_explorer.proofs.FlagsRead.{any_event}
 use Rattle.swift_explorer.proofs.flags.was_named.Goals as goal
 

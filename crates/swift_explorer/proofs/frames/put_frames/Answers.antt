@@ -1,11 +1,5 @@
-use Rattle.std.proofs.Common.{rules, [], ◌∷◌, ◌++◌, List, ap, sym, ◌∙◌}
-use Rattle.std.specs.Prelude.{pos}
-use Rattle.swift_interpreter.specs.Frames.{FrameView, frame_view}
-use Rattle.swift_turn.specs.Body.{HasFrames}
-use Rattle.swift_explorer.specs.Numbers.{list_numbers}
-use Rattle.swift_explorer.specs.FrameNumbers.{frame_numbers}
+use Rattle.swift_explorer.proofs.Prelude.{rules, [], ◌∷◌, ◌++◌, List, ap, sym, ◌∙◌, pos, FrameView, frame_view, HasFrames, list_numbers, frame_numbers, frames_left}
 use Rattle.swift_explorer.proofs.Steps.{two_writes}
-use Rattle.swift_explorer.specs.KeysInside.{frames_left}
 use Rattle.swift_explorer.proofs.Written.{one_left, one_more}
 use Rattle.swift_explorer.proofs.frames.put_frames.Goals as goal
 

@@ -1,7 +1,4 @@
-use Rattle.std.proofs.Common.{◌≡◌, ◌++◌, length}
-use Rattle.swift_explorer.specs.Numbers.{list_numbers}
-use Rattle.swift_explorer.specs.FrameNumbers.{frame_numbers}
-use Rattle.swift_explorer.specs.KeysInside.{frames_left}
+use Rattle.swift_explorer.proofs.Prelude.{◌≡◌, ◌++◌, length, list_numbers, frame_numbers, frames_left}
 use Rattle.swift_explorer.proofs.frames.put_frames.Given as goal
 
 -- what is written and what is left to write are what is to be written

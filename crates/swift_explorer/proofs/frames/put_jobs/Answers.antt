@@ -1,13 +1,5 @@
-use Rattle.std.proofs.Common.{rules, ◌≡◌, [], ◌∷◌, ◌++◌, List, map, reverse, ap, sym, ◌∙◌}
-use Rattle.std.specs.Prelude.{pos}
-use Rattle.std.proofs.lemmas.List.{map-append}
+use Rattle.swift_explorer.proofs.Prelude.{rules, ◌≡◌, [], ◌∷◌, ◌++◌, List, map, reverse, ap, sym, ◌∙◌, pos, map-append, BodyView, job_facts, JobFacts, list_numbers, job_left, job_numbers, view_is}
 use Rattle.swift_job.specs.Job.{JobView}
-use Rattle.swift_turn.specs.Body.{BodyView}
-use Rattle.swift_history.specs.Jobs.{job_facts}
-use Rattle.swift_history.specs.TurnEnds.{JobFacts}
-use Rattle.swift_explorer.specs.Numbers.{list_numbers}
-use Rattle.swift_explorer.specs.KeysInside.{job_left, job_numbers}
-use Rattle.swift_steps.proofs.Steps.{view_is}
 use Rattle.swift_explorer.proofs.Written.{last_first, one_more}
 use Rattle.swift_explorer.proofs.frames.put_jobs.Goals as goal
 

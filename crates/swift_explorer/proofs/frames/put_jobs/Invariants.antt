@@ -1,7 +1,4 @@
-use Rattle.std.proofs.Common.{◌≡◌, ◌++◌, map, reverse, vec_len}
-use Rattle.swift_history.specs.Jobs.{job_facts}
-use Rattle.swift_explorer.specs.Numbers.{list_numbers}
-use Rattle.swift_explorer.specs.KeysInside.{job_left, job_numbers}
+use Rattle.swift_explorer.proofs.Prelude.{◌≡◌, ◌++◌, map, reverse, vec_len, job_facts, list_numbers, job_left, job_numbers}
 use Rattle.swift_explorer.proofs.frames.put_jobs.Given as goal
 
 abbrev pub invariant-loop-job : goal.invariant-loop-job

@@ -1,10 +1,5 @@
-use Rattle.std.proofs.Common.{rules, ◌≡◌, [], ◌∷◌, ◌++◌, List, Option, map, reverse, ap, sym, ◌∙◌}
-use Rattle.std.specs.Prelude.{pos}
-use Rattle.std.specs.Option.{option_map}
-use Rattle.swift_explorer.specs.Numbers.{list_numbers, option_numbers}
+use Rattle.swift_explorer.proofs.Prelude.{rules, ◌≡◌, [], ◌∷◌, ◌++◌, List, Option, map, reverse, ap, sym, ◌∙◌, pos, option_map, list_numbers, option_numbers, NextTurn, ReadyView, ready_numbers, ready_view}
 use Rattle.swift_explorer.proofs.Steps.{two_writes}
-use Rattle.swift_steps.specs.declared.next_turn.NextTurn.{NextTurn}
-use Rattle.swift_explorer.specs.KeysInside.{ReadyView, ready_numbers, ready_view}
 use Rattle.swift_explorer.proofs.Written.{last_first, one_more}
 use Rattle.swift_explorer.proofs.frames.put_ready.Goals as goal
 

@@ -1,7 +1,4 @@
-use Rattle.std.proofs.Common.{◌≡◌, ◌++◌, map, reverse, vec_len}
-use Rattle.std.specs.Option.{option_map}
-use Rattle.swift_explorer.specs.Numbers.{list_numbers, option_numbers}
-use Rattle.swift_explorer.specs.KeysInside.{ready_numbers, ready_view}
+use Rattle.swift_explorer.proofs.Prelude.{◌≡◌, ◌++◌, map, reverse, vec_len, option_map, list_numbers, option_numbers, ready_numbers, ready_view}
 use Rattle.swift_explorer.proofs.frames.put_ready.Given as goal
 
 abbrev pub invariant-loop-task : goal.invariant-loop-task

@@ -1,6 +1,4 @@
-use Rattle.std.proofs.Common.{◌<◌, ◌∷◌, [], ◌++◌, List, length, take, ap, sym, ◌∙◌, arith}
-use Rattle.std.proofs.lemmas.List.{take_more}
-use Rattle.swift_events.specs.declared.event.Event.{Event}
+use Rattle.swift_explorer.proofs.Prelude.{◌<◌, ◌∷◌, [], ◌++◌, List, length, take, ap, sym, ◌∙◌, arith, take_more, Event}
 use Rattle.swift_explorer.proofs.history.events_of.Goals as goal
 
 pub loop-place-preserved : goal.loop-place-preserved

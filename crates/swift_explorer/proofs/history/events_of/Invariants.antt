@@ -1,4 +1,4 @@
-use Rattle.std.proofs.Common.{◌≡◌, take}
+use Rattle.swift_explorer.proofs.Prelude.{◌≡◌, take}
 use Rattle.swift_explorer.proofs.history.events_of.Given as goal
 
 abbrev pub invariant-loop-place : goal.invariant-loop-place

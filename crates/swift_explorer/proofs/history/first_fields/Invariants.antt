@@ -1,7 +1,4 @@
-use Rattle.std.proofs.Common.{◌≡◌, map}
-use Rattle.std.specs.List.{range_with_len}
-use Rattle.script_code.specs.Seen.{rows_of}
-use Rattle.swift_script.specs.Scripts.{executor_start}
+use Rattle.swift_explorer.proofs.Prelude.{◌≡◌, map, range_with_len, rows_of, executor_start}
 use Rattle.swift_explorer.proofs.history.first_fields.Given as goal
 
 abbrev pub invariant-loop-place : goal.invariant-loop-place

@@ -1,5 +1,4 @@
-use Rattle.std.proofs.Common.{◌≡◌, ◌-◌, ◌≤◌, false, vec_len, replicate}
-use Rattle.std.specs.Prelude.{vec_capacity}
+use Rattle.swift_explorer.proofs.Prelude.{◌≡◌, ◌-◌, ◌≤◌, false, vec_len, replicate, vec_capacity}
 use Rattle.swift_explorer.proofs.history.none_used.Given as goal
 
 abbrev pub invariant-fill : goal.invariant-fill

@@ -1,5 +1,4 @@
-use Rattle.std.proofs.Common.{refl, arith}
-use Rattle.swift_explorer.specs.MarksInside.{operation_is, term_is}
+use Rattle.swift_explorer.proofs.Prelude.{refl, arith, operation_is, term_is}
 use Rattle.swift_explorer.proofs.MarksRead.{all_first, first_more}
 use Rattle.swift_explorer.proofs.marks.are_marked.Goals as goal
 

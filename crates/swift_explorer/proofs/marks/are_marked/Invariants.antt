@@ -1,4 +1,4 @@
-use Rattle.swift_explorer.specs.MarksInside.{operation_is, term_is}
+use Rattle.swift_explorer.proofs.Prelude.{operation_is, term_is}
 use Rattle.swift_explorer.proofs.MarksRead.{FirstMarked}
 use Rattle.swift_explorer.proofs.marks.are_marked.Given as goal
 

@@ -1,8 +1,4 @@
-use Rattle.std.proofs.Common.{rules, ◌≡◌, ◌∙◌, ℕ, length, subst, ap, arith}
-use Rattle.std.proofs.lemmas.List.{length_push}
-use Rattle.script_code.specs.Instructions.{FollowsCode}
-use Rattle.script_code.specs.Layout.{code_at}
-use Rattle.swift_script.specs.Scripts.{method_code}
+use Rattle.swift_explorer.proofs.Prelude.{rules, ◌≡◌, ◌∙◌, ℕ, length, subst, ap, arith, length_push, FollowsCode, code_at, method_code}
 use Rattle.swift_explorer.proofs.MarksRead.{have_push}
 use Rattle.swift_explorer.proofs.marks.methods_marks.Goals as goal
 

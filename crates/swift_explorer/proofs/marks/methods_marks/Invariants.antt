@@ -1,5 +1,4 @@
-use Rattle.std.proofs.Common.{◌≡◌, length}
-use Rattle.swift_explorer.specs.MarksInside.{HaveMarks}
+use Rattle.swift_explorer.proofs.Prelude.{◌≡◌, length, HaveMarks}
 use Rattle.swift_explorer.proofs.marks.methods_marks.Given as goal
 
 abbrev pub invariant-loop-place : goal.invariant-loop-place

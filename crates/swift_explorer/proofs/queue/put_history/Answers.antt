@@ -1,5 +1,5 @@
-use Rattle.std.proofs.Common.{◌∙◌, ap, sym, inl, inr, eqb-true}
-use Rattle.std.specs.Prelude.{Some, nat_eq}
+use Rattle.swift_explorer.proofs.Prelude.{◌∙◌, ap, sym, inl, inr, Some, nat_eq}
+use Rattle.std.proofs.Common.{eqb-true}
 use Rattle.swift_explorer.proofs.HistoriesTaken.{filled}
 use Rattle.swift_explorer.proofs.queue.put_history.Goals as goal
 

@@ -1,4 +1,4 @@
-use Rattle.std.proofs.Common.{◌∙◌, sym}
+use Rattle.swift_explorer.proofs.Prelude.{◌∙◌, sym}
 use Rattle.swift_explorer.proofs.HistoriesTaken.{emptied}
 use Rattle.swift_explorer.proofs.queue.take_history.Goals as goal
 

@@ -1,5 +1,4 @@
-use Rattle.std.proofs.Common.{sym, subst}
-use Rattle.swift_explorer.specs.HistoryInside.{WasDone}
+use Rattle.swift_explorer.proofs.Prelude.{sym, subst, WasDone}
 use Rattle.swift_explorer.proofs.search.begun.Goals as goal
 
 pub returns-in-Ok-Yes : goal.returns-in-Ok-Yes

@@ -1,10 +1,4 @@
-use Rattle.std.proofs.Common.{List, ◌++◌, append-nil, sym, subst}
-use Rattle.std.specs.Prelude.{IfOk, IfSome}
-use Rattle.std.specs.Arc.{arc_value}
-use Rattle.swift_explorer.specs.declared.moves.Move.{Move}
-use Rattle.swift_explorer.specs.declared.fused.Step.{Step}
-use Rattle.swift_explorer.specs.HistoryInside.{IsPath}
-use Rattle.swift_explorer.specs.FusedInside.{first_half}
+use Rattle.swift_explorer.proofs.Prelude.{List, ◌++◌, append-nil, sym, subst, IfOk, IfSome, arc_value, Move, Step, IsPath, first_half}
 use Rattle.swift_explorer.proofs.search.first_followed.Goals as goal
 
 pub returns-in-One : goal.returns-in-One

@@ -1,8 +1,4 @@
-use Rattle.std.proofs.Common.{◌∙◌, List, take, take_all, sym, subst, ap, arith}
-use Rattle.std.specs.Arc.{arc_value}
-use Rattle.std.proofs.lemmas.List.{take_more}
-use Rattle.swift_explorer.specs.declared.moves.Move.{Move}
-use Rattle.swift_explorer.specs.HistoryInside.{IsPath}
+use Rattle.swift_explorer.proofs.Prelude.{◌∙◌, List, take, take_all, sym, subst, ap, arith, arc_value, take_more, Move, IsPath}
 use Rattle.swift_explorer.proofs.Paths.{path_push, path_some, was_done}
 use Rattle.swift_explorer.proofs.search.follow.Goals as goal
 

@@ -1,6 +1,4 @@
-use Rattle.std.proofs.Common.{◌≡◌, take}
-use Rattle.std.specs.Arc.{arc_value}
-use Rattle.swift_explorer.specs.HistoryInside.{IsPath}
+use Rattle.swift_explorer.proofs.Prelude.{◌≡◌, take, arc_value, IsPath}
 use Rattle.swift_explorer.proofs.search.follow.Given as goal
 
 abbrev pub invariant-loop-step : goal.invariant-loop-step

@@ -1,8 +1,4 @@
-use Rattle.std.proofs.Common.{◌≡◌, sym, subst}
-use Rattle.std.specs.Arc.{arc_value}
-use Rattle.swift_script.specs.Scripts.{ScriptView}
-use Rattle.swift_explorer.specs.AheadInside.{StartsHold}
-use Rattle.swift_explorer.specs.MarksInside.{AreTold, HaveSilentMarks}
+use Rattle.swift_explorer.proofs.Prelude.{◌≡◌, sym, subst, arc_value, ScriptView, StartsHold, AreTold, HaveSilentMarks}
 use Rattle.swift_explorer.proofs.Paths.{path_some, was_done}
 use Rattle.swift_explorer.proofs.RunningAhead.{followed_ahead}
 use Rattle.swift_explorer.proofs.search.follow_ahead.Goals as goal

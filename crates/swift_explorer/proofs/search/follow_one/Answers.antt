@@ -1,6 +1,4 @@
-use Rattle.std.proofs.Common.{refl}
-use Rattle.std.specs.Arc.{arc_value}
-use Rattle.swift_explorer.specs.HistoryInside.{GoesOn}
+use Rattle.swift_explorer.proofs.Prelude.{refl, arc_value, GoesOn}
 use Rattle.swift_explorer.proofs.Paths.{breaks_if, path_push, path_some}
 use Rattle.swift_explorer.proofs.Followed.{if_done}
 use Rattle.swift_explorer.proofs.Trying.{followed_by}

@@ -1,8 +1,4 @@
-use Rattle.std.proofs.Common.{rules, refl}
-use Rattle.std.specs.Arc.{arc_value}
-use Rattle.swift_explorer.specs.declared.search.Ahead.{Ahead}
-use Rattle.swift_explorer.specs.FusedInside.{HasEachStep}
-use Rattle.swift_explorer.specs.MarksInside.{AreTold}
+use Rattle.swift_explorer.proofs.Prelude.{rules, refl, arc_value, Ahead, HasEachStep, AreTold}
 use Rattle.swift_explorer.proofs.Trying.{ahead_is}
 use Rattle.swift_explorer.proofs.search.look_ahead.Goals as goal
 

@@ -1,8 +1,4 @@
-use Rattle.std.proofs.Common.{◌≡◌, ◌∙◌, ℕ, List, ◌++◌, append-nil, reverse, sym, subst, ap, arith}
-use Rattle.std.specs.Prelude.{Some, slice_get}
-use Rattle.std.proofs.lemmas.Option.{slice_get-get_or}
-use Rattle.swift_explorer.specs.declared.moves.Move.{Move}
-use Rattle.swift_explorer.specs.SearchInside.{paths_of}
+use Rattle.swift_explorer.proofs.Prelude.{◌≡◌, ◌∙◌, ℕ, List, ◌++◌, append-nil, reverse, sym, subst, ap, arith, Some, slice_get, slice_get-get_or, Move, paths_of}
 use Rattle.swift_explorer.proofs.Nodes.{first_none, one_back, path_there}
 use Rattle.swift_explorer.proofs.search.path_to.Goals as goal
 

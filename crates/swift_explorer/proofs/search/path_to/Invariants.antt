@@ -1,7 +1,4 @@
-use Rattle.std.proofs.Common.{◌≡◌, ◌<◌, List, ◌++◌, length, reverse}
-use Rattle.std.specs.Prelude.{Some, slice_get}
-use Rattle.swift_explorer.specs.declared.moves.Move.{Move}
-use Rattle.swift_explorer.specs.SearchInside.{paths_of}
+use Rattle.swift_explorer.proofs.Prelude.{◌≡◌, ◌<◌, List, ◌++◌, length, reverse, Some, slice_get, Move, paths_of}
 use Rattle.swift_explorer.proofs.search.path_to.Given as goal
 
 -- the steps so far, last first, come after those to the node that is at

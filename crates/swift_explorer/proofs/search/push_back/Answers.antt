@@ -1,7 +1,4 @@
-use Rattle.std.proofs.Common.{◌≡◌, ◌∙◌, List, ◌++◌, append-nil, drop, length, reverse, sym, ap, arith}
-use Rattle.std.proofs.lemmas.List.{drop_all}
-use Rattle.swift_explorer.specs.declared.moves.Move.{Move}
-use Rattle.swift_explorer.specs.declared.moves.Move.TheVariants.{Add}
+use Rattle.swift_explorer.proofs.Prelude.{◌≡◌, ◌∙◌, List, ◌++◌, append-nil, drop, length, reverse, sym, ap, arith, drop_all, Move, Add}
 use Rattle.swift_explorer.proofs.Nodes.{back_more}
 use Rattle.swift_explorer.proofs.search.push_back.Goals as goal
 

@@ -1,4 +1,4 @@
-use Rattle.std.proofs.Common.{◌≡◌, ◌≤◌, ◌++◌, drop, length, reverse}
+use Rattle.swift_explorer.proofs.Prelude.{◌≡◌, ◌≤◌, ◌++◌, drop, length, reverse}
 use Rattle.swift_explorer.proofs.search.push_back.Given as goal
 
 -- those from here on are there, the last one first

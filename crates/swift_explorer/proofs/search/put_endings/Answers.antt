@@ -1,12 +1,7 @@
-use Rattle.std.proofs.Common.{◌<◌, [], ◌∷◌, length, get_or, refl, arith}
-use Rattle.std.specs.Prelude.{pos}
-use Rattle.swift_types.specs.declared.outcome.Ending.{Ending}
+use Rattle.swift_explorer.proofs.Prelude.{◌<◌, [], ◌∷◌, length, get_or, refl, arith, pos, Ending, Origin, ending_numbers, origin_numbers, end_numbers}
 use Rattle.swift_types.specs.declared.outcome.Ending.TheVariants as ending
-use Rattle.swift_events.specs.declared.life.Origin.{Origin}
 use Rattle.swift_events.specs.declared.life.Origin.TheVariants as origin
-use Rattle.swift_explorer.specs.Numbers.{ending_numbers, origin_numbers}
 use Rattle.swift_explorer.proofs.Steps.{some_all, some_step, two_writes}
-use Rattle.swift_explorer.specs.KeysInside.{end_numbers}
 use Rattle.swift_explorer.proofs.search.put_endings.Goals as goal
 
 abbrev first : Origin × Ending

@@ -1,6 +1,4 @@
-use Rattle.std.proofs.Common.{◌≡◌, ◌++◌, take}
-use Rattle.swift_explorer.specs.Numbers.{some_numbers}
-use Rattle.swift_explorer.specs.KeysInside.{end_numbers}
+use Rattle.swift_explorer.proofs.Prelude.{◌≡◌, ◌++◌, take, some_numbers, end_numbers}
 use Rattle.swift_explorer.proofs.search.put_endings.Given as goal
 
 abbrev pub invariant-loop-origin : goal.invariant-loop-origin

@@ -1,7 +1,4 @@
-use Rattle.std.proofs.Common.{◌+◌, drop, Bool, sym, ap, ◌∙◌}
-use Rattle.std.specs.Prelude.{◌&&◌}
-use Rattle.script_code.specs.Tree.{terms_of}
-use Rattle.swift_reordering.specs.Silent.{terms_are_own}
+use Rattle.swift_explorer.proofs.Prelude.{◌+◌, drop, Bool, sym, ap, ◌∙◌, ◌&&◌, terms_of, terms_are_own}
 use Rattle.swift_explorer.proofs.MarksRead.{own_from}
 use Rattle.swift_explorer.proofs.silent.terms_are_own.Goals as goal
 

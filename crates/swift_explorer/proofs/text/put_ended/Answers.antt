@@ -1,5 +1,4 @@
-use Rattle.std.proofs.Common.{rules, ◌∙◌}
-use Rattle.swift_explorer.specs.FoundText.{ended_text}
+use Rattle.swift_explorer.proofs.Prelude.{rules, ◌∙◌, ended_text}
 use Rattle.swift_explorer.proofs.Texts.{ended_same, last_piece}
 use Rattle.swift_explorer.proofs.text.put_ended.Goals as goal
 

@@ -1,7 +1,5 @@
-use Rattle.std.proofs.Common.{ℕ, ◌+◌, ◌++◌, List, drop, sym, ap, ◌∙◌, append_assoc}
-use Rattle.std.proofs.lemmas.List.{at_drop_more}
+use Rattle.swift_explorer.proofs.Prelude.{ℕ, ◌+◌, ◌++◌, List, drop, sym, ap, ◌∙◌, append_assoc, at_drop_more, steps_text}
 use Rattle.swift_explorer.specs.declared.moves.Move.TheVariants as step
-use Rattle.swift_explorer.specs.FoundText.{steps_text}
 use Rattle.swift_explorer.proofs.text.put_steps.Goals as goal
 
 pub loop-place-preserved : goal.loop-place-preserved

@@ -1,5 +1,4 @@
-use Rattle.std.proofs.Common.{◌≡◌, ◌++◌, drop}
-use Rattle.swift_explorer.specs.FoundText.{steps_text}
+use Rattle.swift_explorer.proofs.Prelude.{◌≡◌, ◌++◌, drop, steps_text}
 use Rattle.swift_explorer.proofs.text.put_steps.Given as goal
 
 abbrev pub invariant-loop-place : goal.invariant-loop-place

@@ -1,5 +1,4 @@
-use Rattle.std.proofs.Common.{◌≡◌, ◌≤◌}
-use Rattle.swift_explorer.specs.FoundText.{turns_before}
+use Rattle.swift_explorer.proofs.Prelude.{◌≡◌, ◌≤◌, turns_before}
 use Rattle.swift_explorer.proofs.text.turns_before.Given as goal
 
 abbrev pub invariant-loop-at : goal.invariant-loop-at

@@ -1,7 +1,4 @@
-use Rattle.std.proofs.Common.{◌≡◌, true, take_all, subst, sym, arith}
-use Rattle.std.specs.Prelude.{All}
-use Rattle.script_code.specs.declared.instruction.Instruction.{Instruction}
-use Rattle.swift_reordering.specs.Unnamed.{instruction_spares}
+use Rattle.swift_explorer.proofs.Prelude.{◌≡◌, true, take_all, subst, sym, arith, All, Instruction, instruction_spares}
 use Rattle.swift_explorer.proofs.UnnamedRoots.{spared_push}
 use Rattle.swift_explorer.proofs.unnamed.all_spare.Goals as goal
 

@@ -1,7 +1,4 @@
-use Rattle.std.proofs.Common.{◌≡◌, take, true}
-use Rattle.std.specs.Prelude.{All}
-use Rattle.script_code.specs.declared.instruction.Instruction.{Instruction}
-use Rattle.swift_reordering.specs.Unnamed.{instruction_spares}
+use Rattle.swift_explorer.proofs.Prelude.{◌≡◌, take, true, All, Instruction, instruction_spares}
 use Rattle.swift_explorer.proofs.unnamed.all_spare.Given as goal
 
 abbrev pub invariant-loop-line : goal.invariant-loop-line

@@ -1,7 +1,4 @@
-use Rattle.std.proofs.Common.{rules, ◌≡◌, ℕ, subst, arith, true, refl}
-use Rattle.script_code.specs.Layout.{code_at}
-use Rattle.swift_script.specs.Scripts.{method_code}
-use Rattle.swift_reordering.specs.Unnamed.{code_spares}
+use Rattle.swift_explorer.proofs.Prelude.{rules, ◌≡◌, ℕ, subst, arith, true, refl, code_at, method_code, code_spares}
 use Rattle.swift_reordering.proofs.Telling.{instructions_spare}
 use Rattle.swift_explorer.proofs.UnnamedRoots.{all_spare_root, one_spares_more}
 use Rattle.swift_explorer.proofs.unnamed.root_is_unnamed.Goals as goal

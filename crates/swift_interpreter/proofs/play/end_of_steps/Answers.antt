@@ -1,12 +1,4 @@
-use Rattle.std.proofs.Common.{◌≡◌, ℕ, Some, None, List, length, refl, sym, ap, ◌∙◌}
-use Rattle.std.proofs.lemmas.Option.{slice_get_past, slice_get_read}
-use Rattle.std.specs.Prelude.{slice_get}
-use Rattle.script_code.specs.Instructions.{NextAction, FollowsCode, first, first_by, first_if}
-use Rattle.script_code.specs.Tree.{Code}
-use Rattle.script_code.specs.declared.instruction.Act.{Act}
-use Rattle.script_code.specs.declared.instruction.Instruction.{Instruction}
-use Rattle.swift_interpreter.specs.Turn.{TurnStateView, at_limit, end_of}
-use Rattle.swift_interpreter.specs.TurnStates.{state_of}
+use Rattle.swift_interpreter.proofs.Prelude.{◌≡◌, ℕ, Some, None, List, length, refl, sym, ap, ◌∙◌, slice_get_past, slice_get_read, slice_get, NextAction, FollowsCode, first, first_by, first_if, Code, Act, Instruction, TurnStateView, at_limit, end_of, state_of}
 use Rattle.swift_interpreter.proofs.play.end_of_steps.Goals as goal
 
 -- what stands there at the limit

@@ -1,10 +1,4 @@
-use Rattle.std.proofs.Common.{◌≡◌, Some, length, refl, sym, ap, ◌∙◌}
-use Rattle.std.proofs.lemmas.Option.{slice_get_read}
-use Rattle.std.specs.Prelude.{slice_get}
-use Rattle.script_code.specs.Instructions.{NextAction, first_by, first_if}
-use Rattle.script_code.specs.declared.instruction.Act.{Act}
-use Rattle.swift_interpreter.specs.Turn.{act}
-use Rattle.swift_interpreter.specs.TurnStates.{state_of}
+use Rattle.swift_interpreter.proofs.Prelude.{◌≡◌, Some, length, refl, sym, ap, ◌∙◌, slice_get_read, slice_get, NextAction, first_by, first_if, Act, act, state_of}
 use Rattle.swift_interpreter.proofs.play.gives_way.Goals as goal
 
 pub returns-in-Yield-clause-done : goal.returns-in-Yield-clause-done

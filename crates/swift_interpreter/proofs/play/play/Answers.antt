@@ -1,8 +1,4 @@
-use Rattle.std.proofs.Common.{◌≡◌, ℕ, ◌+◌, ◌-◌, ◌∙◌, ap, sym, arith, rules}
-use Rattle.swift_interpreter.specs.TurnStates.{lent, state_of, exit_view}
-use Rattle.script_code.specs.Instructions.{first}
-use Rattle.swift_interpreter.specs.Turn.{act, turn, yielding}
-use Rattle.swift_interpreter.specs.declared.turn_state.TurnState.{TurnState}
+use Rattle.swift_interpreter.proofs.Prelude.{◌≡◌, ℕ, ◌+◌, ◌-◌, ◌∙◌, ap, sym, arith, rules, lent, state_of, exit_view, first, act, turn, yielding, TurnState}
 use Rattle.swift_interpreter.proofs.Turns.{turn_on, turn_out, turn_limit}
 use Rattle.swift_interpreter.proofs.play.play.Goals as goal
 

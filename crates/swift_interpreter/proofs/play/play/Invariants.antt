@@ -1,8 +1,4 @@
-use Rattle.std.proofs.Common.{◌≡◌, ℕ, ◌-◌}
-use Rattle.script_code.specs.Instructions.{FollowsCode}
-use Rattle.script_code.specs.Tree.{Code}
-use Rattle.swift_interpreter.specs.TurnStates.{fields_before, lent, state_of}
-use Rattle.swift_interpreter.specs.Turn.{turn}
+use Rattle.swift_interpreter.proofs.Prelude.{◌≡◌, ℕ, ◌-◌, FollowsCode, Code, fields_before, lent, state_of, turn}
 use Rattle.swift_interpreter.proofs.play.play.Given as goal
 
 abbrev pub invariant-loop-used : goal.invariant-loop-used

@@ -1,12 +1,4 @@
-use Rattle.std.proofs.Common.{◌≡◌, ℤ, Option, Some, None, refl, sym, ap, ◌∙◌, rules, w64, to_z, of_z}
-use Rattle.std.proofs.lemmas.Result.{IfOk-weaker}
-use Rattle.swift_types.specs.declared.outcome.Fault.{Fault}
-use Rattle.swift_types.specs.declared.outcome.Fault.TheVariants.{Turns}
-use Rattle.script_code.specs.Tree.{Term, term_of, term_if}
-use Rattle.script_code.specs.Value.{ev}
-use Rattle.script_code.specs.declared.formula.Formula.{Formula}
-use Rattle.swift_interpreter.specs.Turn.{TurnStateView, TurnInputView, AfterStatement, caught, failing, given, leaves, scene, with_value}
-use Rattle.swift_interpreter.specs.TurnStates.{lent, state_of}
+use Rattle.swift_interpreter.proofs.Prelude.{◌≡◌, ℤ, Option, Some, None, refl, sym, ap, ◌∙◌, rules, w64, to_z, of_z, IfOk-weaker, Fault, Turns, Term, term_of, term_if, ev, Formula, TurnStateView, TurnInputView, AfterStatement, caught, failing, given, leaves, scene, with_value, lent, state_of}
 use Rattle.swift_interpreter.proofs.Arguments.{seen}
 use Rattle.swift_interpreter.proofs.resume.catch.Goals as goal
 

@@ -1,13 +1,5 @@
-use Rattle.std.proofs.Common.{◌≡◌, Option, Some, None, length, refl, sym, ap, ◌∙◌, rules}
-use Rattle.std.proofs.lemmas.Option.{slice_get_read}
-use Rattle.std.proofs.lemmas.Result.{IfOk-weaker}
-use Rattle.std.specs.Prelude.{slice_get}
-use Rattle.swift_types.specs.declared.outcome.Fault.{Fault}
-use Rattle.script_code.specs.declared.instruction.Act.{Act}
+use Rattle.swift_interpreter.proofs.Prelude.{◌≡◌, Option, Some, None, length, refl, sym, ap, ◌∙◌, rules, slice_get_read, IfOk-weaker, slice_get, Fault, Act, NextAction, first, first_by, first_if, taken, lent, state_of}
 use Rattle.script_code.specs.declared.instruction.Act.TheVariants.{Receive}
-use Rattle.script_code.specs.Instructions.{NextAction, first, first_by, first_if}
-use Rattle.swift_interpreter.specs.Turn.{taken}
-use Rattle.swift_interpreter.specs.TurnStates.{lent, state_of}
 use Rattle.swift_interpreter.proofs.resume.take.Goals as goal
 
 pub returns-in-Some-clause-next : goal.returns-in-Some-clause-next

@@ -1,6 +1,4 @@
-use Rattle.std.proofs.Common.{◌≡◌, ◌≤◌, length, take}
-use Rattle.swift_interpreter.specs.Saved.{is_saved}
-use Rattle.swift_interpreter.specs.SavedInside.{newest_first}
+use Rattle.swift_interpreter.proofs.Prelude.{◌≡◌, ◌≤◌, length, take, is_saved, newest_first}
 use Rattle.swift_interpreter.proofs.saved.has_row.Given as goal
 
 abbrev pub invariant-loop-left : goal.invariant-loop-left

@@ -1,5 +1,4 @@
-use Rattle.std.proofs.Common.{◌≡◌, ◌≤◌, length, take}
-use Rattle.swift_interpreter.specs.SavedInside.{newest_first, oldest}
+use Rattle.swift_interpreter.proofs.Prelude.{◌≡◌, ◌≤◌, length, take, newest_first, oldest}
 use Rattle.swift_interpreter.proofs.saved.oldest_row.Given as goal
 
 abbrev pub invariant-loop-left : goal.invariant-loop-left

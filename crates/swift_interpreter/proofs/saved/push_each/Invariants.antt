@@ -1,5 +1,4 @@
-use Rattle.std.proofs.Common.{◌≡◌, ◌+◌, ◌≤◌, ◌++◌, length, take, vec_len}
-use Rattle.std.specs.Prelude.{vec_capacity}
+use Rattle.swift_interpreter.proofs.Prelude.{◌≡◌, ◌+◌, ◌≤◌, ◌++◌, length, take, vec_len, vec_capacity}
 use Rattle.swift_interpreter.proofs.saved.push_each.Given as goal
 
 abbrev pub invariant-loop-value : goal.invariant-loop-value

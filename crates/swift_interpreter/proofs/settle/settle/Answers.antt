@@ -1,8 +1,4 @@
-use Rattle.std.proofs.Common.{◌≡◌, ◌+◌, Some, None, sym, ap, ◌∙◌, arith}
-use Rattle.std.specs.Prelude.{slice_get}
-use Rattle.script_code.specs.Tree.{Code}
-use Rattle.swift_interpreter.specs.Turn.{TurnStateView, settled}
-use Rattle.swift_interpreter.specs.TurnStates.{state_of, unbound}
+use Rattle.swift_interpreter.proofs.Prelude.{◌≡◌, ◌+◌, Some, None, sym, ap, ◌∙◌, arith, slice_get, Code, TurnStateView, settled, state_of, unbound}
 use Rattle.swift_interpreter.proofs.Settling.{ends_ahead, settled_none, unbind_there, none_there, few_ends}
 use Rattle.swift_interpreter.proofs.settle.settle.Goals as goal
 

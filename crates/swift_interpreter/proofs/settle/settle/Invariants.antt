@@ -1,8 +1,4 @@
-use Rattle.std.proofs.Common.{◌≡◌, ℕ, ◌+◌}
-use Rattle.script_code.specs.Instructions.{FollowsCode}
-use Rattle.script_code.specs.Tree.{Code}
-use Rattle.swift_interpreter.specs.Turn.{settled}
-use Rattle.swift_interpreter.specs.TurnStates.{state_of}
+use Rattle.swift_interpreter.proofs.Prelude.{◌≡◌, ℕ, ◌+◌, FollowsCode, Code, settled, state_of}
 use Rattle.swift_interpreter.proofs.Settling.{ends_ahead}
 use Rattle.swift_interpreter.proofs.settle.settle.Given as goal
 

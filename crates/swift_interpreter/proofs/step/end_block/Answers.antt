@@ -1,5 +1,4 @@
-use Rattle.std.proofs.Common.{ap}
-use Rattle.swift_interpreter.specs.Turn.{goes}
+use Rattle.swift_interpreter.proofs.Prelude.{ap, goes}
 use Rattle.swift_interpreter.proofs.step.end_block.Goals as goal
 
 pub returns-clause-next : goal.returns-clause-next

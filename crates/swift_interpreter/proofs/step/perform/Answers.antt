@@ -1,19 +1,4 @@
-use Rattle.std.proofs.Common.{◌≡◌, ℕ, ℤ, Option, Some, List, ◌∷◌, sym, ap, ◌∙◌}
-use Rattle.std.specs.Prelude.{if◌then◌else◌}
-use Rattle.std.proofs.lemmas.Result.{IfOk-weaker}
-use Rattle.std.specs.Global.{Vec}
-use Rattle.script_code.specs.Instructions.{first_by}
-use Rattle.script_code.specs.Seen.{rows_of}
-use Rattle.script_code.specs.Tree.{Code, term_of}
-use Rattle.script_code.specs.Value.{is_zero}
-use Rattle.script_code.specs.declared.instruction.Act.{Act}
-use Rattle.script_code.specs.declared.instruction.Instruction.{Instruction}
-use Rattle.script_code.specs.declared.instruction.NumberPlace.TheVariants.{Variable, Field}
-use Rattle.swift_types.specs.declared.outcome.Fault.TheVariants.{Thrown}
-use Rattle.swift_interpreter.specs.Saved.{restored}
-use Rattle.swift_interpreter.specs.Turn.{TurnStateView, TurnInputView, act, failing, given, goes, leaves, returning, with_value}
-use Rattle.swift_interpreter.specs.TurnStates.{fields_before, lent, state_of}
-use Rattle.swift_interpreter.specs.declared.turn_state.TurnState.{TurnState}
+use Rattle.swift_interpreter.proofs.Prelude.{◌≡◌, ℕ, ℤ, Option, Some, List, ◌∷◌, sym, ap, ◌∙◌, if◌then◌else◌, IfOk-weaker, Vec, first_by, rows_of, Code, term_of, is_zero, Act, Instruction, Variable, Field, Thrown, restored, TurnStateView, TurnInputView, act, failing, given, goes, leaves, returning, with_value, fields_before, lent, state_of, TurnState}
 use Rattle.swift_interpreter.proofs.Arguments.{seen}
 use Rattle.swift_interpreter.proofs.step.perform.Goals as goal
 

@@ -1,10 +1,4 @@
-use Rattle.std.proofs.Common.{◌≡◌, Some, length, refl, sym, ap, ◌∙◌}
-use Rattle.std.proofs.lemmas.Option.{slice_get_read}
-use Rattle.std.proofs.lemmas.Result.{IfOk-weaker}
-use Rattle.std.specs.Prelude.{slice_get}
-use Rattle.script_code.specs.Instructions.{NextAction, first_if}
-use Rattle.swift_interpreter.specs.Turn.{act}
-use Rattle.swift_interpreter.specs.TurnStates.{lent, state_of}
+use Rattle.swift_interpreter.proofs.Prelude.{◌≡◌, Some, length, refl, sym, ap, ◌∙◌, slice_get_read, IfOk-weaker, slice_get, NextAction, first_if, act, lent, state_of}
 use Rattle.swift_interpreter.proofs.step.step.Goals as goal
 
 pub returns-clause-next : goal.returns-clause-next

@@ -1,5 +1,4 @@
-use Rattle.std.proofs.Common.{◌≡◌, ◌++◌, take}
-use Rattle.script_code.specs.Seen.{pairs_of}
+use Rattle.swift_interpreter.proofs.Prelude.{◌≡◌, ◌++◌, take, pairs_of}
 use Rattle.swift_interpreter.proofs.values.standing.Given as goal
 
 abbrev pub invariant-loop-binding : goal.invariant-loop-binding

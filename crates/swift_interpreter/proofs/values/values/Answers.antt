@@ -1,9 +1,4 @@
-use Rattle.std.proofs.Common.{◌≡◌, ℤ, Option, Some, List, [], ◌∷◌, ◌++◌, ◌+◌, drop, append-nil, sym, ap, ◌∙◌, arith, rules, w64, to_z, of_z}
-use Rattle.std.proofs.lemmas.List.{at_drop_all}
-use Rattle.script_code.specs.Seen.{scene_of}
-use Rattle.script_code.specs.Tree.{terms_of}
-use Rattle.script_code.specs.Value.{evs, in_front}
-use Rattle.script_code.specs.declared.formula.Formula.{Formula}
+use Rattle.swift_interpreter.proofs.Prelude.{◌≡◌, ℤ, Option, Some, List, [], ◌∷◌, ◌++◌, ◌+◌, drop, append-nil, sym, ap, ◌∙◌, arith, rules, w64, to_z, of_z, at_drop_all, scene_of, terms_of, evs, in_front, Formula}
 use Rattle.swift_interpreter.proofs.Arguments.{after, after_none, after_one, evs_from}
 use Rattle.swift_interpreter.proofs.values.values.Goals as goal
 

@@ -1,7 +1,4 @@
-use Rattle.std.proofs.Common.{◌≡◌, drop}
-use Rattle.script_code.specs.Seen.{scene_of}
-use Rattle.script_code.specs.Tree.{terms_of}
-use Rattle.script_code.specs.Value.{evs}
+use Rattle.swift_interpreter.proofs.Prelude.{◌≡◌, drop, scene_of, terms_of, evs}
 use Rattle.swift_interpreter.proofs.Arguments.{after}
 use Rattle.swift_interpreter.proofs.values.values.Given as goal
 

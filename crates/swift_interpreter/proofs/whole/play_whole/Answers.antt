@@ -1,7 +1,4 @@
-use Rattle.std.proofs.Common.{◌∙◌, ap}
-use Rattle.std.proofs.lemmas.Result.{IfOk-weaker}
-use Rattle.swift_interpreter.specs.Turn.{AfterStatement, on, turn}
-use Rattle.swift_interpreter.specs.TurnStates.{given_of}
+use Rattle.swift_interpreter.proofs.Prelude.{◌∙◌, ap, IfOk-weaker, AfterStatement, on, turn, given_of}
 use Rattle.swift_interpreter.proofs.whole.play_whole.Goals as goal
 
 pub returns-in-Some-clause-played : goal.returns-in-Some-clause-played

@@ -1,5 +1,4 @@
-use Rattle.std.proofs.Common.{◌≡◌, ◌<◌, ◌∷◌, [], ◌++◌, false, is_err, length, rules}
-use Rattle.swift_journal.specs.CheckpointInside.{ended_view}
+use Rattle.swift_journal.proofs.Prelude.{◌≡◌, ◌<◌, ◌∷◌, [], ◌++◌, false, is_err, length, rules, ended_view}
 use Rattle.swift_journal.proofs.Ahead.{ahead_more, on_ok}
 use Rattle.swift_journal.proofs.checkpoint.write_ahead.Goals as goal
 

@@ -1,5 +1,4 @@
-use Rattle.std.proofs.Common.{◌≡◌, ◌++◌, length, map, take}
-use Rattle.swift_journal.specs.Checkpoints.{folded_of}
+use Rattle.swift_journal.proofs.Prelude.{◌≡◌, ◌++◌, length, map, take, folded_of}
 use Rattle.swift_journal.proofs.checkpoint.write_ahead.Given as goal
 
 abbrev pub invariant-loop-place : goal.invariant-loop-place

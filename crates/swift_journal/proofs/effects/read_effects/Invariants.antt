@@ -1,6 +1,4 @@
-use Rattle.std.proofs.Common.{◌≡◌, ◌++◌, drop}
-use Rattle.swift_interpreter.specs.Frames.{effect_views}
-use Rattle.swift_journal.specs.EffectWordsInside.{effects_of}
+use Rattle.swift_journal.proofs.Prelude.{◌≡◌, ◌++◌, drop, effect_views, effects_of}
 use Rattle.swift_journal.proofs.effects.read_effects.Given as goal
 
 abbrev pub invariant-loop-stored : goal.invariant-loop-stored

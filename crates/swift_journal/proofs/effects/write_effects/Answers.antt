@@ -1,11 +1,4 @@
-use Rattle.std.proofs.Common.{◌<◌, List, ◌++◌, length, refl, sym, ap, subst, ◌∙◌, arith}
-use Rattle.std.proofs.lemmas.List.{append-nil, take_all}
-use Rattle.swift_interpreter.specs.Frames.{effect_views}
-use Rattle.swift_interpreter.specs.Turn.{EffectView}
-use Rattle.swift_interpreter.specs.declared.effect.Effect.{Effect}
-use Rattle.swift_journal.specs.EffectWordsInside.{effects_of, skip_effects, effects_words}
-use Rattle.swift_journal.specs.TailInside.{since}
-use Rattle.swift_journal.specs.Words.{ReadsBack}
+use Rattle.swift_journal.proofs.Prelude.{◌<◌, List, ◌++◌, length, refl, sym, ap, subst, ◌∙◌, arith, append-nil, take_all, effect_views, EffectView, Effect, effects_of, skip_effects, effects_words, since, ReadsBack}
 use Rattle.swift_journal.proofs.EffectsReadBack.{none_read_back, effects_written_more, effects_read_back_more}
 use Rattle.swift_journal.proofs.Gained.{since_start, since_push, kept_push, kept_same}
 use Rattle.swift_journal.proofs.effects.write_effects.Goals as goal

@@ -1,9 +1,4 @@
-use Rattle.std.proofs.Common.{◌≡◌, List, ◌++◌, take}
-use Rattle.swift_interpreter.specs.Frames.{effect_views}
-use Rattle.swift_interpreter.specs.Turn.{EffectView}
-use Rattle.swift_journal.specs.EffectWordsInside.{effects_of, skip_effects, effects_words}
-use Rattle.swift_journal.specs.TailInside.{since}
-use Rattle.swift_journal.specs.Words.{ReadsBack}
+use Rattle.swift_journal.proofs.Prelude.{◌≡◌, List, ◌++◌, take, effect_views, EffectView, effects_of, skip_effects, effects_words, since, ReadsBack}
 use Rattle.swift_journal.proofs.effects.write_effects.Given as goal
 
 abbrev pub invariant-loop-effect : goal.invariant-loop-effect

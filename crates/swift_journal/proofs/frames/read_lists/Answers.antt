@@ -1,10 +1,6 @@
-use Rattle.std.proofs.Common.{ℤ, List, ap, ◌∙◌, take}
-use Rattle.swift_journal.specs.Ends.{pending_of}
-use Rattle.swift_journal.specs.Words.{numbers_of, pairs_from}
+use Rattle.swift_journal.proofs.Prelude.{ℤ, List, ap, ◌∙◌, take, pending_of, numbers_of, pairs_from, pairs_of, reverse}
 use Rattle.swift_journal.proofs.FramesReadBack.{frame_by, frame_same}
 use Rattle.swift_journal.proofs.frames.read_lists.Goals as goal
-use Rattle.script_code.specs.Seen.{pairs_of}
-use Rattle.std.proofs.Common.{reverse}
 
 pub returns : goal.returns
 returns c =

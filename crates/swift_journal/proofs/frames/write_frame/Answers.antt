@@ -1,5 +1,4 @@
-use Rattle.std.proofs.Common.{◌≡◌, true, length, refl, rules}
-use Rattle.swift_journal.specs.declared.stored.FrameHead.{FrameHead}
+use Rattle.swift_journal.proofs.Prelude.{◌≡◌, true, length, refl, rules, FrameHead}
 use Rattle.swift_journal.proofs.FramesReadBack.{frame_reads_back}
 use Rattle.swift_journal.proofs.frames.write_frame.Goals as goal
 

@@ -1,4 +1,4 @@
-use Rattle.std.proofs.Common.{◌≡◌, take}
+use Rattle.swift_journal.proofs.Prelude.{◌≡◌, take}
 use Rattle.swift_journal.proofs.journal.are_same.Given as goal
 
 abbrev pub invariant-loop-place : goal.invariant-loop-place

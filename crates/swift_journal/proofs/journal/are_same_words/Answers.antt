@@ -1,5 +1,4 @@
-use Rattle.std.proofs.Common.{subst}
-use Rattle.std.specs.Bool.{IsTrue}
+use Rattle.swift_journal.proofs.Prelude.{subst, IsTrue}
 use Rattle.std.specs.Cmp.Rules.{signed_items}
 use Rattle.swift_journal.proofs.journal.are_same_words.Goals as goal
 

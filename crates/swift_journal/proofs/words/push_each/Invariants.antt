@@ -1,5 +1,4 @@
-use Rattle.std.proofs.Common.{◌≡◌, ◌+◌, ◌≤◌, ◌++◌, length, take, vec_len}
-use Rattle.std.specs.Prelude.{vec_capacity}
+use Rattle.swift_journal.proofs.Prelude.{◌≡◌, ◌+◌, ◌≤◌, ◌++◌, length, take, vec_len, vec_capacity}
 use Rattle.swift_journal.proofs.words.push_each.Given as goal
 
 abbrev pub invariant-loop-word : goal.invariant-loop-word

@@ -1,4 +1,4 @@
-use Rattle.std.proofs.Common.{◌≡◌, ℤ, ◌∷◌, ap, ◌∙◌, rules, w64, to_z, of_z}
+use Rattle.swift_journal.proofs.Prelude.{◌≡◌, ℤ, ◌∷◌, ap, ◌∙◌, rules, w64, to_z, of_z}
 use Rattle.swift_journal.proofs.Pairs.{read_more, pairs_more_reversed}
 use Rattle.swift_journal.proofs.words.read_bindings.Goals as goal
 

@@ -1,5 +1,4 @@
-use Rattle.std.proofs.Common.{◌≡◌, ◌+◌, reverse, drop}
-use Rattle.swift_journal.specs.Words.{pairs_from}
+use Rattle.swift_journal.proofs.Prelude.{◌≡◌, ◌+◌, reverse, drop, pairs_from}
 use Rattle.swift_journal.proofs.words.read_bindings.Given as goal
 
 abbrev pub invariant-loop : goal.invariant-loop

@@ -1,6 +1,4 @@
-use Rattle.std.proofs.Common.{◌≡◌, ℕ, ℤ, pos, List, [], ◌∷◌, ◌++◌, get_or, take, sym, ap, ◌∙◌, arith, rules, w64, to_z, of_z}
-use Rattle.std.proofs.lemmas.List.{map_more, take_all}
-use Rattle.swift_journal.specs.Words.{narrowed, numbers_of}
+use Rattle.swift_journal.proofs.Prelude.{◌≡◌, ℕ, ℤ, pos, List, [], ◌∷◌, ◌++◌, get_or, take, sym, ap, ◌∙◌, arith, rules, w64, to_z, of_z, map_more, take_all, narrowed, numbers_of}
 use Rattle.swift_journal.proofs.words.read_numbers.Goals as goal
 
 pub loop-word-preserved : goal.loop-word-preserved

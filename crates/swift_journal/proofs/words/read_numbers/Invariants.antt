@@ -1,5 +1,4 @@
-use Rattle.std.proofs.Common.{◌≡◌, take}
-use Rattle.swift_journal.specs.Words.{numbers_of}
+use Rattle.swift_journal.proofs.Prelude.{◌≡◌, take, numbers_of}
 use Rattle.swift_journal.proofs.words.read_numbers.Given as goal
 
 abbrev pub invariant-loop-word : goal.invariant-loop-word

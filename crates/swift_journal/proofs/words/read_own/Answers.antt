@@ -1,6 +1,4 @@
-use Rattle.std.proofs.Common.{◌≡◌, ℤ, [], ◌∷◌, ◌++◌, map, ap, ◌∙◌, rules, w64, to_z, of_z}
-use Rattle.std.proofs.lemmas.List.{map-append}
-use Rattle.script_code.specs.Seen.{pair_of}
+use Rattle.swift_journal.proofs.Prelude.{◌≡◌, ℤ, [], ◌∷◌, ◌++◌, map, ap, ◌∙◌, rules, w64, to_z, of_z, map-append, pair_of}
 use Rattle.swift_journal.proofs.Pairs.{read_more, pairs_more}
 use Rattle.swift_journal.proofs.words.read_own.Goals as goal
 

@@ -1,6 +1,4 @@
-use Rattle.std.proofs.Common.{◌≡◌, ◌+◌, map, drop}
-use Rattle.swift_journal.specs.Words.{pairs_from}
-use Rattle.script_code.specs.Seen.{pair_of}
+use Rattle.swift_journal.proofs.Prelude.{◌≡◌, ◌+◌, map, drop, pairs_from, pair_of}
 use Rattle.swift_journal.proofs.words.read_own.Given as goal
 
 abbrev pub invariant-loop : goal.invariant-loop

@@ -1,6 +1,4 @@
-use Rattle.std.proofs.Common.{◌≡◌, ℕ, ℤ, pos, ◌<◌, List, [], ◌∷◌, ◌++◌, length, reverse, get_or, arith, ap, subst, ◌∙◌, rules, w64, to_z, of_z}
-use Rattle.std.proofs.lemmas.List.{length-reverse, take_all}
-use Rattle.swift_journal.specs.Words.{pair_words, AreNarrow}
+use Rattle.swift_journal.proofs.Prelude.{◌≡◌, ℕ, ℤ, pos, ◌<◌, List, [], ◌∷◌, ◌++◌, length, reverse, get_or, arith, ap, subst, ◌∙◌, rules, w64, to_z, of_z, length-reverse, take_all, pair_words, AreNarrow}
 use Rattle.swift_journal.proofs.Pairs.{written_more, narrow_more}
 use Rattle.swift_journal.proofs.words.write_bindings.Goals as goal
 

@@ -1,5 +1,4 @@
-use Rattle.std.proofs.Common.{◌≡◌, ◌++◌, reverse, take}
-use Rattle.swift_journal.specs.Words.{pair_words, AreNarrow}
+use Rattle.swift_journal.proofs.Prelude.{◌≡◌, ◌++◌, reverse, take, pair_words, AreNarrow}
 use Rattle.swift_journal.proofs.words.write_bindings.Given as goal
 
 abbrev pub invariant-loop-place : goal.invariant-loop-place

@@ -1,6 +1,4 @@
-use Rattle.std.proofs.Common.{◌≡◌, pos, ◌++◌, map, take, sym, ap, ◌∙◌, arith}
-use Rattle.std.proofs.lemmas.List.{take_all}
-use Rattle.swift_journal.specs.Words.{numbers_of}
+use Rattle.swift_journal.proofs.Prelude.{◌≡◌, pos, ◌++◌, map, take, sym, ap, ◌∙◌, arith, take_all, numbers_of}
 use Rattle.swift_journal.proofs.words.write_numbers.Goals as goal
 
 pub returns-clause-words : goal.returns-clause-words

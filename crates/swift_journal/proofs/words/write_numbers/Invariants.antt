@@ -1,5 +1,4 @@
-use Rattle.std.proofs.Common.{◌≡◌, pos, ◌++◌, map, take}
-use Rattle.swift_journal.specs.Words.{numbers_of}
+use Rattle.swift_journal.proofs.Prelude.{◌≡◌, pos, ◌++◌, map, take, numbers_of}
 use Rattle.swift_journal.proofs.words.write_numbers.Given as goal
 
 abbrev pub invariant-loop-number : goal.invariant-loop-number

@@ -1,7 +1,4 @@
-use Rattle.std.proofs.Common.{◌≡◌, ℕ, ℤ, pos, ◌<◌, List, [], ◌∷◌, ◌++◌, length, map, get_or, arith, ap, subst, ◌∙◌, rules, w64, to_z, of_z}
-use Rattle.std.proofs.lemmas.List.{length-map, get_or-map, take_all}
-use Rattle.script_code.specs.Seen.{pair_of}
-use Rattle.swift_journal.specs.Words.{pair_words, AreNarrow}
+use Rattle.swift_journal.proofs.Prelude.{◌≡◌, ℕ, ℤ, pos, ◌<◌, List, [], ◌∷◌, ◌++◌, length, map, get_or, arith, ap, subst, ◌∙◌, rules, w64, to_z, of_z, length-map, get_or-map, take_all, pair_of, pair_words, AreNarrow}
 use Rattle.swift_journal.proofs.Pairs.{written_more, narrow_more}
 use Rattle.swift_journal.proofs.words.write_own.Goals as goal
 

@@ -1,6 +1,4 @@
-use Rattle.std.proofs.Common.{◌≡◌, ◌++◌, map, take}
-use Rattle.swift_journal.specs.Words.{pair_words, AreNarrow}
-use Rattle.script_code.specs.Seen.{pair_of}
+use Rattle.swift_journal.proofs.Prelude.{◌≡◌, ◌++◌, map, take, pair_words, AreNarrow, pair_of}
 use Rattle.swift_journal.proofs.words.write_own.Given as goal
 
 abbrev pub invariant-loop-binding : goal.invariant-loop-binding

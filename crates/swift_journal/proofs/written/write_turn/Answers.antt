@@ -1,13 +1,4 @@
-use Rattle.std.proofs.Common.{◌≡◌, length, reverse, ap, ◌∙◌, arith, rules}
-use Rattle.swift_interpreter.specs.Frames.{frame_view, effect_views}
-use Rattle.swift_interpreter.specs.TurnStates.{exit_view}
-use Rattle.swift_journal.specs.Ends.{resume_words}
-use Rattle.swift_journal.specs.FrameWordsInside.{frame_words}
-use Rattle.swift_journal.specs.JournalInside.{span_of}
-use Rattle.swift_journal.specs.Records.{frame_if_lent}
-use Rattle.swift_journal.specs.TailInside.{since}
-use Rattle.swift_journal.specs.Words.{pair_words}
-use Rattle.swift_journal.specs.declared.stored.TurnHead.{TurnHead}
+use Rattle.swift_journal.proofs.Prelude.{◌≡◌, length, reverse, ap, ◌∙◌, arith, rules, frame_view, effect_views, exit_view, resume_words, frame_words, span_of, frame_if_lent, since, pair_words, TurnHead}
 use Rattle.swift_journal.proofs.EndsReadBack.{resume_reads_back_by, exit_reads_back_by}
 use Rattle.swift_journal.proofs.EffectsReadBack.{bindings_read_back}
 use Rattle.swift_journal.proofs.Gained.{length-since}

@@ -1,8 +1,4 @@
-use Rattle.std.proofs.Common.{map, sym, subst}
-use Rattle.script_grammar.specs.Tree.{view_decl}
-use Rattle.swift_script.specs.declared.fault.ScriptFaultKind.{ScriptFaultKind}
-use Rattle.swift_script.specs.Refuses.{Refuses}
-use Rattle.swift_script.specs.SpelledInside.{check_kind, check_span}
+use Rattle.swift_script.proofs.Prelude.{map, sym, subst, view_decl, ScriptFaultKind, Refuses, check_kind, check_span}
 use Rattle.swift_script.proofs.Refusing.{moved, check_refused, check_blames}
 use Rattle.swift_script.proofs.naming.check_names.Goals as goal
 

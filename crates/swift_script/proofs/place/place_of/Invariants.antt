@@ -1,7 +1,4 @@
-use Rattle.std.proofs.Common.{◌≡◌, map, ◌+◌, drop}
-use Rattle.script_tokens.specs.Pieces.{piece}
-use Rattle.swift_script.specs.FaultPlaces.{place_of}
-use Rattle.swift_script.specs.SpelledInside.{passes}
+use Rattle.swift_script.proofs.Prelude.{◌≡◌, map, ◌+◌, drop, piece, place_of, passes}
 use Rattle.swift_script.proofs.place.place_of.Given as goal
 
 abbrev pub invariant-loop-place : goal.invariant-loop-place

@@ -1,10 +1,5 @@
-use Rattle.std.proofs.Common.{◌≡◌, ◌≤◌, ℕ, List, length, rules, sym, subst}
-use Rattle.std.specs.Str.{IsUtf8}
+use Rattle.swift_script.proofs.Prelude.{◌≡◌, ◌≤◌, ℕ, List, length, rules, sym, subst, IsUtf8, BYTES, NESTING, printed, Spells, IsAccepted}
 use Rattle.std.specs.String.{string_bytes}
-use Rattle.swift_types.specs.declared.limits.TheConstants.{BYTES}
-use Rattle.script_parser.specs.declared.limits.TheConstants.{NESTING}
-use Rattle.script_printing.specs.Printed.{printed}
-use Rattle.swift_script.specs.Accepted.{Spells, IsAccepted}
 use Rattle.swift_script.proofs.Printing.{printed_utf8, printed_spells, printed_accepted}
 use Rattle.swift_script.proofs.printed.print_script.Goals as goal
 

@@ -1,8 +1,4 @@
-use Rattle.std.proofs.Common.{List, map, ap, arith}
-use Rattle.script_grammar.specs.Tree.{view_decl}
-use Rattle.script_grammar.specs.declared.declaration.Decl.{Decl}
-use Rattle.script_names.specs.Rules.{names_in}
-use Rattle.script_parser.specs.declared.limits.TheConstants.{NESTING}
+use Rattle.swift_script.proofs.Prelude.{List, map, ap, arith, view_decl, Decl, names_in, NESTING}
 use Rattle.swift_script.proofs.Refusing.{spells}
 use Rattle.swift_script.proofs.Short.{names_within_limit}
 use Rattle.swift_script.proofs.reading.accept.Goals as goal

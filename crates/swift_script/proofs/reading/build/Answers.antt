@@ -1,8 +1,4 @@
-use Rattle.std.proofs.Common.{map, subst, ◌∙◌}
-use Rattle.script_grammar.specs.Tree.{view_decl}
-use Rattle.script_parser.specs.declared.limits.TheConstants.{NESTING}
-use Rattle.script_printing.specs.Script.{ScriptView}
-use Rattle.script_compiler.specs.IsCompiled.{IsCompiled}
+use Rattle.swift_script.proofs.Prelude.{map, subst, ◌∙◌, view_decl, NESTING, ScriptView, IsCompiled}
 use Rattle.swift_script.specs.Scripts.{parts_of}
 use Rattle.swift_script.proofs.Finishing.{lent_tree}
 use Rattle.swift_script.proofs.Short.{within_limit}

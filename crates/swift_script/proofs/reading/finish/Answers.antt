@@ -1,7 +1,4 @@
-use Rattle.std.proofs.Common.{refl, ap, ◌∙◌}
-use Rattle.script_printing.specs.Printed.{printed}
-use Rattle.swift_script.specs.Accepted.{IsAccepted}
-use Rattle.swift_script.specs.ScriptInvariant.{tree_of}
+use Rattle.swift_script.proofs.Prelude.{refl, ap, ◌∙◌, printed, IsAccepted, tree_of}
 use Rattle.swift_script.proofs.Finishing.{accepted, can_be_kept, lent_tree}
 use Rattle.swift_script.proofs.TreeAgain.{tree_again}
 use Rattle.swift_script.proofs.reading.finish.Goals as goal

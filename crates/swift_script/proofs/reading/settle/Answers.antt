@@ -1,4 +1,4 @@
-use Rattle.swift_script.specs.ScriptInvariant.{tree_of}
+use Rattle.swift_script.proofs.Prelude.{tree_of}
 use Rattle.swift_script.proofs.Finishing.{few_methods, named_again}
 use Rattle.swift_script.proofs.reading.settle.Goals as goal
 

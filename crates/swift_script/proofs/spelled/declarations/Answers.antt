@@ -1,8 +1,4 @@
-use Rattle.std.proofs.Common.{map, sym, ap, subst}
-use Rattle.script_tokens.specs.Pieces.{piece}
-use Rattle.swift_script.specs.declared.fault.ScriptFaultKind.{ScriptFaultKind}
-use Rattle.swift_script.specs.Refuses.{Refuses}
-use Rattle.swift_script.specs.SpelledInside.{read_kind, read_span}
+use Rattle.swift_script.proofs.Prelude.{map, sym, ap, subst, piece, ScriptFaultKind, Refuses, read_kind, read_span}
 use Rattle.swift_script.proofs.Refusing.{moved, read_blames, read_refused}
 use Rattle.swift_script.proofs.spelled.declarations.Goals as goal
 

@@ -1,5 +1,4 @@
-use Rattle.std.proofs.Common.{refl}
-use Rattle.swift_script.specs.ScriptInvariant.{tree_of}
+use Rattle.swift_script.proofs.Prelude.{refl, tree_of}
 use Rattle.swift_script.proofs.Divided.{one_more}
 use Rattle.swift_script.proofs.split.split.Goals as goal
 

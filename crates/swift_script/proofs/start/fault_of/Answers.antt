@@ -1,7 +1,5 @@
-use Rattle.std.proofs.Common.{Some, ap, subst}
+use Rattle.swift_script.proofs.Prelude.{Some, ap, subst, IsBroken, tree_of}
 use Rattle.swift_script.specs.declared.fault.ScriptFaultKind.TheVariants as kind
-use Rattle.swift_script.specs.BrokenInside.{IsBroken}
-use Rattle.swift_script.specs.ScriptInvariant.{tree_of}
 use Rattle.swift_script.proofs.Refusing.{moved}
 use Rattle.swift_script.proofs.Finishing.{invariant_blames, root_blames}
 use Rattle.swift_script.proofs.start.fault_of.Goals as goal

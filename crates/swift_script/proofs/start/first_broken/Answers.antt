@@ -1,7 +1,4 @@
-use Rattle.std.proofs.Common.{sym, ◌∙◌}
-use Rattle.swift_script.specs.Accepted.{RootWaits}
-use Rattle.swift_script.specs.BrokenInside.{NoneEarlier}
-use Rattle.swift_script.specs.ScriptInvariant.{tree_of}
+use Rattle.swift_script.proofs.Prelude.{sym, ◌∙◌, RootWaits, NoneEarlier, tree_of}
 use Rattle.swift_script.proofs.Finishing.{none_waits, some_at}
 use Rattle.swift_script.proofs.start.first_broken.Goals as goal
 

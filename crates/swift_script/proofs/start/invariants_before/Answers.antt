@@ -1,4 +1,4 @@
-use Rattle.std.proofs.Common.{sym, ◌∙◌, arith}
+use Rattle.swift_script.proofs.Prelude.{sym, ◌∙◌, arith}
 use Rattle.swift_script.proofs.Counting.{counted, passed_over}
 use Rattle.swift_script.proofs.start.invariants_before.Goals as goal
 use Rattle.swift_script.proofs.start.invariants_before.Goals.{then-is_some, else-is_some}

@@ -1,7 +1,4 @@
-use Rattle.std.proofs.Common.{◌≡◌, ◌≤◌, map, take}
-use Rattle.std.specs.List.{count_by}
-use Rattle.std.specs.Prelude.{is_some}
-use Rattle.script_grammar.specs.Tree.{view_actor}
+use Rattle.swift_script.proofs.Prelude.{◌≡◌, ◌≤◌, map, take, count_by, is_some, view_actor}
 use Rattle.swift_script.proofs.start.invariants_before.Given as goal
 
 abbrev pub invariant-loop-k : goal.invariant-loop-k

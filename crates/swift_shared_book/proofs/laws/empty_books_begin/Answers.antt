@@ -1,4 +1,4 @@
-use Rattle.swift_course.proofs.Parts.{run_begins}
+use Rattle.swift_shared_book.proofs.Prelude.{run_begins}
 use Rattle.swift_shared_book.proofs.laws.empty_books_begin.Goals as goal
 
 pub returns : goal.returns

@@ -1,5 +1,4 @@
-use Rattle.std.proofs.Common.{◌≡◌, map, take}
-use Rattle.script_code.specs.Seen.{rows_of}
+use Rattle.swift_steps.proofs.Prelude.{◌≡◌, map, take, rows_of}
 use Rattle.swift_steps.proofs.fields.copy_all_fields.Given as goal
 
 abbrev pub invariant-loop-rows : goal.invariant-loop-rows

@@ -1,5 +1,4 @@
-use Rattle.std.proofs.Common.{◌≡◌, take}
-use Rattle.script_code.specs.Seen.{rows_of}
+use Rattle.swift_steps.proofs.Prelude.{◌≡◌, take, rows_of}
 use Rattle.swift_steps.proofs.fields.copy_fields.Given as goal
 
 abbrev pub invariant-loop-row : goal.invariant-loop-row

@@ -1,9 +1,5 @@
-use Rattle.std.proofs.Common.{◌+◌, List, take, take_all, sym, subst, arith}
-use Rattle.std.specs.Prelude.{Option}
-use Rattle.std.specs.List.{AllZip}
+use Rattle.swift_steps.proofs.Prelude.{◌+◌, List, take, take_all, sym, subst, arith, Option, AllZip, NextTurn, IsSameIf}
 use Rattle.std.proofs.lemmas.List.Elements.{all_zip_more}
-use Rattle.swift_steps.specs.declared.next_turn.NextTurn.{NextTurn}
-use Rattle.swift_steps.specs.NextTurns.{IsSameIf}
 use Rattle.swift_steps.proofs.next_turn.copy_all.Goals as goal
 
 pub loop-ready-preserved : goal.loop-ready-preserved

@@ -1,6 +1,4 @@
-use Rattle.std.proofs.Common.{take}
-use Rattle.std.specs.List.{AllZip}
-use Rattle.swift_steps.specs.NextTurns.{IsSameIf}
+use Rattle.swift_steps.proofs.Prelude.{take, AllZip, IsSameIf}
 use Rattle.swift_steps.proofs.next_turn.copy_all.Given as goal
 
 abbrev pub invariant-loop-ready : goal.invariant-loop-ready

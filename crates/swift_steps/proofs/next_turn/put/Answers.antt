@@ -1,7 +1,4 @@
-use Rattle.std.proofs.Common.{◌∙◌, ◌<◌, List, Option, Some, length, ap, arith}
-use Rattle.std.specs.Prelude.{if◌then◌else◌, ◌==◌}
-use Rattle.swift_steps.specs.declared.next_turn.NextTurn.{NextTurn}
-use Rattle.swift_steps.specs.NextTurns.{given_at}
+use Rattle.swift_steps.proofs.Prelude.{◌∙◌, ◌<◌, List, Option, Some, length, ap, arith, if◌then◌else◌, ◌==◌, NextTurn, given_at}
 use Rattle.swift_steps.proofs.Given.{given_none, given_set}
 use Rattle.swift_steps.proofs.next_turn.put.Goals as goal
 

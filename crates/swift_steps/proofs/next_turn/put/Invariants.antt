@@ -1,5 +1,4 @@
-use Rattle.std.proofs.Common.{◌≡◌, ℕ, ◌+◌, ◌-◌, vec_len}
-use Rattle.swift_steps.specs.NextTurns.{given_at}
+use Rattle.swift_steps.proofs.Prelude.{◌≡◌, ℕ, ◌+◌, ◌-◌, vec_len, given_at}
 use Rattle.swift_steps.proofs.next_turn.put.Given as goal
 
 abbrev pub invariant-loop-tasks : goal.invariant-loop-tasks

@@ -1,12 +1,4 @@
-use Rattle.std.proofs.Common.{◌≡◌, ℕ, Option, List, [], map, reverse, sym, subst, ap, ◌∙◌, rules}
-use Rattle.swift_history.specs.Histories.{with_jobs}
-use Rattle.swift_history.specs.TurnEnds.{JobFacts}
-use Rattle.swift_job.specs.Job.{JobView}
-use Rattle.swift_turn.specs.Body.{BodyView}
-use Rattle.std.specs.List.{AllByRecursion}
-use Rattle.swift_tasks.specs.Books.{IsJobOf}
-use Rattle.swift_history.specs.Jobs.{job_facts}
-use Rattle.swift_steps.specs.NextTurns.{AreGiven}
+use Rattle.swift_steps.proofs.Prelude.{◌≡◌, ℕ, Option, List, [], map, reverse, sym, subst, ap, ◌∙◌, rules, with_jobs, JobFacts, JobView, BodyView, AllByRecursion, IsJobOf, job_facts, AreGiven}
 use Rattle.swift_steps.proofs.Given.{all_turned, given_step, of_step, twice}
 use Rattle.swift_steps.proofs.next_turn.put_all.Goals as goal
 

@@ -1,11 +1,4 @@
-use Rattle.std.proofs.Common.{◌≡◌, ℕ, Option, map, reverse, vec_len}
-use Rattle.swift_history.specs.Histories.{with_jobs}
-use Rattle.swift_history.specs.TurnEnds.{JobFacts}
-use Rattle.std.specs.List.{AllByRecursion}
-use Rattle.swift_script.specs.Scripts.{ScriptView}
-use Rattle.swift_tasks.specs.Books.{IsJobOf}
-use Rattle.swift_history.specs.Jobs.{job_facts}
-use Rattle.swift_steps.specs.NextTurns.{AreGiven, AreOf}
+use Rattle.swift_steps.proofs.Prelude.{◌≡◌, ℕ, Option, map, reverse, vec_len, with_jobs, JobFacts, AllByRecursion, ScriptView, IsJobOf, job_facts, AreGiven, AreOf}
 use Rattle.swift_steps.proofs.next_turn.put_all.Given as goal
 
 -- what is there is what the jobs that were put lead to, and the others lead on to the end; all are of one script

@@ -1,7 +1,4 @@
-use Rattle.std.proofs.Common.{◌≡◌, ◌∙◌, ◌<◌, Option, None, length, set, ap, arith}
-use Rattle.std.proofs.lemmas.List.{get_or_read_under}
-use Rattle.swift_steps.specs.declared.next_turn.NextTurn.{NextTurn}
-use Rattle.swift_steps.specs.NextTurns.{given_at}
+use Rattle.swift_steps.proofs.Prelude.{◌≡◌, ◌∙◌, ◌<◌, Option, None, length, set, ap, arith, get_or_read_under, NextTurn, given_at}
 use Rattle.swift_steps.proofs.Given.{given_set}
 use Rattle.swift_steps.proofs.next_turn.take.Goals as goal
 

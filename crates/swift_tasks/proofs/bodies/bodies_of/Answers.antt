@@ -1,9 +1,4 @@
-use Rattle.std.proofs.Common.{ℕ, sym, subst, suc, add-one, take, List, [], ◌∷◌, ◌++◌}
-use Rattle.std.specs.Prelude.{Option}
-use Rattle.std.specs.Arc.{arc_value}
-use Rattle.swift_interpreter.specs.Frames.{effect_views}
-use Rattle.swift_turn.specs.Body.{BodyView}
-use Rattle.swift_tasks.specs.BodiesInside.{AreBodiesOf, CanStart}
+use Rattle.swift_tasks.proofs.Prelude.{ℕ, sym, subst, suc, add-one, take, List, [], ◌∷◌, ◌++◌, Option, arc_value, effect_views, BodyView, AreBodiesOf, CanStart}
 use Rattle.swift_tasks.proofs.BodiesMade.{effect_at, bodies_more}
 use Rattle.swift_tasks.proofs.bodies.bodies_of.Goals as goal
 

@@ -1,9 +1,4 @@
-use Rattle.std.proofs.Common.{◌+◌, List, take, take_all, sym, subst, arith}
-use Rattle.std.specs.Prelude.{Option}
-use Rattle.std.specs.List.{AllZip}
-use Rattle.std.proofs.lemmas.List.Elements.{all_zip_more}
-use Rattle.swift_tasks.specs.declared.held.WaitingTask.{WaitingTask}
-use Rattle.swift_tasks.specs.BookInvariant.{IsSameHeld}
+use Rattle.swift_tasks.proofs.Prelude.{◌+◌, List, take, take_all, sym, subst, arith, Option, AllZip, all_zip_more, WaitingTask, IsSameHeld}
 use Rattle.swift_tasks.proofs.book.all_held.Goals as goal
 
 pub loop-waiting-preserved : goal.loop-waiting-preserved

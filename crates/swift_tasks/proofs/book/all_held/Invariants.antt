@@ -1,6 +1,4 @@
-use Rattle.std.proofs.Common.{take}
-use Rattle.std.specs.List.{AllZip}
-use Rattle.swift_tasks.specs.BookInvariant.{IsSameHeld}
+use Rattle.swift_tasks.proofs.Prelude.{take, AllZip, IsSameHeld}
 use Rattle.swift_tasks.proofs.book.all_held.Given as goal
 
 abbrev pub invariant-loop-waiting : goal.invariant-loop-waiting

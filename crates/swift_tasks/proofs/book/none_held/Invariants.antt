@@ -1,5 +1,4 @@
-use Rattle.std.proofs.Common.{◌≡◌, ◌-◌, ◌≤◌, vec_len, replicate}
-use Rattle.std.specs.Prelude.{None, vec_capacity}
+use Rattle.swift_tasks.proofs.Prelude.{◌≡◌, ◌-◌, ◌≤◌, vec_len, replicate, None, vec_capacity}
 use Rattle.swift_tasks.proofs.book.none_held.Given as goal
 
 abbrev pub invariant-fill : goal.invariant-fill

@@ -1,4 +1,4 @@
-use Rattle.std.proofs.Common.{arith}
+use Rattle.swift_tasks.proofs.Prelude.{arith}
 use Rattle.swift_tasks.proofs.OwnTasks.{own_tasks_few}
 use Rattle.swift_tasks.proofs.checks.counts_of.Goals as goal
 

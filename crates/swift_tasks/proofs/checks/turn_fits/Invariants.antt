@@ -1,8 +1,4 @@
-use Rattle.std.proofs.Common.{◌≡◌, ◌+◌, ◌≤◌, drop}
-use Rattle.swift_interpreter.specs.Frames.{effect_views}
-use Rattle.swift_interpreter.specs.TurnStates.{exit_view}
-use Rattle.swift_history.specs.Checks.{fits_turn}
-use Rattle.swift_tasks.specs.CountedInside.{counters_of}
+use Rattle.swift_tasks.proofs.Prelude.{◌≡◌, ◌+◌, ◌≤◌, drop, effect_views, exit_view, fits_turn, counters_of}
 use Rattle.swift_tasks.proofs.checks.turn_fits.Given as goal
 
 abbrev pub invariant-loop-effect : goal.invariant-loop-effect

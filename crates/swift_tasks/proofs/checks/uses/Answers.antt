@@ -1,5 +1,4 @@
-use Rattle.std.proofs.Common.{arith, ◌≤◌}
-use Rattle.swift_events.specs.Relations.{opened_by, is_closed}
+use Rattle.swift_tasks.proofs.Prelude.{arith, ◌≤◌, opened_by, is_closed}
 use Rattle.swift_tasks.proofs.Tests.{new_is_open}
 use Rattle.swift_tasks.proofs.checks.uses.Goals as goal
 

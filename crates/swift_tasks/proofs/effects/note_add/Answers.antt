@@ -1,5 +1,4 @@
-use Rattle.std.proofs.Common.{◌≡◌, ◌∙◌, sym, true, false}
-use Rattle.swift_history.specs.TurnEnds.{is_left_out}
+use Rattle.swift_tasks.proofs.Prelude.{◌≡◌, ◌∙◌, sym, true, false, is_left_out}
 use Rattle.swift_tasks.proofs.effects.note_add.Goals as goal
 
 pub returns-then-left_out-clause-log : goal.returns-then-left_out-clause-log

@@ -1,8 +1,4 @@
-use Rattle.std.proofs.Common.{◌≡◌, ◌∙◌, ap, arith, List}
-use Rattle.swift_events.specs.declared.event.Event.{Event}
-use Rattle.swift_events.specs.Events.{task_of}
-use Rattle.swift_events.specs.Lives.{life_of, room_in, room_held}
-use Rattle.swift_ledger.specs.Ledgers.{LedgerView}
+use Rattle.swift_tasks.proofs.Prelude.{◌≡◌, ◌∙◌, ap, arith, List, Event, task_of, life_of, room_in, room_held, LedgerView}
 use Rattle.swift_tasks.proofs.Grows.{stage-push}
 use Rattle.swift_tasks.proofs.effects.note_aside.Goals as goal
 

@@ -1,11 +1,5 @@
-use Rattle.std.proofs.Common.{◌∙◌, ap, sym, false, [], ◌∷◌, ◌++◌, append-nil}
-use Rattle.swift_types.specs.declared.id.TaskId.{TaskId}
-use Rattle.swift_types.specs.declared.priority.Priority.{Priority}
-use Rattle.swift_events.specs.declared.event.Event.TheVariants.{Free}
-use Rattle.swift_events.specs.Events.{tasks_of}
-use Rattle.swift_interpreter.specs.Frames.{invocation_view}
-use Rattle.swift_history.specs.TurnEnds.{task, cancel_events, is_left_out}
-use Rattle.swift_tasks.specs.ApplyingInside.{add_events}
+use Rattle.swift_tasks.proofs.Prelude.{◌∙◌, ap, sym, false, [], ◌∷◌, ◌++◌, TaskId, Priority, Free, tasks_of, invocation_view, task, cancel_events, is_left_out, add_events}
+use Rattle.std.proofs.Common.{append-nil}
 use Rattle.swift_tasks.proofs.JobsMade.{added_jobs, free_jobs, started_fits, added_fit}
 use Rattle.swift_tasks.proofs.effects.note_effect.Goals as goal
 

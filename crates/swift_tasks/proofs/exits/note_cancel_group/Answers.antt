@@ -1,9 +1,4 @@
-use Rattle.std.proofs.Common.{ap, sym, subst, ◌++◌, ◌∷◌, [], List}
-use Rattle.std.specs.Prelude.{IsTrue}
-use Rattle.swift_events.specs.declared.event.Event.{Event}
-use Rattle.swift_events.specs.declared.event.Event.TheVariants.{CancelGroup}
-use Rattle.swift_events.specs.Relations.{is_open_group}
-use Rattle.swift_ledger.specs.Ledgers.{LedgerView, IsMade}
+use Rattle.swift_tasks.proofs.Prelude.{ap, sym, subst, ◌++◌, ◌∷◌, [], List, IsTrue, Event, CancelGroup, is_open_group, LedgerView, IsMade}
 use Rattle.swift_tasks.proofs.Grows.{made-push, grows_cancel_group, open_stays}
 use Rattle.swift_tasks.proofs.exits.note_cancel_group.Goals as goal
 

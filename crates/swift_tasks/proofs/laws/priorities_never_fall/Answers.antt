@@ -1,8 +1,6 @@
-use Rattle.std.proofs.Common.{subst, List}
-use Rattle.std.proofs.lemmas.List.Elements.{filter_map-append}
+use Rattle.swift_tasks.proofs.Prelude.{subst, List, filter_map-append, link_in, links_of}
 use Rattle.swift_escalation.specs.Waits.{IsPriority}
 use Rattle.swift_escalation.specs.declared.waits.PriorityEvent.{PriorityEvent as Link}
-use Rattle.swift_events.specs.Relations.{link_in, links_of}
 use Rattle.swift_tasks.proofs.laws.priorities_never_fall.Goals as goal
 
 pub returns : goal.returns

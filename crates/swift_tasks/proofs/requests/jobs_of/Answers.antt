@@ -1,13 +1,4 @@
-use Rattle.std.proofs.Common.{arith, ◌≡◌, ◌∙◌, ap, [], ◌∷◌, ◌++◌, length, sym, subst}
-use Rattle.std.specs.Prelude.{Option, Some, None, map, reverse}
-use Rattle.std.specs.List.{AllByRecursion}
-use Rattle.swift_types.specs.declared.outcome.Resume.TheVariants.{Go}
-use Rattle.swift_job.specs.Job.{JobView}
-use Rattle.swift_turn.specs.Body.{BodyView, IsRunning}
-use Rattle.swift_tasks.specs.declared.held.WaitingTask.{WaitingTask}
-use Rattle.swift_tasks.specs.BookInvariant.{FitsScript}
-use Rattle.swift_tasks.specs.Books.{IsJobOf}
-use Rattle.swift_history.specs.Jobs.{job_facts}
+use Rattle.swift_tasks.proofs.Prelude.{arith, ◌≡◌, ◌∙◌, ap, [], ◌∷◌, ◌++◌, length, sym, subst, Option, Some, None, map, reverse, AllByRecursion, Go, JobView, BodyView, IsRunning, WaitingTask, FitsScript, IsJobOf, job_facts}
 use Rattle.swift_tasks.proofs.HeldJobs.{job_step, none_step, job_end, all-front, all-back, all-append, all-reverse}
 use Rattle.swift_tasks.proofs.requests.jobs_of.Goals as goal
 

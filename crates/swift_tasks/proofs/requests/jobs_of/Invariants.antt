@@ -1,11 +1,4 @@
-use Rattle.std.proofs.Common.{◌≡◌, ◌+◌, ◌≤◌, ◌++◌, vec_len}
-use Rattle.std.specs.Prelude.{map, reverse, vec_capacity}
-use Rattle.std.specs.List.{AllByRecursion}
-use Rattle.swift_types.specs.declared.limits.TheConstants.{TASKS}
-use Rattle.swift_script.specs.Scripts.{ScriptView}
-use Rattle.swift_tasks.specs.Books.{IsJobOf, jobs_held}
-use Rattle.swift_history.specs.Jobs.{job_facts}
-use Rattle.swift_tasks.specs.BookInvariant.{FitsScript, held_views}
+use Rattle.swift_tasks.proofs.Prelude.{◌≡◌, ◌+◌, ◌≤◌, ◌++◌, vec_len, map, reverse, vec_capacity, AllByRecursion, TASKS, ScriptView, IsJobOf, jobs_held, job_facts, FitsScript, held_views}
 use Rattle.swift_tasks.proofs.requests.jobs_of.Given as goal
 
 abbrev pub invariant-loop-waiting : goal.invariant-loop-waiting

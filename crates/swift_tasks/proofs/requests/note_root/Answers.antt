@@ -1,6 +1,4 @@
-use Rattle.std.proofs.Common.{ap, sym, subst, List}
-use Rattle.swift_events.specs.declared.event.Event.{Event}
-use Rattle.swift_ledger.specs.Ledgers.{LedgerView, IsMade}
+use Rattle.swift_tasks.proofs.Prelude.{ap, sym, subst, List, Event, LedgerView, IsMade}
 use Rattle.swift_tasks.proofs.Pushes.{root_made}
 use Rattle.swift_tasks.proofs.requests.note_root.Goals as goal
 

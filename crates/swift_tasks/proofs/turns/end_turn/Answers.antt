@@ -1,18 +1,4 @@
-use Rattle.std.proofs.Common.{◌≡◌, ℕ, ◌∙◌, refl, ap, sym, subst, arith, List, ◌++◌, length, take}
-use Rattle.std.specs.Prelude.{Option, map}
-use Rattle.std.proofs.lemmas.List.{length-map}
-use Rattle.swift_script.specs.Scripts.{ScriptView, root_count}
-use Rattle.swift_interpreter.specs.Turn.{EffectView, ExitView}
-use Rattle.swift_interpreter.specs.Frames.{effect_views}
-use Rattle.swift_interpreter.specs.TurnStates.{exit_view}
-use Rattle.swift_events.specs.declared.event.Event.{Event}
-use Rattle.swift_events.specs.Relations.{waiters_of}
-use Rattle.swift_history.specs.TurnEnds.{JobFacts, WaitingTaskView, AfterTurn, gives}
-use Rattle.swift_tasks.specs.ApplyingInside.{AreMade, CanLeave, TurnLeaves, done_log, written_log}
-use Rattle.swift_tasks.specs.BookInvariant.{held_views}
-use Rattle.swift_tasks.specs.Books.{HoldsWaiting}
-use Rattle.swift_history.specs.Jobs.{job_facts}
-use Rattle.swift_tasks.specs.CountedInside.{UnopenedAreNotClosed}
+use Rattle.swift_tasks.proofs.Prelude.{◌≡◌, ℕ, ◌∙◌, refl, ap, sym, subst, arith, List, ◌++◌, length, take, Option, map, length-map, ScriptView, root_count, EffectView, ExitView, effect_views, exit_view, Event, waiters_of, JobFacts, WaitingTaskView, AfterTurn, gives, AreMade, CanLeave, TurnLeaves, done_log, written_log, held_views, HoldsWaiting, job_facts, UnopenedAreNotClosed}
 use Rattle.swift_tasks.proofs.GoesOn.{goes_kept, no_effects}
 use Rattle.swift_tasks.proofs.TurnIs.{made_by, follows_turn, few_since, stood_before, turn_is, written_waiters}
 use Rattle.swift_tasks.proofs.TurnEndKept.{end_kept}

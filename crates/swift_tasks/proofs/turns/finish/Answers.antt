@@ -1,10 +1,4 @@
-use Rattle.std.proofs.Common.{◌≡◌, ℕ, ◌-◌, ◌≤◌, ◌∙◌, ap, sym, subst, arith, List, ◌++◌, length, take, replicate}
-use Rattle.std.specs.Prelude.{None, map}
-use Rattle.std.specs.List.{AllByRecursion}
-use Rattle.swift_history.specs.TurnEnds.{JobFacts, AfterTurn, gives}
-use Rattle.swift_tasks.specs.ApplyingInside.{AreMade, follows_of, followed_from}
-use Rattle.swift_tasks.specs.BookInvariant.{FitsScript}
-use Rattle.swift_history.specs.Jobs.{job_facts}
+use Rattle.swift_tasks.proofs.Prelude.{◌≡◌, ℕ, ◌-◌, ◌≤◌, ◌∙◌, ap, sym, subst, arith, List, ◌++◌, length, take, replicate, None, map, AllByRecursion, JobFacts, AfterTurn, gives, AreMade, follows_of, followed_from, FitsScript, job_facts}
 use Rattle.swift_tasks.proofs.HeldJobs.{all-append}
 use Rattle.swift_tasks.proofs.FinishedTurn.{finished, finished_jobs, finished_there, all_none}
 use Rattle.swift_tasks.proofs.WakesKept.{behind}

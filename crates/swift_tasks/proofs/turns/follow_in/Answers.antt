@@ -1,8 +1,4 @@
-use Rattle.std.proofs.Common.{sym, subst, List, ◌++◌, length, drop}
-use Rattle.std.specs.Prelude.{Option}
-use Rattle.std.specs.List.{AllByRecursion}
-use Rattle.swift_tasks.specs.declared.held.WaitingTask.{WaitingTask}
-use Rattle.swift_tasks.specs.BookInvariant.{FitsScript}
+use Rattle.swift_tasks.proofs.Prelude.{sym, subst, List, ◌++◌, length, drop, Option, AllByRecursion, WaitingTask, FitsScript}
 use Rattle.swift_tasks.proofs.HeldJobs.{all-append}
 use Rattle.swift_tasks.proofs.HeldTaken.{all-take, all-drop}
 use Rattle.swift_tasks.proofs.turns.follow_in.Goals as goal

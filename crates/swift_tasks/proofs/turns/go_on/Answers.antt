@@ -1,7 +1,4 @@
-use Rattle.std.proofs.Common.{ap, sym, subst, List}
-use Rattle.swift_events.specs.declared.event.Event.{Event}
-use Rattle.swift_events.specs.declared.event.Event.TheVariants.{Apply}
-use Rattle.swift_ledger.specs.Ledgers.{LedgerView, IsMade}
+use Rattle.swift_tasks.proofs.Prelude.{ap, sym, subst, List, Event, Apply, LedgerView, IsMade}
 use Rattle.swift_tasks.proofs.Grows.{made-push}
 use Rattle.swift_tasks.proofs.turns.go_on.Goals as goal
 

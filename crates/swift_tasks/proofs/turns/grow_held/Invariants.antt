@@ -1,5 +1,4 @@
-use Rattle.std.proofs.Common.{◌≡◌, ◌+◌, ◌≤◌, ◌++◌, vec_len}
-use Rattle.std.specs.Prelude.{None, replicate, vec_capacity}
+use Rattle.swift_tasks.proofs.Prelude.{◌≡◌, ◌+◌, ◌≤◌, ◌++◌, vec_len, None, replicate, vec_capacity}
 use Rattle.swift_tasks.proofs.turns.grow_held.Given as goal
 
 abbrev pub invariant-grow : goal.invariant-grow

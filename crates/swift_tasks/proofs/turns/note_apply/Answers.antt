@@ -1,11 +1,4 @@
-use Rattle.std.proofs.Common.{◌≡◌, ℕ, true, ◌∙◌, ap, sym, refl, subst, arith, List, [], ◌∷◌, ◌++◌}
-use Rattle.swift_events.specs.declared.event.Event.{Event}
-use Rattle.swift_events.specs.declared.event.Event.TheVariants.{Apply}
-use Rattle.swift_events.specs.Events.{tasks_of}
-use Rattle.swift_events.specs.Lives.{life_of, room_in, room_held}
-use Rattle.swift_events.proofs.LogLemmas.{life_of-push_same, tasks_of-push_other}
-use Rattle.swift_ledger.specs.Ledgers.{LedgerView, IsMade}
-use Rattle.swift_history.specs.Checks.{counters, fits_turn}
+use Rattle.swift_tasks.proofs.Prelude.{◌≡◌, ℕ, true, ◌∙◌, ap, sym, refl, subst, arith, List, [], ◌∷◌, ◌++◌, Event, Apply, tasks_of, life_of, room_in, room_held, life_of-push_same, tasks_of-push_other, LedgerView, IsMade, counters, fits_turn}
 use Rattle.swift_tasks.proofs.Grows.{made-push}
 use Rattle.swift_tasks.proofs.Counting.{fits_applied}
 use Rattle.swift_tasks.proofs.turns.note_apply.Goals as goal

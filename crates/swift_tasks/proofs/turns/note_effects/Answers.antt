@@ -1,16 +1,5 @@
-use Rattle.std.proofs.Common.{◌≡◌, ℕ, ◌+◌, ◌∙◌, refl, ap, sym, subst, suc, add-one, drop, arith, List, ◌∷◌, ◌++◌, append_assoc, append-nil}
-use Rattle.std.proofs.lemmas.List.{reverse-reverse}
-use Rattle.std.specs.Prelude.{Option, map, reverse}
-use Rattle.swift_interpreter.specs.Turn.{EffectView, ExitView}
-use Rattle.swift_interpreter.specs.Frames.{effect_view, effect_views}
-use Rattle.swift_turn.specs.Body.{BodyView}
-use Rattle.swift_events.specs.declared.event.Event.{Event}
-use Rattle.swift_events.specs.Room.{reserved_of}
-use Rattle.swift_ledger.specs.Ledgers.{IsMade}
-use Rattle.swift_history.specs.TurnEnds.{JobFacts, effect_events, effect_jobs, log_after, jobs_made}
-use Rattle.swift_tasks.specs.ApplyingInside.{CanTake, CanTakeAll}
-use Rattle.swift_tasks.specs.BodiesInside.{AreBodiesOf}
-use Rattle.swift_history.specs.Jobs.{job_facts}
+use Rattle.swift_tasks.proofs.Prelude.{◌≡◌, ℕ, ◌+◌, ◌∙◌, refl, ap, sym, subst, suc, add-one, drop, arith, List, ◌∷◌, ◌++◌, append_assoc, reverse-reverse, Option, map, reverse, EffectView, ExitView, effect_view, effect_views, BodyView, Event, reserved_of, IsMade, JobFacts, effect_events, effect_jobs, log_after, jobs_made, CanTake, CanTakeAll, AreBodiesOf, job_facts}
+use Rattle.std.proofs.Common.{append-nil}
 use Rattle.swift_tasks.proofs.Grows.{effect_grows}
 use Rattle.swift_tasks.proofs.EffectsTaken.{drop_at, none_left, take_first, take_rest, take_none, last_first, first_body, rest_bodies}
 use Rattle.swift_tasks.proofs.turns.note_effects.Goals as goal

@@ -1,15 +1,4 @@
-use Rattle.std.proofs.Common.{◌≡◌, ◌+◌, ◌≤◌, ◌++◌, vec_len, drop}
-use Rattle.std.specs.Prelude.{map, reverse, vec_capacity}
-use Rattle.std.specs.List.{AllByRecursion}
-use Rattle.swift_script.specs.Scripts.{ScriptView, root_count}
-use Rattle.swift_interpreter.specs.Turn.{ExitView}
-use Rattle.swift_interpreter.specs.Frames.{effect_views}
-use Rattle.swift_ledger.specs.Ledgers.{IsMade}
-use Rattle.swift_history.specs.TurnEnds.{log_after, jobs_made}
-use Rattle.swift_tasks.specs.ApplyingInside.{CanTakeAll}
-use Rattle.swift_tasks.specs.BodiesInside.{AreBodiesOf}
-use Rattle.swift_tasks.specs.Books.{IsJobOf}
-use Rattle.swift_history.specs.Jobs.{job_facts}
+use Rattle.swift_tasks.proofs.Prelude.{◌≡◌, ◌+◌, ◌≤◌, ◌++◌, vec_len, drop, map, reverse, vec_capacity, AllByRecursion, ScriptView, root_count, ExitView, effect_views, IsMade, log_after, jobs_made, CanTakeAll, AreBodiesOf, IsJobOf, job_facts}
 use Rattle.swift_tasks.proofs.turns.note_effects.Given as goal
 
 abbrev pub invariant-loop-effect : goal.invariant-loop-effect

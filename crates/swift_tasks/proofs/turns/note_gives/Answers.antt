@@ -1,13 +1,4 @@
-use Rattle.std.proofs.Common.{◌≡◌, ℕ, ◌+◌, ◌∙◌, ap, sym, subst, suc, add-one, drop, arith, List, [], ◌∷◌, ◌++◌, append_assoc}
-use Rattle.std.specs.Prelude.{map}
-use Rattle.swift_types.specs.declared.id.TaskId.{TaskId}
-use Rattle.swift_types.specs.declared.outcome.Resume.{Resume}
-use Rattle.swift_events.specs.declared.event.Event.{Event}
-use Rattle.swift_events.specs.declared.event.Event.TheVariants.{Give}
-use Rattle.swift_ledger.specs.Ledgers.{LedgerView}
-use Rattle.swift_history.specs.TurnEnds.{JobFacts, gives, task}
-use Rattle.swift_tasks.specs.ApplyingInside.{AreMade}
-use Rattle.swift_history.specs.Jobs.{job_facts}
+use Rattle.swift_tasks.proofs.Prelude.{◌≡◌, ℕ, ◌+◌, ◌∙◌, ap, sym, subst, suc, add-one, drop, arith, List, [], ◌∷◌, ◌++◌, append_assoc, map, TaskId, Resume, Event, Give, LedgerView, JobFacts, gives, task, AreMade, job_facts}
 use Rattle.swift_tasks.proofs.EffectsTaken.{drop_at}
 use Rattle.swift_tasks.proofs.Grows.{made-push}
 use Rattle.swift_tasks.proofs.JobsGiven.{made_on}

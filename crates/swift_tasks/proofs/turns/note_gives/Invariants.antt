@@ -1,8 +1,4 @@
-use Rattle.std.proofs.Common.{◌≡◌, ◌+◌, ◌≤◌, ◌++◌, drop}
-use Rattle.std.specs.Prelude.{map}
-use Rattle.swift_history.specs.TurnEnds.{gives}
-use Rattle.swift_tasks.specs.ApplyingInside.{AreMade}
-use Rattle.swift_history.specs.Jobs.{job_facts}
+use Rattle.swift_tasks.proofs.Prelude.{◌≡◌, ◌+◌, ◌≤◌, ◌++◌, drop, map, gives, AreMade, job_facts}
 use Rattle.swift_tasks.proofs.turns.note_gives.Given as goal
 
 abbrev pub invariant-loop-job : goal.invariant-loop-job

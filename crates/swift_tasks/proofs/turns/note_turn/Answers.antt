@@ -1,10 +1,4 @@
-use Rattle.std.proofs.Common.{◌∙◌, ap, subst, List, ◌++◌}
-use Rattle.swift_interpreter.specs.Frames.{effect_views}
-use Rattle.swift_interpreter.specs.TurnStates.{exit_view}
-use Rattle.swift_events.specs.declared.event.Event.{Event}
-use Rattle.swift_events.specs.Lives.{life_of}
-use Rattle.swift_history.specs.TurnEnds.{exit_events, exit_resume}
-use Rattle.swift_tasks.specs.ApplyingInside.{CanLeave}
+use Rattle.swift_tasks.proofs.Prelude.{◌∙◌, ap, subst, List, ◌++◌, effect_views, exit_view, Event, life_of, exit_events, exit_resume, CanLeave}
 use Rattle.swift_tasks.proofs.TurnEndKept.{done_is, done_unended}
 use Rattle.swift_tasks.proofs.turns.note_turn.Goals as goal
 

@@ -1,19 +1,4 @@
-use Rattle.std.proofs.Common.{ℕ, ◌∙◌, ap, sym, subst, arith, List, length}
-use Rattle.std.specs.Prelude.{Option, map}
-use Rattle.swift_types.specs.declared.id.TaskId.{TaskId}
-use Rattle.swift_types.specs.declared.outcome.Resume.{Resume}
-use Rattle.swift_script.specs.Scripts.{ScriptView}
-use Rattle.swift_interpreter.specs.Turn.{EffectView, ExitView}
-use Rattle.swift_interpreter.specs.Frames.{effect_views}
-use Rattle.swift_interpreter.specs.TurnStates.{exit_view}
-use Rattle.swift_turn.specs.Body.{BodyView, CanAdvance, AdvancesTo}
-use Rattle.swift_events.specs.declared.event.Event.{Event}
-use Rattle.swift_events.specs.Relations.{waiters_of}
-use Rattle.swift_history.specs.Checks.{counters}
-use Rattle.swift_history.specs.TurnEnds.{JobFacts, WaitingTaskView}
-use Rattle.swift_tasks.specs.ApplyingInside.{TurnLeaves, BookEnds}
-use Rattle.swift_tasks.specs.BookInvariant.{held_views}
-use Rattle.swift_history.specs.Jobs.{job_facts}
+use Rattle.swift_tasks.proofs.Prelude.{ℕ, ◌∙◌, ap, sym, subst, arith, List, length, Option, map, TaskId, Resume, ScriptView, EffectView, ExitView, effect_views, exit_view, BodyView, CanAdvance, AdvancesTo, Event, waiters_of, counters, JobFacts, WaitingTaskView, TurnLeaves, BookEnds, held_views, job_facts}
 use Rattle.swift_tasks.proofs.Fitting.{advances}
 use Rattle.swift_tasks.proofs.TurnTaken.{leaves_of, ends_of}
 use Rattle.swift_tasks.proofs.turns.take_turn.Goals as goal

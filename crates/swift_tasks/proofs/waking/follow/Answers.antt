@@ -1,13 +1,4 @@
-use Rattle.std.proofs.Common.{sym, refl, subst, arith, [], ◌∷◌}
-use Rattle.std.specs.Prelude.{Some}
-use Rattle.std.specs.List.{AllByRecursion}
-use Rattle.swift_turn.specs.Body.{GoesOn}
-use Rattle.swift_job.specs.Job.{JobView}
-use Rattle.swift_turn.specs.Body.{BodyView, at_rest}
-use Rattle.swift_history.specs.TurnEnds.{resume_at}
-use Rattle.swift_tasks.specs.declared.held.WaitingTask.{WaitingTask}
-use Rattle.swift_tasks.specs.BookInvariant.{FitsScript}
-use Rattle.swift_tasks.specs.Books.{IsJobOf}
+use Rattle.swift_tasks.proofs.Prelude.{sym, refl, subst, arith, [], ◌∷◌, Some, AllByRecursion, GoesOn, JobView, BodyView, at_rest, resume_at, WaitingTask, FitsScript, IsJobOf}
 use Rattle.swift_tasks.proofs.HeldJobs.{all-append}
 use Rattle.swift_tasks.proofs.HeldTaken.{all-set, held_follows}
 use Rattle.swift_tasks.proofs.waking.follow.Goals as goal

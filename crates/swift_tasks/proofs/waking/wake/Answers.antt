@@ -1,8 +1,4 @@
-use Rattle.std.proofs.Common.{◌∙◌, ap, sym}
-use Rattle.std.specs.Prelude.{slice_set}
-use Rattle.swift_types.specs.declared.outcome.Resume.{Resume}
-use Rattle.swift_tasks.specs.declared.held.WaitingTask.{WaitingTask}
-use Rattle.swift_history.specs.Jobs.{job_facts}
+use Rattle.swift_tasks.proofs.Prelude.{◌∙◌, ap, sym, slice_set, Resume, WaitingTask, job_facts}
 use Rattle.swift_tasks.proofs.HeldTaken.{job_at, wake_taken}
 use Rattle.swift_tasks.proofs.waking.wake.Goals as goal
 

@@ -1,8 +1,4 @@
-use Rattle.std.proofs.Common.{ℕ, ◌+◌, ◌∙◌, ap, sym, add-one, drop, arith, List}
-use Rattle.swift_types.specs.declared.id.TaskId.{TaskId}
-use Rattle.swift_events.specs.Relations.{waiters_of}
-use Rattle.swift_history.specs.TurnEnds.{AfterTurn, wake, wake_each}
-use Rattle.swift_tasks.specs.ApplyingInside.{follows_of}
+use Rattle.swift_tasks.proofs.Prelude.{ℕ, ◌+◌, ◌∙◌, ap, sym, add-one, drop, arith, List, TaskId, waiters_of, AfterTurn, wake, wake_each, follows_of}
 use Rattle.swift_tasks.proofs.HeldTaken.{wake_next, got_in, got_none}
 use Rattle.swift_tasks.proofs.waking.wake_waiters.Goals as goal
 

@@ -1,12 +1,4 @@
-use Rattle.std.proofs.Common.{◌≡◌, ◌+◌, ◌-◌, ◌≤◌, vec_len, drop}
-use Rattle.std.specs.Prelude.{length, vec_capacity}
-use Rattle.std.specs.List.{AllByRecursion}
-use Rattle.swift_script.specs.Scripts.{ScriptView}
-use Rattle.swift_events.specs.Relations.{waiters_of}
-use Rattle.swift_history.specs.TurnEnds.{wake_each}
-use Rattle.swift_tasks.specs.ApplyingInside.{follows_of}
-use Rattle.swift_tasks.specs.BookInvariant.{FitsScript}
-use Rattle.swift_tasks.specs.Books.{IsJobOf}
+use Rattle.swift_tasks.proofs.Prelude.{◌≡◌, ◌+◌, ◌-◌, ◌≤◌, vec_len, drop, length, vec_capacity, AllByRecursion, ScriptView, waiters_of, wake_each, follows_of, FitsScript, IsJobOf}
 use Rattle.swift_tasks.proofs.waking.wake_waiters.Given as goal
 
 abbrev pub invariant-wake : goal.invariant-wake

@@ -1,4 +1,4 @@
-use Rattle.std.proofs.Common.{length}
+use Rattle.swift_tool.proofs.Prelude.{length}
 use Rattle.swift_tool.proofs.run.+all_ended_well.Given as goal
 
 abbrev pub decreases-all_ended_well : goal.decreases-all_ended_well

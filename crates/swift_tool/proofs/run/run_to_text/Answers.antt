@@ -1,12 +1,4 @@
-use Rattle.std.proofs.Common.{◌≡◌, ap, subst, ◌∙◌}
-use Rattle.std.specs.Arc.{arc_value}
-use Rattle.swift_script.specs.Scripts.{ScriptView, executor_count, root_count}
-use Rattle.swift_history.specs.Orderly.{IsOrderlyLegal}
-use Rattle.swift_course.specs.Whole.{HasWhole}
-use Rattle.swift_certificate.specs.Reports.{report_view}
-use Rattle.swift_workers.specs.Leaves.{AreEndings, AreReplayed, KeepInvariants}
-use Rattle.swift_report.specs.Text.{report_text}
-use Rattle.swift_tool.specs.Run.{end_well}
+use Rattle.swift_tool.proofs.Prelude.{◌≡◌, ap, subst, ◌∙◌, arc_value, ScriptView, executor_count, root_count, IsOrderlyLegal, HasWhole, report_view, AreEndings, AreReplayed, KeepInvariants, report_text, end_well}
 use Rattle.swift_tool.proofs.Invariants.{invariants_hold}
 use Rattle.swift_tool.proofs.run.run_to_text.Goals as goal
 

@@ -1,14 +1,4 @@
-use Rattle.std.proofs.Common.{◌≡◌, ℕ, true, false, [], sym, ap, ◌∙◌, ℤ, List}
-use Rattle.std.specs.declared.vec.Vec.{Vec}
-use Rattle.std.specs.declared.alloc.Global.{Global}
-use Rattle.swift_types.specs.declared.outcome.Fault.TheVariants.{Invariant}
-use Rattle.script_code.specs.Instructions.{FollowsCode}
-use Rattle.script_code.specs.Seen.{rows_of}
-use Rattle.script_code.specs.Tree.{Code, terms_of}
-use Rattle.swift_interpreter.specs.Frames.{frame_view, state_in}
-use Rattle.swift_interpreter.specs.Saved.{restored}
-use Rattle.swift_interpreter.specs.Turn.{TurnStateView, failing, all_hold, kept, whole_turn}
-use Rattle.swift_interpreter.specs.TurnStates.{beginning, exit_view, fields_before, given_of, played_of, state_of}
+use Rattle.swift_undo.proofs.Prelude.{◌≡◌, ℕ, true, false, [], sym, ap, ◌∙◌, ℤ, List, Vec, Global, Invariant, FollowsCode, rows_of, Code, terms_of, frame_view, state_in, restored, TurnStateView, failing, all_hold, kept, whole_turn, beginning, exit_view, fields_before, given_of, played_of, state_of}
 use Rattle.swift_undo.proofs.Keeping.{kept_undone, kept_false, kept_whole, left_undone, put_back_fields, put_back_state}
 use Rattle.swift_undo.proofs.Spared.{others_hold}
 use Rattle.swift_undo.proofs.kept.play_kept.Goals as goal

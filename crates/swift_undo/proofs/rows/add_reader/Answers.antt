@@ -1,5 +1,4 @@
-use Rattle.std.proofs.Common.{◌≡◌, ℕ, List, [], get_or, sym, subst}
-use Rattle.std.specs.Prelude.{Contains}
+use Rattle.swift_undo.proofs.Prelude.{◌≡◌, ℕ, List, [], get_or, sym, subst, Contains}
 use Rattle.swift_undo.proofs.ReadRows.{added_kept, added_there}
 use Rattle.swift_undo.proofs.rows.add_reader.Goals as goal
 

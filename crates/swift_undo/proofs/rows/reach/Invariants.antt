@@ -1,5 +1,4 @@
-use Rattle.std.proofs.Common.{◌≡◌, ℕ, ◌+◌, ◌-◌, [], get_or, length}
-use Rattle.swift_undo.specs.RowsInside.{places_of}
+use Rattle.swift_undo.proofs.Prelude.{◌≡◌, ℕ, ◌+◌, ◌-◌, [], get_or, length, places_of}
 use Rattle.swift_undo.proofs.rows.reach.Given as goal
 
 abbrev pub invariant-loop-alloc : goal.invariant-loop-alloc

@@ -1,6 +1,4 @@
-use Rattle.std.proofs.Common.{◌≡◌, ◌++◌, drop}
-use Rattle.script_code.specs.Tree.{terms_of}
-use Rattle.swift_undo.specs.Rows.{rows_read}
+use Rattle.swift_undo.proofs.Prelude.{◌≡◌, ◌++◌, drop, terms_of, rows_read}
 use Rattle.swift_undo.proofs.rows.read_rows.Given as goal
 
 abbrev pub invariant-loop-invariant : goal.invariant-loop-invariant

@@ -1,6 +1,4 @@
-use Rattle.std.proofs.Common.{ℕ, List, get_or, refl, subst, arith}
-use Rattle.std.proofs.lemmas.List.{take_all}
-use Rattle.swift_undo.specs.RowsInside.{AreListed, places_of}
+use Rattle.swift_undo.proofs.Prelude.{ℕ, List, get_or, refl, subst, arith, take_all, AreListed, places_of}
 use Rattle.swift_undo.proofs.ReadRows.{listed_more}
 use Rattle.swift_undo.proofs.rows.readers_of.Goals as goal
 

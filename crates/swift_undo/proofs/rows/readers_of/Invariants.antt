@@ -1,5 +1,4 @@
-use Rattle.std.proofs.Common.{take}
-use Rattle.swift_undo.specs.RowsInside.{AreListed, places_of}
+use Rattle.swift_undo.proofs.Prelude.{take, AreListed, places_of}
 use Rattle.swift_undo.proofs.rows.readers_of.Given as goal
 
 abbrev pub invariant-loop-place : goal.invariant-loop-place

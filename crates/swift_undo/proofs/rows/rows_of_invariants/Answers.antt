@@ -1,6 +1,4 @@
-use Rattle.std.proofs.Common.{ℕ, List, subst}
-use Rattle.script_code.specs.Tree.{terms_of}
-use Rattle.swift_undo.specs.RowsInside.{AreListed, places_of}
+use Rattle.swift_undo.proofs.Prelude.{ℕ, List, subst, terms_of, AreListed, places_of}
 use Rattle.swift_undo.proofs.ReadRows.{rows_have}
 use Rattle.swift_undo.proofs.rows.rows_of_invariants.Goals as goal
 

@@ -1,7 +1,4 @@
-use Rattle.std.proofs.Common.{ℕ, drop, refl, sym, ap, ◌∙◌}
-use Rattle.script_code.specs.Seen.{rows_of}
-use Rattle.script_code.specs.Tree.{terms_of}
-use Rattle.swift_interpreter.specs.Turn.{all_hold}
+use Rattle.swift_undo.proofs.Prelude.{ℕ, drop, refl, sym, ap, ◌∙◌, rows_of, terms_of, all_hold}
 use Rattle.swift_undo.proofs.AllAreTested.{all_read}
 use Rattle.swift_undo.proofs.tested.all_hold.Goals as goal
 

@@ -1,8 +1,4 @@
-use Rattle.std.proofs.Common.{ℕ, take}
-use Rattle.std.specs.Prelude.{Contains}
-use Rattle.script_code.specs.Seen.{rows_of}
-use Rattle.script_code.specs.Tree.{terms_of}
-use Rattle.swift_undo.specs.RowsInside.{HoldsThere}
+use Rattle.swift_undo.proofs.Prelude.{ℕ, take, Contains, rows_of, terms_of, HoldsThere}
 use Rattle.swift_undo.proofs.tested.each_holds.Given as goal
 
 abbrev pub invariant-loop-place : goal.invariant-loop-place

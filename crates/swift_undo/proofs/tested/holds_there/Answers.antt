@@ -1,7 +1,4 @@
-use Rattle.std.proofs.Common.{◌≡◌, Some, length, refl, sym, ◌∙◌}
-use Rattle.std.specs.Prelude.{slice_get}
-use Rattle.std.proofs.lemmas.Option.{slice_get_past, slice_get_read}
-use Rattle.script_code.specs.Seen.{rows_of}
+use Rattle.swift_undo.proofs.Prelude.{◌≡◌, Some, length, refl, sym, ◌∙◌, slice_get, slice_get_past, slice_get_read, rows_of}
 use Rattle.swift_undo.proofs.AllAreTested.{none_there, one_false, one_there}
 use Rattle.swift_undo.proofs.tested.holds_there.Goals as goal
 

@@ -1,6 +1,4 @@
-use Rattle.std.proofs.Common.{ℕ, ◌<◌, refl, subst}
-use Rattle.script_code.specs.Seen.{rows_of}
-use Rattle.script_code.specs.Tree.{terms_of}
+use Rattle.swift_undo.proofs.Prelude.{ℕ, ◌<◌, refl, subst, rows_of, terms_of}
 use Rattle.swift_undo.proofs.AllAreTested.{readers_more}
 use Rattle.swift_undo.proofs.tested.readers_hold.Goals as goal
 

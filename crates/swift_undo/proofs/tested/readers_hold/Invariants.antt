@@ -1,7 +1,4 @@
-use Rattle.std.proofs.Common.{take}
-use Rattle.script_code.specs.Seen.{rows_of}
-use Rattle.script_code.specs.Tree.{terms_of}
-use Rattle.swift_undo.specs.RowsInside.{ReadersHold}
+use Rattle.swift_undo.proofs.Prelude.{take, rows_of, terms_of, ReadersHold}
 use Rattle.swift_undo.proofs.tested.readers_hold.Given as goal
 
 abbrev pub invariant-loop-place : goal.invariant-loop-place

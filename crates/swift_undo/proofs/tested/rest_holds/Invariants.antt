@@ -1,7 +1,4 @@
-use Rattle.std.proofs.Common.{◌≡◌, ◌-◌, drop, length}
-use Rattle.script_code.specs.Seen.{rows_of}
-use Rattle.script_code.specs.Tree.{terms_of}
-use Rattle.swift_interpreter.specs.Turn.{all_hold}
+use Rattle.swift_undo.proofs.Prelude.{◌≡◌, ◌-◌, drop, length, rows_of, terms_of, all_hold}
 use Rattle.swift_undo.proofs.tested.rest_holds.Given as goal
 
 abbrev pub invariant-loop-place : goal.invariant-loop-place

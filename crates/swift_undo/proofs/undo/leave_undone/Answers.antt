@@ -1,6 +1,4 @@
-use Rattle.std.proofs.Common.{ap, ◌∙◌}
-use Rattle.swift_interpreter.specs.Turn.{TurnStateView, exits}
-use Rattle.swift_interpreter.specs.TurnStates.{exit_view}
+use Rattle.swift_undo.proofs.Prelude.{ap, ◌∙◌, TurnStateView, exits, exit_view}
 use Rattle.swift_undo.proofs.undo.leave_undone.Goals as goal
 
 pub returns-clause-left : goal.returns-clause-left

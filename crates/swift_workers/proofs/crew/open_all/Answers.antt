@@ -1,10 +1,4 @@
-use Rattle.std.proofs.Common.{rules, ◌≡◌, ◌<◌, ℕ, List, [], ◌∷◌, ◌++◌, Some, length, refl, sym, subst, ap, ◌∙◌, arith}
-use Rattle.std.specs.Arc.{arc_value}
-use Rattle.atomic_table.specs.Seated.{TableId}
-use Rattle.swift_script.specs.Scripts.{ScriptView, executor_count}
-use Rattle.swift_executor.specs.Site.{SiteView}
-use Rattle.swift_executor.specs.Exec.{ExecView, DeskView, IsDeskOf}
-use Rattle.swift_workers.specs.CrewInside.{AreAtSites, AreDesksOf}
+use Rattle.swift_workers.proofs.Prelude.{rules, ◌≡◌, ◌<◌, ℕ, List, [], ◌∷◌, ◌++◌, Some, length, refl, sym, subst, ap, ◌∙◌, arith, arc_value, TableId, ScriptView, executor_count, SiteView, ExecView, DeskView, IsDeskOf, AreAtSites, AreDesksOf}
 use Rattle.swift_workers.proofs.Desks.{desk_push, place_of, site_push}
 use Rattle.swift_workers.proofs.Left.{one_longer}
 use Rattle.swift_workers.proofs.Opening.{opened_account, opened_first, opened_maker, opened_next, opened_seat}

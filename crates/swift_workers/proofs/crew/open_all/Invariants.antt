@@ -1,7 +1,4 @@
-use Rattle.std.proofs.Common.{◌≡◌, length}
-use Rattle.std.specs.Arc.{arc_value}
-use Rattle.swift_script.specs.Scripts.{executor_count}
-use Rattle.swift_workers.specs.CrewInside.{AreAtSites, AreDesksOf}
+use Rattle.swift_workers.proofs.Prelude.{◌≡◌, length, arc_value, executor_count, AreAtSites, AreDesksOf}
 use Rattle.swift_workers.proofs.Opening.{OpenedFrom}
 use Rattle.swift_workers.proofs.crew.open_all.Given as goal
 

@@ -1,7 +1,4 @@
-use Rattle.std.proofs.Common.{rules, ◌≡◌, ◌∙◌, false, List, length, refl, sym, subst, ap, arith}
-use Rattle.swift_workers.specs.declared.crew.Hand.{Hand}
-use Rattle.swift_workers.specs.CrewInside.{AreHandsOf, IsHandOf}
-use Rattle.swift_workers.specs.Leaves.{EachFrom}
+use Rattle.swift_workers.proofs.Prelude.{rules, ◌≡◌, ◌∙◌, false, List, length, refl, sym, subst, ap, arith, Hand, AreHandsOf, IsHandOf, EachFrom}
 use Rattle.swift_workers.proofs.Desks.{hand_push}
 use Rattle.swift_workers.proofs.Left.{each_push, one_longer}
 use Rattle.swift_workers.proofs.crew.others_of.Goals as goal

@@ -1,7 +1,4 @@
-use Rattle.std.proofs.Common.{◌≡◌, ◌+◌, ◌≤◌, ◌⊎◌, length}
-use Rattle.swift_workers.specs.declared.crew.Hand.{Hand}
-use Rattle.swift_workers.specs.CrewInside.{AreDesksOf, AreHandsOf}
-use Rattle.swift_workers.specs.Leaves.{EachFrom}
+use Rattle.swift_workers.proofs.Prelude.{◌≡◌, ◌+◌, ◌≤◌, ◌⊎◌, length, Hand, AreDesksOf, AreHandsOf, EachFrom}
 use Rattle.swift_workers.proofs.crew.others_of.Given as goal
 
 abbrev pub invariant-loop-worker : goal.invariant-loop-worker

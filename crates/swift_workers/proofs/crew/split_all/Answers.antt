@@ -1,7 +1,4 @@
-use Rattle.std.proofs.Common.{◌<◌, List, [], ◌∷◌, ◌++◌, length, refl, sym, subst, take}
-use Rattle.std.proofs.lemmas.Option.{slice_get_read}
-use Rattle.swift_executor.specs.Exec.{DeskView, ExecView, IsDeskOf}
-use Rattle.swift_workers.specs.CrewInside.{AreDesksOf}
+use Rattle.swift_workers.proofs.Prelude.{◌<◌, List, [], ◌∷◌, ◌++◌, length, refl, sym, subst, take, slice_get_read, DeskView, ExecView, IsDeskOf, AreDesksOf}
 use Rattle.swift_workers.proofs.Desks.{desk_at, desk_push, desk_set, take_next}
 use Rattle.swift_workers.proofs.crew.split_all.Goals as goal
 

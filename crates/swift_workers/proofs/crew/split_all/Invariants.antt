@@ -1,5 +1,4 @@
-use Rattle.std.proofs.Common.{take}
-use Rattle.swift_workers.specs.CrewInside.{AreDesksOf}
+use Rattle.swift_workers.proofs.Prelude.{take, AreDesksOf}
 use Rattle.swift_workers.proofs.crew.split_all.Given as goal
 
 -- the desks stay, and there are as many others as were split

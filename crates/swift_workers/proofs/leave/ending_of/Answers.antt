@@ -1,4 +1,4 @@
-use Rattle.std.proofs.Common.{rules}
+use Rattle.swift_workers.proofs.Prelude.{rules}
 use Rattle.swift_workers.proofs.leave.ending_of.Goals as goal
 
 pub returns : goal.returns

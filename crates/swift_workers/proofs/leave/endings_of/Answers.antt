@@ -1,8 +1,4 @@
-use Rattle.std.proofs.Common.{◌≡◌, ◌+◌, List, length, sym, subst, ap, ◌∙◌, arith}
-use Rattle.swift_types.specs.declared.outcome.Ending.{Ending}
-use Rattle.swift_script.specs.Scripts.{root_count}
-use Rattle.swift_events.specs.declared.life.Origin.{Origin}
-use Rattle.swift_workers.specs.Leaves.{EachFrom, IsEnding}
+use Rattle.swift_workers.proofs.Prelude.{◌≡◌, ◌+◌, List, length, sym, subst, ap, ◌∙◌, arith, Ending, root_count, Origin, EachFrom, IsEnding}
 use Rattle.swift_workers.proofs.Left.{each_push, one_longer}
 use Rattle.swift_workers.proofs.leave.endings_of.Goals as goal
 

@@ -1,6 +1,4 @@
-use Rattle.std.proofs.Common.{◌≡◌, ◌≤◌, length}
-use Rattle.swift_script.specs.Scripts.{root_count}
-use Rattle.swift_workers.specs.Leaves.{EachFrom, IsEnding}
+use Rattle.swift_workers.proofs.Prelude.{◌≡◌, ◌≤◌, length, root_count, EachFrom, IsEnding}
 use Rattle.swift_workers.proofs.leave.endings_of.Given as goal
 
 abbrev pub invariant-loop-task : goal.invariant-loop-task

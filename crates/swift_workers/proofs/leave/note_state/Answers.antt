@@ -1,6 +1,4 @@
-use Rattle.std.proofs.Common.{List, [], ◌∷◌, ◌++◌, ap, ◌∙◌}
-use Rattle.swift_journal.specs.Records.{RecordView}
-use Rattle.swift_shared_book.specs.Shared.{BookSeatView}
+use Rattle.swift_workers.proofs.Prelude.{List, [], ◌∷◌, ◌++◌, ap, ◌∙◌, RecordView, BookSeatView}
 use Rattle.swift_workers.proofs.Left.{parts_gathered}
 use Rattle.swift_workers.proofs.leave.note_state.Goals as goal
 

@@ -1,14 +1,7 @@
-use Rattle.std.proofs.Common.{◌≡◌, ℕ, Some, length, refl, sym, subst, ap, ◌∙◌}
+use Rattle.swift_workers.proofs.Prelude.{◌≡◌, ℕ, Some, length, refl, sym, subst, ap, ◌∙◌, same_Some, TableId, SiteView, site_of, ExecStateView, BookLockView, AreParts}
 use Rattle.std.proofs.lemmas.Iterator.{YieldsList-from_zip}
 use Rattle.std.proofs.lemmas.Iterator.Adapters.{YieldsList-from_vec}
 use Rattle.std.proofs.lemmas.Iterator.Consumers.{YieldsList-at, YieldsList-end, YieldsList-turn}
-use Rattle.std.proofs.lemmas.Option.{same_Some}
-use Rattle.atomic_table.specs.Seated.{TableId}
-use Rattle.swift_executor.specs.Site.{SiteView}
-use Rattle.swift_executor.specs.Exec.{site_of}
-use Rattle.swift_executor.specs.State.{ExecStateView}
-use Rattle.swift_shared_book.specs.Shared.{BookLockView}
-use Rattle.swift_workers.specs.PartsInside.{AreParts}
 use Rattle.swift_workers.proofs.Desks.{pair_at, pairs_length, place_of}
 use Rattle.swift_workers.proofs.Left.{one_longer}
 use Rattle.swift_workers.proofs.leave.parts_of.Goals as goal

@@ -1,6 +1,4 @@
-use Rattle.std.proofs.Common.{◌≡◌, length}
-use Rattle.swift_shared_book.specs.Shared.{IsSeatOf}
-use Rattle.swift_workers.specs.PartsInside.{AreParts}
+use Rattle.swift_workers.proofs.Prelude.{◌≡◌, length, IsSeatOf, AreParts}
 use Rattle.swift_workers.proofs.leave.parts_of.Given as goal
 
 -- the executors that were closed are the first ones of those that were given

@@ -1,14 +1,5 @@
-use Rattle.std.proofs.Common.{◌≡◌, ℕ, List, Some, length, sym, subst, ap, ◌∙◌}
-use Rattle.std.specs.Prelude.{OnOk, Result}
-use Rattle.swift_types.specs.declared.outcome.Ending.{Ending}
-use Rattle.swift_script.specs.Scripts.{ScriptView, executor_count, root_count}
-use Rattle.swift_events.specs.declared.event.Event.{Event}
-use Rattle.swift_events.specs.declared.life.Origin.{Origin}
-use Rattle.swift_course.specs.Views.{Maker}
+use Rattle.swift_workers.proofs.Prelude.{◌≡◌, ℕ, List, Some, length, sym, subst, ap, ◌∙◌, OnOk, Result, Ending, ScriptView, executor_count, root_count, Event, Origin, Maker, Halt, AreEndings, AreParts}
 use Rattle.swift_shared_book.specs.Calls.{facts_of}
-use Rattle.swift_workers.specs.declared.fault.Halt.{Halt}
-use Rattle.swift_workers.specs.Leaves.{AreEndings}
-use Rattle.swift_workers.specs.PartsInside.{AreParts}
 use Rattle.swift_workers.proofs.Reported.{has_whole, is_orderly}
 use Rattle.swift_workers.proofs.leave.report_of.Goals as goal
 

@@ -1,4 +1,4 @@
-use Rattle.std.proofs.Common.{◌≡◌, ◌<◌, length, sym, ◌∙◌, arith}
+use Rattle.swift_workers.proofs.Prelude.{◌≡◌, ◌<◌, length, sym, ◌∙◌, arith}
 use Rattle.swift_workers.proofs.Counted.{none_made, one_made}
 use Rattle.swift_workers.proofs.leave.tasks_in.Goals as goal
 use Rattle.swift_workers.proofs.leave.tasks_in.Goals.{then-makes_task+in_ok-tasks, else-makes_task}

@@ -1,6 +1,4 @@
-use Rattle.std.proofs.Common.{◌≡◌, ◌+◌, take}
-use Rattle.std.specs.Prelude.{count_by}
-use Rattle.swift_events.specs.Events.{is_made}
+use Rattle.swift_workers.proofs.Prelude.{◌≡◌, ◌+◌, take, count_by, is_made}
 use Rattle.swift_workers.proofs.leave.tasks_in.Given as goal
 
 abbrev pub invariant-loop-place : goal.invariant-loop-place

@@ -1,8 +1,4 @@
-use Rattle.std.proofs.Common.{◌<◌, ◌≤◌, length, rules, subst}
-use Rattle.std.proofs.lemmas.List.{take_all}
-use Rattle.std.proofs.lemmas.List.Elements.{All-more}
-use Rattle.std.specs.List.{All}
-use Rattle.swift_workers.specs.Pools.{MayVisit}
+use Rattle.swift_workers.proofs.Prelude.{◌<◌, ◌≤◌, length, rules, subst, take_all, All-more, All, MayVisit}
 use Rattle.swift_workers.proofs.pool.are_for.Goals as goal
 
 pub loop-k-preserved : goal.loop-k-preserved

@@ -1,9 +1,4 @@
-use Rattle.std.proofs.Common.{◌<◌, ◌≤◌, length, rules, subst}
-use Rattle.std.proofs.lemmas.List.{take_all}
-use Rattle.std.proofs.lemmas.List.Elements.{All-more}
-use Rattle.std.specs.List.{All}
-use Rattle.swift_types.specs.declared.id.ExecId.{ExecId}
-use Rattle.swift_workers.specs.Pools.{MayVisit}
+use Rattle.swift_workers.proofs.Prelude.{◌<◌, ◌≤◌, length, rules, subst, take_all, All-more, All, ExecId, MayVisit}
 use Rattle.swift_workers.proofs.pool.place_for.Goals as goal
 
 pub loop-place-preserved : goal.loop-place-preserved

@@ -1,6 +1,4 @@
-use Rattle.std.proofs.Common.{take}
-use Rattle.std.specs.List.{All}
-use Rattle.swift_workers.specs.Pools.{MayVisit}
+use Rattle.swift_workers.proofs.Prelude.{take, All, MayVisit}
 use Rattle.swift_workers.proofs.pool.place_for.Given as goal
 
 abbrev pub invariant-loop-place : goal.invariant-loop-place

@@ -1,8 +1,4 @@
-use Rattle.std.proofs.Common.{◌≡◌, Some}
-use Rattle.std.specs.List.{AllByRecursion}
-use Rattle.swift_script.specs.Scripts.{executor_count, root_count}
-use Rattle.swift_shared_book.specs.Shared.{IsSeatOf}
-use Rattle.swift_tasks.specs.Books.{IsJobOf}
+use Rattle.swift_workers.proofs.Prelude.{◌≡◌, Some, AllByRecursion, executor_count, root_count, IsSeatOf, IsJobOf}
 use Rattle.swift_workers.proofs.sending.add_roots.Given as goal
 
 abbrev pub invariant-loop-place : goal.invariant-loop-place

@@ -1,7 +1,4 @@
-use Rattle.std.proofs.Common.{rules, ◌≡◌, ◌∙◌, Some, subst, ap, length, ◌<◌, arith}
-use Rattle.swift_script.specs.Scripts.{ScriptView}
-use Rattle.swift_executor.specs.Site.{CanRunAt}
-use Rattle.swift_executor.specs.Exec.{ExecView, IsDeskOf}
+use Rattle.swift_workers.proofs.Prelude.{rules, ◌≡◌, ◌∙◌, Some, subst, ap, length, ◌<◌, arith, ScriptView, CanRunAt, ExecView, IsDeskOf}
 use Rattle.swift_workers.proofs.Desks.{can_run, desk_at, desk_sent, desk_set, site_at}
 use Rattle.swift_workers.proofs.sending.put.Goals as goal
 

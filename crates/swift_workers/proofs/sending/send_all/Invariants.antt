@@ -1,7 +1,4 @@
-use Rattle.std.proofs.Common.{◌≡◌, length}
-use Rattle.std.specs.List.{AllByRecursion}
-use Rattle.swift_tasks.specs.Books.{IsJobOf}
-use Rattle.swift_workers.specs.CrewInside.{AreDesksOf}
+use Rattle.swift_workers.proofs.Prelude.{◌≡◌, length, AllByRecursion, IsJobOf, AreDesksOf}
 use Rattle.swift_workers.proofs.sending.send_all.Given as goal
 
 abbrev pub invariant-loop-job : goal.invariant-loop-job

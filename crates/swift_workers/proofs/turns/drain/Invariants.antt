@@ -1,8 +1,4 @@
-use Rattle.std.proofs.Common.{◌≡◌, ◌≢◌, ◌<◌, Some, true, false}
-use Rattle.swift_workers.specs.declared.pool.WorkerNext.TheVariants.{Stop}
-use Rattle.swift_workers.specs.CrewInside.{IsHandOf}
-use Rattle.swift_workers.specs.Pools.{stops, takes}
-use Rattle.swift_workers.specs.PoolCallsInside.{IsPoolSeatOf}
+use Rattle.swift_workers.proofs.Prelude.{◌≡◌, ◌≢◌, ◌<◌, Some, true, false, Stop, IsHandOf, stops, takes, IsPoolSeatOf}
 use Rattle.swift_workers.proofs.turns.drain.Given as goal
 
 abbrev pub invariant-loop : goal.invariant-loop

@@ -1,11 +1,4 @@
-use Rattle.std.proofs.Common.{◌<◌, List, length, sym, subst, ap, ◌∙◌, arith}
-use Rattle.std.specs.List.{AllByRecursion}
-use Rattle.swift_job.specs.Job.{JobView}
-use Rattle.swift_script.specs.Scripts.{ScriptView}
-use Rattle.swift_turn.specs.Body.{BodyView}
-use Rattle.swift_tasks.specs.Books.{IsJobOf}
-use Rattle.swift_executor.specs.Site.{SiteView}
-use Rattle.swift_executor.specs.Exec.{ExecView, IsBookOf, IsDeskOf}
+use Rattle.swift_workers.proofs.Prelude.{◌<◌, List, length, sym, subst, ap, ◌∙◌, arith, AllByRecursion, JobView, ScriptView, BodyView, IsJobOf, SiteView, ExecView, IsBookOf, IsDeskOf}
 use Rattle.swift_workers.proofs.Desks.{book_at, desk_at, desk_ran, desk_set, desk_tried, site_at}
 use Rattle.swift_workers.proofs.turns.visit.Goals as goal
 

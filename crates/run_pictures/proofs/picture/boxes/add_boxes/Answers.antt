@@ -1,4 +1,4 @@
-use Rattle.std.proofs.Common.{◌<◌, length, rules}
+use Rattle.run_pictures.proofs.Prelude.{◌<◌, length, rules}
 use Rattle.run_pictures.proofs.More.{boxes_more}
 use Rattle.run_pictures.proofs.picture.boxes.add_boxes.Goals as goal
 

@@ -1,5 +1,4 @@
-use Rattle.std.proofs.Common.{◌≡◌, ◌++◌, drop, length, map}
-use Rattle.run_pictures.specs.Boxes.{box_of}
+use Rattle.run_pictures.proofs.Prelude.{◌≡◌, ◌++◌, drop, length, map, box_of}
 use Rattle.run_pictures.proofs.picture.boxes.add_boxes.Given as goal
 
 abbrev pub invariant-loop-place : goal.invariant-loop-place

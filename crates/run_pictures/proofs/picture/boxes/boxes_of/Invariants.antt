@@ -1,5 +1,4 @@
-use Rattle.std.proofs.Common.{◌≡◌, ◌++◌, drop}
-use Rattle.run_pictures.specs.Boxes.{boxes_of}
+use Rattle.run_pictures.proofs.Prelude.{◌≡◌, ◌++◌, drop, boxes_of}
 use Rattle.run_pictures.proofs.picture.boxes.boxes_of.Given as goal
 
 abbrev pub invariant-loop-executor : goal.invariant-loop-executor

@@ -1,6 +1,4 @@
-use Rattle.std.proofs.Common.{◌≡◌, ℕ, suc, ◌+◌, ◌-◌, List, [], ◌∷◌, ◌++◌, append_assoc, sym, ap, ◌∙◌, arith}
-use Rattle.run_pictures.specs.declared.picture.cells.Cell.{Cell}
-use Rattle.run_pictures.specs.Cells.{cell, single_cells}
+use Rattle.run_pictures.proofs.Prelude.{◌≡◌, ℕ, suc, ◌+◌, ◌-◌, List, [], ◌∷◌, ◌++◌, append_assoc, sym, ap, ◌∙◌, arith, Cell, cell, single_cells}
 use Rattle.run_pictures.proofs.picture.cells.add_singles.Goals as goal
 
 pub loop-place-preserved : goal.loop-place-preserved

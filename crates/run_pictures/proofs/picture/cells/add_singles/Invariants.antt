@@ -1,5 +1,4 @@
-use Rattle.std.proofs.Common.{◌≡◌, ◌+◌, ◌-◌, ◌++◌}
-use Rattle.run_pictures.specs.Cells.{single_cells}
+use Rattle.run_pictures.proofs.Prelude.{◌≡◌, ◌+◌, ◌-◌, ◌++◌, single_cells}
 use Rattle.run_pictures.proofs.picture.cells.add_singles.Given as goal
 
 abbrev pub invariant-loop-place : goal.invariant-loop-place

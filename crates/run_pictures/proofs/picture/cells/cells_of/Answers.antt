@@ -1,8 +1,4 @@
-use Rattle.std.proofs.Common.{◌≡◌, ℕ, ◌-◌, ◌≤◌, ◌++◌, Bool, List, length, arith, sym, ap, ◌∙◌, subst}
-use Rattle.std.specs.Prelude.{All}
-use Rattle.std.proofs.lemmas.List.{at_drop_all}
-use Rattle.run_pictures.specs.declared.picture.cells.Cell.{Cell}
-use Rattle.run_pictures.specs.Cells.{AreOf, IsQuiet, cells_from, run_cells}
+use Rattle.run_pictures.proofs.Prelude.{◌≡◌, ℕ, ◌-◌, ◌≤◌, ◌++◌, Bool, List, length, arith, sym, ap, ◌∙◌, subst, All, at_drop_all, Cell, AreOf, IsQuiet, cells_from, run_cells}
 use Rattle.run_pictures.proofs.Celled.{all_are, all_quiet}
 use Rattle.run_pictures.proofs.picture.cells.cells_of.Goals as goal
 

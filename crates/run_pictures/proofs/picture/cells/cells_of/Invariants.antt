@@ -1,5 +1,4 @@
-use Rattle.std.proofs.Common.{◌≡◌, ◌-◌, ◌≤◌, ◌++◌, drop, length}
-use Rattle.run_pictures.specs.Cells.{cells_from, cells_of}
+use Rattle.run_pictures.proofs.Prelude.{◌≡◌, ◌-◌, ◌≤◌, ◌++◌, drop, length, cells_from, cells_of}
 use Rattle.run_pictures.proofs.picture.cells.cells_of.Given as goal
 
 abbrev pub invariant-loop-column : goal.invariant-loop-column

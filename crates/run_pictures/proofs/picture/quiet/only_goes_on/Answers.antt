@@ -1,6 +1,4 @@
-use Rattle.std.proofs.Common.{◌≡◌, ◌<◌, ◌+◌, true, false, if◌then◌else◌, length, drop, rules, sym, ◌∙◌}
-use Rattle.std.proofs.lemmas.Bool.{cond-true, cond-false}
-use Rattle.run_pictures.specs.GivingWay.{begins_block, goes_on, only_goes_on}
+use Rattle.run_pictures.proofs.Prelude.{◌≡◌, ◌<◌, ◌+◌, true, false, if◌then◌else◌, length, drop, rules, sym, ◌∙◌, cond-true, cond-false, begins_block, goes_on, only_goes_on}
 use Rattle.run_pictures.proofs.Blocks.{block_more}
 use Rattle.run_pictures.proofs.picture.quiet.only_goes_on.Goals as goal
 

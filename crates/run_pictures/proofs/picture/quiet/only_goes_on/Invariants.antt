@@ -1,5 +1,4 @@
-use Rattle.std.proofs.Common.{◌≡◌, drop}
-use Rattle.run_pictures.specs.GivingWay.{only_goes_on}
+use Rattle.run_pictures.proofs.Prelude.{◌≡◌, drop, only_goes_on}
 use Rattle.run_pictures.proofs.picture.quiet.only_goes_on.Given as goal
 
 abbrev pub invariant-loop-place : goal.invariant-loop-place

@@ -1,7 +1,4 @@
-use Rattle.std.proofs.Common.{◌≡◌, ◌<◌, ◌≤◌, ◌+◌, true, false, length, drop, get_or, min, arith, rules, sym, ◌∙◌}
-use Rattle.std.proofs.lemmas.Bool.{cond-true, cond-false}
-use Rattle.run_pictures.specs.Breaking.{breaks_in, is_broke}
-use Rattle.run_pictures.specs.Values.{values_views}
+use Rattle.run_pictures.proofs.Prelude.{◌≡◌, ◌<◌, ◌≤◌, ◌+◌, true, false, length, drop, get_or, min, arith, rules, sym, ◌∙◌, cond-true, cond-false, breaks_in, is_broke, values_views}
 use Rattle.run_pictures.proofs.Breaks.{turn_more, turns_end}
 use Rattle.run_pictures.proofs.Ranges.{first_of}
 use Rattle.run_pictures.proofs.values.broken.breaks_in.Goals as goal

@@ -1,6 +1,4 @@
-use Rattle.std.proofs.Common.{◌≡◌, drop}
-use Rattle.run_pictures.specs.Breaking.{breaks_in}
-use Rattle.run_pictures.specs.Values.{values_views}
+use Rattle.run_pictures.proofs.Prelude.{◌≡◌, drop, breaks_in, values_views}
 use Rattle.run_pictures.proofs.values.broken.breaks_in.Given as goal
 
 abbrev pub invariant-loop-place : goal.invariant-loop-place

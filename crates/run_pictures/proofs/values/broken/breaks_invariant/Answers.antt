@@ -1,4 +1,4 @@
-use Rattle.std.proofs.Common.{◌≤◌, length, min, arith, sym, ◌∙◌}
+use Rattle.run_pictures.proofs.Prelude.{◌≤◌, length, min, arith, sym, ◌∙◌}
 use Rattle.run_pictures.proofs.Breaks.{executors_end}
 use Rattle.run_pictures.proofs.values.broken.breaks_invariant.Goals as goal
 

@@ -1,5 +1,4 @@
-use Rattle.std.proofs.Common.{◌≡◌, drop}
-use Rattle.run_pictures.specs.Breaking.{breaks_at}
+use Rattle.run_pictures.proofs.Prelude.{◌≡◌, drop, breaks_at}
 use Rattle.run_pictures.proofs.values.broken.breaks_invariant.Given as goal
 
 abbrev pub invariant-loop-executor : goal.invariant-loop-executor

@@ -1,9 +1,4 @@
-use Rattle.std.proofs.Common.{◌<◌, ◌≤◌, ◌+◌, ◌++◌, ℤ, List, [], length, drop, append_assoc, append-nil, sym, ap, ap₂, ◌∙◌, arith}
-use Rattle.std.proofs.lemmas.List.{get_or-map, length-map}
-use Rattle.std.specs.Global.{Vec}
-use Rattle.script_code.specs.Seen.{rows_of}
-use Rattle.run_pictures.specs.declared.values.change.Change.{Change}
-use Rattle.run_pictures.specs.Values.{differences, row_differences}
+use Rattle.run_pictures.proofs.Prelude.{◌<◌, ◌≤◌, ◌+◌, ◌++◌, ℤ, List, [], length, drop, append_assoc, append-nil, sym, ap, ap₂, ◌∙◌, arith, get_or-map, length-map, Vec, rows_of, Change, differences, row_differences}
 use Rattle.run_pictures.proofs.Rows.{row_same, rows_end, rows_more, same_length}
 use Rattle.run_pictures.proofs.values.differences.add_differences.Goals as goal
 

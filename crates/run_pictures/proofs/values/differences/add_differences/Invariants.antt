@@ -1,6 +1,4 @@
-use Rattle.std.proofs.Common.{◌≡◌, ◌++◌, drop}
-use Rattle.script_code.specs.Seen.{rows_of}
-use Rattle.run_pictures.specs.Values.{differences}
+use Rattle.run_pictures.proofs.Prelude.{◌≡◌, ◌++◌, drop, rows_of, differences}
 use Rattle.run_pictures.proofs.values.differences.add_differences.Given as goal
 
 abbrev pub invariant-loop-actor : goal.invariant-loop-actor

@@ -1,5 +1,4 @@
-use Rattle.std.proofs.Common.{◌≤◌, ◌++◌, List, length, min, append-nil, sym, ap, ◌∙◌, arith}
-use Rattle.run_pictures.specs.declared.values.change.Change.{Change}
+use Rattle.run_pictures.proofs.Prelude.{◌≤◌, ◌++◌, List, length, min, append-nil, sym, ap, ◌∙◌, arith, Change}
 use Rattle.run_pictures.proofs.Rows.{row_end}
 use Rattle.run_pictures.proofs.values.differences.add_row.Goals as goal
 

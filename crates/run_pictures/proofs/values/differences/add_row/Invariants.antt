@@ -1,5 +1,4 @@
-use Rattle.std.proofs.Common.{◌≡◌, ◌++◌, drop}
-use Rattle.run_pictures.specs.Values.{row_differences}
+use Rattle.run_pictures.proofs.Prelude.{◌≡◌, ◌++◌, drop, row_differences}
 use Rattle.run_pictures.proofs.values.differences.add_row.Given as goal
 
 abbrev pub invariant-loop-field : goal.invariant-loop-field

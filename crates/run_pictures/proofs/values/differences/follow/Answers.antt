@@ -1,7 +1,4 @@
-use Rattle.std.proofs.Common.{◌<◌, ◌≤◌, ◌+◌, ℤ, [], length, take, drop, take_all, length-set, sym, ap, ◌∙◌, arith}
-use Rattle.std.proofs.lemmas.List.{get_or-map, length-map, map-set}
-use Rattle.std.specs.Global.{Vec}
-use Rattle.script_code.specs.Seen.{rows_of}
+use Rattle.run_pictures.proofs.Prelude.{◌<◌, ◌≤◌, ◌+◌, ℤ, [], length, take, drop, take_all, length-set, sym, ap, ◌∙◌, arith, get_or-map, length-map, map-set, Vec, rows_of}
 use Rattle.run_pictures.proofs.Rows.{at_drop_same, followed_more, left_more, row_same, same_length}
 use Rattle.run_pictures.proofs.values.differences.follow.Goals as goal
 

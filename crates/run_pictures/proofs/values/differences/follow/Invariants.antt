@@ -1,5 +1,4 @@
-use Rattle.std.proofs.Common.{◌≡◌, drop, take, length}
-use Rattle.script_code.specs.Seen.{rows_of}
+use Rattle.run_pictures.proofs.Prelude.{◌≡◌, drop, take, length, rows_of}
 use Rattle.run_pictures.proofs.values.differences.follow.Given as goal
 
 abbrev pub invariant-loop-actor : goal.invariant-loop-actor

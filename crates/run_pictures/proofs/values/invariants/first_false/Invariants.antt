@@ -1,7 +1,4 @@
-use Rattle.std.proofs.Common.{◌≡◌, drop}
-use Rattle.script_code.specs.Seen.{rows_of}
-use Rattle.script_code.specs.Tree.{terms_of}
-use Rattle.run_pictures.specs.Values.{first_false}
+use Rattle.run_pictures.proofs.Prelude.{◌≡◌, drop, rows_of, terms_of, first_false}
 use Rattle.run_pictures.proofs.values.invariants.first_false.Given as goal
 
 abbrev pub invariant-loop-place : goal.invariant-loop-place

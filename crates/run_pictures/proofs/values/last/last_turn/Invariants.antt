@@ -1,4 +1,4 @@
-use Rattle.std.proofs.Common.{ℕ, ◌≤◌, ◌<◌}
+use Rattle.run_pictures.proofs.Prelude.{ℕ, ◌≤◌, ◌<◌}
 use Rattle.run_pictures.specs.LastTurns.{IsOfOther}
 use Rattle.run_pictures.proofs.values.last.last_turn.Given as goal
 

@@ -1,5 +1,4 @@
-use Rattle.std.proofs.Common.{◌≤◌, arith}
-use Rattle.swift_script.specs.Scripts.{method_count}
+use Rattle.run_pictures.proofs.Prelude.{◌≤◌, arith, method_count}
 use Rattle.run_pictures.proofs.Past.{no_instructions}
 use Rattle.run_pictures.proofs.values.parts.instructions_of.Goals as goal
 

@@ -1,7 +1,6 @@
-use Rattle.std.proofs.Common.{◌∙◌, ℤ, List, [], ◌∷◌, ◌++◌, Vec, take, take_all, sym, ap, arith}
+use Rattle.run_pictures.proofs.Prelude.{◌∙◌, ℤ, List, [], ◌∷◌, ◌++◌, take, take_all, sym, ap, arith, map_more, map_push, rows_of}
+use Rattle.std.proofs.Common.{Vec}
 use Rattle.std.specs.declared.alloc.Global.{Global}
-use Rattle.std.proofs.lemmas.List.{map_more, map_push}
-use Rattle.script_code.specs.Seen.{rows_of}
 use Rattle.run_pictures.proofs.values.player.copy_of.Goals as goal
 
 pub loop-row-preserved : goal.loop-row-preserved

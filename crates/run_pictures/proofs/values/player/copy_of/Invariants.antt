@@ -1,5 +1,4 @@
-use Rattle.std.proofs.Common.{◌≡◌, take}
-use Rattle.script_code.specs.Seen.{rows_of}
+use Rattle.run_pictures.proofs.Prelude.{◌≡◌, take, rows_of}
 use Rattle.run_pictures.proofs.values.player.copy_of.Given as goal
 
 abbrev pub invariant-loop-row : goal.invariant-loop-row

@@ -1,7 +1,4 @@
-use Rattle.std.proofs.Common.{◌≡◌, ℕ, ◌-◌, ◌<◌, ◌≤◌, ℤ, List, length, take, sym, ap, ap₂, ◌∙◌, arith}
-use Rattle.script_code.specs.Seen.{rows_of}
-use Rattle.swift_journal.specs.Records.{RecordView}
-use Rattle.swift_journal.specs.Replay.{fields_after, replay}
+use Rattle.run_pictures.proofs.Prelude.{◌≡◌, ℕ, ◌-◌, ◌<◌, ◌≤◌, ℤ, List, length, take, sym, ap, ap₂, ◌∙◌, arith, rows_of, RecordView, fields_after, replay}
 use Rattle.run_pictures.proofs.Answered.{if_ok}
 use Rattle.run_pictures.proofs.Ranges.{range_none, replay_more}
 use Rattle.run_pictures.proofs.values.turns.fields_before.Goals as goal

@@ -1,7 +1,4 @@
-use Rattle.std.proofs.Common.{◌≡◌, take}
-use Rattle.std.specs.Prelude.{slice_range}
-use Rattle.script_code.specs.Seen.{rows_of}
-use Rattle.swift_journal.specs.Replay.{replay}
+use Rattle.run_pictures.proofs.Prelude.{◌≡◌, take, slice_range, rows_of, replay}
 use Rattle.run_pictures.proofs.values.turns.fields_before.Given as goal
 
 abbrev pub invariant-loop-earlier : goal.invariant-loop-earlier

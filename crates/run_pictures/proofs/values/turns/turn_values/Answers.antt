@@ -1,9 +1,4 @@
-use Rattle.std.proofs.Common.{◌<◌, ◌+◌, ◌++◌, ℤ, List, [], ◌∷◌, drop, length, append_assoc, sym, ap, ap₂, ◌∙◌, arith}
-use Rattle.std.proofs.lemmas.List.{at_drop_more, map_push}
-use Rattle.script_code.specs.Seen.{rows_of}
-use Rattle.swift_journal.specs.Records.{RecordView, owned_view}
-use Rattle.run_pictures.specs.declared.values.change.TurnValues.{TurnValues}
-use Rattle.run_pictures.specs.Values.{ValuesView, values_from, values_view, values_views}
+use Rattle.run_pictures.proofs.Prelude.{◌<◌, ◌+◌, ◌++◌, ℤ, List, [], ◌∷◌, drop, length, append_assoc, sym, ap, ap₂, ◌∙◌, arith, at_drop_more, map_push, rows_of, RecordView, owned_view, TurnValues, ValuesView, values_from, values_view, values_views}
 use Rattle.run_pictures.proofs.values.turns.turn_values.Goals as goal
 
 pub loop-place-preserved : goal.loop-place-preserved

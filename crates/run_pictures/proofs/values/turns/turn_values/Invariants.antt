@@ -1,6 +1,4 @@
-use Rattle.std.proofs.Common.{◌≡◌, ◌++◌, drop}
-use Rattle.script_code.specs.Seen.{rows_of}
-use Rattle.run_pictures.specs.Values.{values_from, values_views}
+use Rattle.run_pictures.proofs.Prelude.{◌≡◌, ◌++◌, drop, rows_of, values_from, values_views}
 use Rattle.run_pictures.proofs.values.turns.turn_values.Given as goal
 
 abbrev pub invariant-loop-place : goal.invariant-loop-place

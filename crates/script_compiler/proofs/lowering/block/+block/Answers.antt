@@ -1,20 +1,7 @@
-use Rattle.std.proofs.Common.{◌≡◌, ℕ, drop, ◌+◌, ◌-◌, ◌<◌, ◌++◌, List, map, true, false, length, sym, ap, subst, ◌∙◌, take, arith, rules}
-use Rattle.std.proofs.lemmas.List.{append-nil, take_all, at_drop_all}
-use Rattle.script_grammar.specs.declared.statement.Stmt.{Stmt, the_lemmas}
-use Rattle.script_grammar.specs.Tree.{view, view_head, view_stmt, block_tree}
-use Rattle.script_grammar.specs.Size.{block_size}
-use Rattle.script_code.specs.Tree.{term_of}
-use Rattle.script_code.specs.Instructions.{tests}
-use Rattle.script_code.specs.Layout.{meaning_of, written, entry}
-use Rattle.script_names.specs.Scope.{ScopeView}
-use Rattle.script_names.specs.Rules.{scope_after, scope_within}
-use Rattle.script_compiler.specs.Lowered.{lowered, stmt_code, block_code}
-use Rattle.script_compiler.specs.StandingInside.{scope_through}
-use Rattle.script_compiler.specs.HeadsInside.{foot, HeadsAs, is_isolated}
+use Rattle.script_compiler.proofs.Prelude.{◌≡◌, ℕ, drop, ◌+◌, ◌-◌, ◌<◌, ◌++◌, List, map, true, false, length, sym, ap, subst, ◌∙◌, take, arith, rules, append-nil, take_all, at_drop_all, Stmt, the_lemmas, view, view_head, view_stmt, block_tree, block_size, term_of, tests, meaning_of, written, entry, ScopeView, scope_after, scope_within, lowered, stmt_code, block_code, scope_through, foot, HeadsAs, is_isolated, makes_new, block_new}
 use Rattle.script_compiler.proofs.Lines.{IsWritten, more_lines}
 use Rattle.script_compiler.proofs.Blocks.{through_more, step_back}
 use Rattle.script_compiler.proofs.Statements.{code_in, headed_size, else_size, held_new, while_written, block_written, else_written, answered, ok_of, not_loop, left_is}
-use Rattle.script_compiler.specs.New.{makes_new, block_new}
 use Rattle.script_compiler.proofs.New.{stmt_at, new_there, stmt_back}
 use Rattle.script_compiler.proofs.Room.{size_next, size_left, not_empty, stands_through, stands_back, block_takes, foot_takes}
 use Rattle.script_compiler.proofs.lowering.block.+block.Goals as goal

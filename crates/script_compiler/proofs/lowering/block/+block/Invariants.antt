@@ -1,8 +1,4 @@
-use Rattle.std.proofs.Common.{◌≡◌, ◌≤◌, ◌++◌, length, take, drop, map}
-use Rattle.script_grammar.specs.Tree.{view_stmt, block_tree}
-use Rattle.script_code.specs.Layout.{meaning_of, entry, written}
-use Rattle.script_compiler.specs.Lowered.{block_code}
-use Rattle.script_compiler.specs.StandingInside.{scope_through}
+use Rattle.script_compiler.proofs.Prelude.{◌≡◌, ◌≤◌, ◌++◌, length, take, drop, map, view_stmt, block_tree, meaning_of, entry, written, block_code, scope_through}
 use Rattle.script_compiler.proofs.lowering.block.+block.Given as goal
 
 abbrev pub invariant-block-loop-stmt : goal.invariant-block-loop-stmt

@@ -1,8 +1,4 @@
-use Rattle.std.proofs.Common.{◌∙◌, List, map, ap}
-use Rattle.script_grammar.specs.declared.expression.Expr.{Expr}
-use Rattle.script_grammar.specs.Tree.{view, view_call}
-use Rattle.script_code.specs.Tree.{terms_of}
-use Rattle.script_compiler.specs.Lowered.{lowered}
+use Rattle.script_compiler.proofs.Prelude.{◌∙◌, List, map, ap, Expr, view, view_call, terms_of, lowered}
 use Rattle.script_compiler.proofs.CallsMade.{target_made}
 use Rattle.script_compiler.proofs.lowering.call.call.Goals as goal
 

@@ -1,8 +1,4 @@
-use Rattle.std.proofs.Common.{rules, ◌∙◌, List, map, sym, arith}
-use Rattle.std.proofs.lemmas.List.{at_drop_all}
-use Rattle.script_grammar.specs.declared.statement.Stmt.{Stmt, the_lemmas}
-use Rattle.script_grammar.specs.Tree.{view_stmt, block_tree}
-use Rattle.script_compiler.specs.Counts.{greater, most_of}
+use Rattle.script_compiler.proofs.Prelude.{rules, ◌∙◌, List, map, sym, arith, at_drop_all, Stmt, the_lemmas, view_stmt, block_tree, greater, most_of}
 use Rattle.script_compiler.proofs.Room.{not_empty, size_next}
 use Rattle.script_compiler.proofs.lowering.counts.+most.Goals as goal
 

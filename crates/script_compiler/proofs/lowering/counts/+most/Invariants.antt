@@ -1,8 +1,4 @@
-use Rattle.std.proofs.Common.{◌≡◌, ◌≤◌, ◌+◌, drop, map}
-use Rattle.script_grammar.specs.Tree.{view_stmt, block_tree}
-use Rattle.script_grammar.specs.Size.{block_size}
-use Rattle.script_compiler.specs.Counts.{greater, most_of}
-use Rattle.script_compiler.specs.RoomInside.{greatest}
+use Rattle.script_compiler.proofs.Prelude.{◌≡◌, ◌≤◌, ◌+◌, drop, map, view_stmt, block_tree, block_size, greater, most_of, greatest}
 use Rattle.script_compiler.proofs.lowering.counts.+most.Given as goal
 
 abbrev pub invariant-most_of-loop-stmt : goal.invariant-most_of-loop-stmt

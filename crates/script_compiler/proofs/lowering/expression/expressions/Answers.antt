@@ -1,5 +1,4 @@
-use Rattle.std.proofs.Common.{◌∙◌}
-use Rattle.script_compiler.specs.Lowered.{lowered}
+use Rattle.script_compiler.proofs.Prelude.{◌∙◌, lowered}
 use Rattle.script_compiler.proofs.Terms.{formula_more}
 use Rattle.script_compiler.proofs.lowering.expression.expressions.Goals as goal
 

@@ -1,7 +1,4 @@
-use Rattle.std.proofs.Common.{◌≡◌, ◌++◌, drop, map}
-use Rattle.script_grammar.specs.Tree.{view}
-use Rattle.script_code.specs.Tree.{terms_of}
-use Rattle.script_compiler.specs.Lowered.{lowered}
+use Rattle.script_compiler.proofs.Prelude.{◌≡◌, ◌++◌, drop, map, view, terms_of, lowered}
 use Rattle.script_compiler.proofs.lowering.expression.expressions.Given as goal
 
 abbrev pub invariant-loop-expr : goal.invariant-loop-expr

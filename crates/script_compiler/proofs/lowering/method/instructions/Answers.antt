@@ -1,8 +1,4 @@
-use Rattle.std.proofs.Common.{◌≡◌, ◌++◌, ◌∷◌, [], ◌∙◌, List, map, ap}
-use Rattle.script_grammar.specs.Tree.{view_stmt, block_tree}
-use Rattle.script_code.specs.Layout.{meaning_of, last_line}
-use Rattle.script_code.specs.declared.instruction.Instruction.{Instruction}
-use Rattle.script_compiler.specs.Lowered.{block_code}
+use Rattle.script_compiler.proofs.Prelude.{◌≡◌, ◌++◌, ◌∷◌, [], ◌∙◌, List, map, ap, view_stmt, block_tree, meaning_of, last_line, Instruction, block_code}
 use Rattle.script_compiler.proofs.WholeMethods.{first_within, all_follow}
 use Rattle.script_compiler.proofs.lowering.method.instructions.Goals as goal
 

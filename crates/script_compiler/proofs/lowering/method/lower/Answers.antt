@@ -1,8 +1,4 @@
-use Rattle.std.proofs.Common.{length, map, ap, arith}
-use Rattle.std.proofs.lemmas.List.{length-map}
-use Rattle.script_grammar.specs.Tree.{text_of}
-use Rattle.script_names.specs.Scope.{ScopeView}
-use Rattle.script_compiler.specs.declared.lowering.counts.PlaceCounts.{PlaceCounts}
+use Rattle.script_compiler.proofs.Prelude.{length, map, ap, arith, length-map, text_of, ScopeView, PlaceCounts}
 use Rattle.script_compiler.proofs.Room.{counts_fit, parameters_stand}
 use Rattle.script_compiler.proofs.lowering.method.lower.Goals as goal
 

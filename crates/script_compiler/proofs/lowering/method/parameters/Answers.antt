@@ -1,4 +1,4 @@
-use Rattle.std.proofs.Common.{arith, length-drop}
+use Rattle.script_compiler.proofs.Prelude.{arith, length-drop}
 use Rattle.script_compiler.proofs.lowering.method.parameters.Goals as goal
 
 pub add-requires-clause-room : goal.add-requires-clause-room

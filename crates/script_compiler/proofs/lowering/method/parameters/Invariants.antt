@@ -1,8 +1,4 @@
-use Rattle.std.proofs.Common.{◌≡◌, ◌≤◌, ◌+◌, true, length, drop, map}
-use Rattle.script_grammar.specs.Tree.{text_of}
-use Rattle.script_names.specs.Rules.{with_parameters}
-use Rattle.script_compiler.specs.New.{parameters_new}
-use Rattle.script_compiler.specs.RoomInside.{greatest}
+use Rattle.script_compiler.proofs.Prelude.{◌≡◌, ◌≤◌, ◌+◌, true, length, drop, map, text_of, with_parameters, parameters_new, greatest}
 use Rattle.script_compiler.proofs.lowering.method.parameters.Given as goal
 
 abbrev pub invariant-loop-param : goal.invariant-loop-param

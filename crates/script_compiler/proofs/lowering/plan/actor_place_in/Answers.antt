@@ -1,6 +1,4 @@
-use Rattle.std.proofs.Common.{◌==◌, ℕ, ap, ◌∙◌, take}
-use Rattle.std.proofs.lemmas.List.{take_min}
-use Rattle.std.specs.Prelude.{count_by}
+use Rattle.script_compiler.proofs.Prelude.{◌==◌, ℕ, ap, ◌∙◌, take, take_min, count_by}
 use Rattle.script_compiler.proofs.lowering.plan.actor_place_in.Goals as goal
 
 pub returns-clause-place : goal.returns-clause-place

@@ -1,5 +1,4 @@
-use Rattle.std.proofs.Common.{◌≡◌, ◌<◌, ℕ, length, get_or}
-use Rattle.script_compiler.specs.Plan.{actor_place_in}
+use Rattle.script_compiler.proofs.Prelude.{◌≡◌, ◌<◌, ℕ, length, get_or, actor_place_in}
 use Rattle.script_compiler.proofs.lowering.plan.actor_places.Given as goal
 
 abbrev pub invariant-loop-actor : goal.invariant-loop-actor

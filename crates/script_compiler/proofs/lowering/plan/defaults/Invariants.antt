@@ -1,5 +1,4 @@
-use Rattle.std.proofs.Common.{◌≡◌, ◌++◌, drop, map}
-use Rattle.script_grammar.specs.Tree.{view_local}
+use Rattle.script_compiler.proofs.Prelude.{◌≡◌, ◌++◌, drop, map, view_local}
 use Rattle.script_compiler.proofs.lowering.plan.defaults.Given as goal
 
 abbrev pub invariant-loop-local : goal.invariant-loop-local

@@ -1,7 +1,4 @@
-use Rattle.std.proofs.Common.{◌≡◌, ◌++◌, ◌+◌, ◌≤◌, drop, map, length}
-use Rattle.swift_types.specs.declared.limits.TheConstants.{ACTORS, EXECUTORS}
-use Rattle.script_grammar.specs.Tree.{view_actor}
-use Rattle.script_compiler.specs.PlanInside.{executors_on}
+use Rattle.script_compiler.proofs.Prelude.{◌≡◌, ◌++◌, ◌+◌, ◌≤◌, drop, map, length, ACTORS, EXECUTORS, view_actor, executors_on}
 use Rattle.script_compiler.proofs.lowering.plan.executors.Given as goal
 
 abbrev pub invariant-loop-actor : goal.invariant-loop-actor

@@ -1,4 +1,4 @@
-use Rattle.std.proofs.Common.{arith}
+use Rattle.script_compiler.proofs.Prelude.{arith}
 use Rattle.script_compiler.proofs.Listing.{edge_listed}
 use Rattle.script_compiler.proofs.waits.first.callers.Goals as goal
 

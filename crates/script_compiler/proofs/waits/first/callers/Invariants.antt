@@ -1,6 +1,4 @@
-use Rattle.std.proofs.Common.{take}
-use Rattle.script_compiler.specs.FirstInside.{Calls}
-use Rattle.script_compiler.specs.ListsInside.{AreListsOf}
+use Rattle.script_compiler.proofs.Prelude.{take, Calls, AreListsOf}
 use Rattle.script_compiler.proofs.waits.first.callers.Given as goal
 
 abbrev pub invariant-loop-edge : goal.invariant-loop-edge

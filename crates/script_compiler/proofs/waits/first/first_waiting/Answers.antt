@@ -1,14 +1,4 @@
-use Rattle.std.proofs.Common.{◌≡◌, ℕ, ◌+◌, ◌-◌, ◌<◌, All, List, length, arith, sym, ◌∙◌, subst}
-use Rattle.std.proofs.lemmas.Option.{slice_get-get_or}
-use Rattle.std.proofs.lemmas.Bool.{both_ways}
-use Rattle.std.proofs.lemmas.List.Elements.{All-contains}
-use Rattle.script_compiler.specs.ListsInside.{Has, AreListsOf}
-use Rattle.script_compiler.specs.MarksInside.{count_of}
-use Rattle.script_compiler.specs.FirstInside.{Calls, WaitsInPlace, AreMarks, IsFirstFrom}
-use Rattle.script_compiler.specs.declared.waits.first.CallEdge.{CallEdge}
-use Rattle.script_compiler.specs.declared.waits.first.RootWait.{RootWait}
-use Rattle.script_compiler.specs.declared.waits.lists.MethodLists.{MethodLists}
-use Rattle.script_compiler.specs.declared.waits.marks.Marks.{Marks}
+use Rattle.script_compiler.proofs.Prelude.{◌≡◌, ℕ, ◌+◌, ◌-◌, ◌<◌, All, List, length, arith, sym, ◌∙◌, subst, slice_get-get_or, both_ways, All-contains, Has, AreListsOf, count_of, Calls, WaitsInPlace, AreMarks, IsFirstFrom, CallEdge, RootWait, MethodLists, Marks}
 use Rattle.script_compiler.proofs.Search.{marks_begin, marks_go_on, marks_closed, first_begins, first_found}
 use Rattle.script_compiler.proofs.Search.{first_stays, first_waits, first_is_first, none_is_none}
 use Rattle.script_compiler.proofs.waits.first.first_waiting.Goals as goal

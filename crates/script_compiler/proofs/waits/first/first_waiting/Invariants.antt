@@ -1,4 +1,4 @@
-use Rattle.script_compiler.specs.FirstInside.{AreMarks, IsFirstFrom}
+use Rattle.script_compiler.proofs.Prelude.{AreMarks, IsFirstFrom}
 use Rattle.script_compiler.proofs.waits.first.first_waiting.Given as goal
 
 abbrev pub invariant-loop-place : goal.invariant-loop-place

@@ -1,4 +1,4 @@
-use Rattle.std.proofs.Common.{arith, ◌+◌, length}
+use Rattle.script_compiler.proofs.Prelude.{arith, ◌+◌, length}
 use Rattle.script_compiler.proofs.Listing.{wait_listed}
 use Rattle.script_compiler.proofs.waits.first.waiting.Goals as goal
 

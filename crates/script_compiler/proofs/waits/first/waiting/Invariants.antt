@@ -1,6 +1,4 @@
-use Rattle.std.proofs.Common.{◌+◌, length, take}
-use Rattle.script_compiler.specs.FirstInside.{WaitsInPlace}
-use Rattle.script_compiler.specs.ListsInside.{AreListsOf}
+use Rattle.script_compiler.proofs.Prelude.{◌+◌, length, take, WaitsInPlace, AreListsOf}
 use Rattle.script_compiler.proofs.waits.first.waiting.Given as goal
 
 abbrev pub invariant-loop-wait : goal.invariant-loop-wait

@@ -1,5 +1,4 @@
-use Rattle.std.proofs.Common.{◌≡◌, ◌∙◌, ap, min, get_or, length, arith}
-use Rattle.std.proofs.lemmas.List.{get_or_default}
+use Rattle.script_names.proofs.Prelude.{◌≡◌, ◌∙◌, ap, min, get_or, length, arith, get_or_default}
 use Rattle.std.proofs.lemmas.List.Edits.{map_over_more}
 use Rattle.script_names.proofs.checked_names.CheckedNames.lower.Goals as goal
 

@@ -1,4 +1,4 @@
-use Rattle.std.proofs.Common.{◌≡◌, ◌++◌, map, min, take, drop}
+use Rattle.script_names.proofs.Prelude.{◌≡◌, ◌++◌, map, min, take, drop}
 use Rattle.script_names.proofs.checked_names.CheckedNames.lower.Given as goal
 
 abbrev pub invariant-loop-count : goal.invariant-loop-count

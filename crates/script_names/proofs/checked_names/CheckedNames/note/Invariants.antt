@@ -1,4 +1,4 @@
-use Rattle.std.proofs.Common.{◌≡◌, ◌+◌, ◌-◌, ℕ, length, get_or}
+use Rattle.script_names.proofs.Prelude.{◌≡◌, ◌+◌, ◌-◌, ℕ, length, get_or}
 use Rattle.script_names.proofs.checked_names.CheckedNames.note.Given as goal
 
 abbrev pub invariant-loop-self : goal.invariant-loop-self

@@ -1,6 +1,4 @@
-use Rattle.std.proofs.Common.{◌≡◌, drop, map}
-use Rattle.script_grammar.specs.Tree.{view_method}
-use Rattle.script_names.specs.Directory.{with_methods}
+use Rattle.script_names.proofs.Prelude.{◌≡◌, drop, map, view_method, with_methods}
 use Rattle.script_names.proofs.directory.Declared.add_methods.Given as goal
 
 abbrev pub invariant-loop-method : goal.invariant-loop-method

@@ -1,6 +1,4 @@
-use Rattle.std.proofs.Common.{ℕ, List, [], Option, sym, ap, ◌∙◌}
-use Rattle.std.specs.Prelude.{unwrap_or}
-use Rattle.script_names.specs.Scope.{share_a_name}
+use Rattle.script_names.proofs.Prelude.{ℕ, List, [], Option, sym, ap, ◌∙◌, unwrap_or, share_a_name}
 use Rattle.script_names.proofs.Standing.{none_shared}
 use Rattle.script_names.proofs.directory.Declared.has_field_among.Goals as goal
 

@@ -1,7 +1,4 @@
-use Rattle.std.proofs.Common.{◌≡◌, ℕ, subst, IfOk, IfSome}
-use Rattle.script_names.specs.Texts.{place_of}
-use Rattle.script_names.specs.Methods.{method_key}
-use Rattle.script_names.specs.Directory.{DirectoryView, method_place}
+use Rattle.script_names.proofs.Prelude.{◌≡◌, ℕ, subst, IfOk, IfSome, place_of, method_key, DirectoryView, method_place}
 use Rattle.script_names.proofs.directory.Declared.method.Goals as goal
 
 pub returns-in-Some-clause-place : goal.returns-in-Some-clause-place

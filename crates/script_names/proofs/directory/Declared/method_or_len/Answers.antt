@@ -1,7 +1,4 @@
-use Rattle.std.proofs.Common.{◌≡◌, ℕ, subst, IfOk}
-use Rattle.script_names.specs.Texts.{place_of}
-use Rattle.script_names.specs.Methods.{method_key}
-use Rattle.script_names.specs.Directory.{DirectoryView, method_place}
+use Rattle.script_names.proofs.Prelude.{◌≡◌, ℕ, subst, IfOk, place_of, method_key, DirectoryView, method_place}
 use Rattle.script_names.proofs.directory.Declared.method_or_len.Goals as goal
 
 pub returns-clause-place : goal.returns-clause-place

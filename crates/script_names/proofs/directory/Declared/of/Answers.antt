@@ -1,7 +1,4 @@
-use Rattle.std.proofs.Common.{map, sym, ◌∙◌, arith}
-use Rattle.std.proofs.lemmas.List.{at_drop_all}
-use Rattle.script_grammar.specs.Tree.{view_decl}
-use Rattle.script_names.specs.Directory.{with_decls}
+use Rattle.script_names.proofs.Prelude.{map, sym, ◌∙◌, arith, at_drop_all, view_decl, with_decls}
 use Rattle.script_names.proofs.directory.Declared.of.Goals as goal
 
 pub returns : goal.returns

@@ -1,6 +1,4 @@
-use Rattle.std.proofs.Common.{◌≡◌, drop, map}
-use Rattle.script_grammar.specs.Tree.{view_decl}
-use Rattle.script_names.specs.Directory.{with_decls, directory_of}
+use Rattle.script_names.proofs.Prelude.{◌≡◌, drop, map, view_decl, with_decls, directory_of}
 use Rattle.script_names.proofs.directory.Declared.of.Given as goal
 
 abbrev pub invariant-loop-decl : goal.invariant-loop-decl

@@ -1,7 +1,4 @@
-use Rattle.std.proofs.Common.{◌≡◌, ◌++◌, ◌∷◌, [], List, map, ℕ, Bool, cond, refl, ap, ◌∙◌}
-use Rattle.std.specs.Prelude.{not}
-use Rattle.script_names.specs.Texts.{is_among, with_name}
-use Rattle.script_names.specs.Methods.{method_key, key_is}
+use Rattle.script_names.proofs.Prelude.{◌≡◌, ◌++◌, ◌∷◌, [], List, map, ℕ, Bool, cond, refl, ap, ◌∙◌, not, is_among, with_name, method_key, key_is}
 use Rattle.script_names.proofs.Keys.{any_text, added_text}
 use Rattle.script_names.proofs.methods.Methods.add.Goals as goal
 

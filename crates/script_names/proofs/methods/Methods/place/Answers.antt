@@ -1,6 +1,4 @@
-use Rattle.std.proofs.Common.{◌≡◌, ℕ, List, refl, ap, subst, ◌∙◌, IfSome}
-use Rattle.script_names.specs.Texts.{is_among, place_of}
-use Rattle.script_names.specs.Methods.{key_is}
+use Rattle.script_names.proofs.Prelude.{◌≡◌, ℕ, List, refl, ap, subst, ◌∙◌, IfSome, is_among, place_of, key_is}
 use Rattle.script_names.proofs.Keys.{any_text, index_place}
 use Rattle.script_names.proofs.methods.Methods.place.Goals as goal
 

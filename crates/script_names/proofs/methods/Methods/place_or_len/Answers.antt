@@ -1,7 +1,4 @@
-use Rattle.std.proofs.Common.{◌≡◌, ℕ, List, length, sym, ap, ◌∙◌}
-use Rattle.std.specs.Prelude.{unwrap_or}
-use Rattle.std.proofs.lemmas.List.{length-map}
-use Rattle.script_names.specs.Methods.{method_key, key_is}
+use Rattle.script_names.proofs.Prelude.{◌≡◌, ℕ, List, length, sym, ap, ◌∙◌, unwrap_or, length-map, method_key, key_is}
 use Rattle.script_names.proofs.Keys.{place_or_all}
 use Rattle.script_names.proofs.methods.Methods.place_or_len.Goals as goal
 

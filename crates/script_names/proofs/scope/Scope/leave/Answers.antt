@@ -1,5 +1,4 @@
-use Rattle.std.proofs.Common.{◌≡◌, length, refl}
-use Rattle.std.proofs.lemmas.List.{length-take}
+use Rattle.script_names.proofs.Prelude.{◌≡◌, length, refl, length-take}
 use Rattle.script_names.proofs.Known.{left}
 use Rattle.script_names.proofs.scope.Scope.leave.Goals as goal
 

@@ -1,7 +1,4 @@
-use Rattle.std.proofs.Common.{◌≡◌, ◌++◌, ◌∷◌, [], List, ℕ, Bool, cond, refl, ap, ◌∙◌}
-use Rattle.std.specs.Str.{bytes_eq}
-use Rattle.std.specs.List.{list_any}
-use Rattle.script_names.specs.Texts.{text_is, texts_of, with_name}
+use Rattle.script_names.proofs.Prelude.{◌≡◌, ◌++◌, ◌∷◌, [], List, ℕ, Bool, cond, refl, ap, ◌∙◌, bytes_eq, list_any, text_is, texts_of, with_name}
 use Rattle.script_names.proofs.Keys.{any_text, place_text, added_text}
 use Rattle.script_names.proofs.texts.Names.add.Goals as goal
 

@@ -1,5 +1,4 @@
-use Rattle.std.proofs.Common.{ℕ, List, refl, ap, ◌∙◌}
-use Rattle.script_names.specs.Texts.{text_is, is_among}
+use Rattle.script_names.proofs.Prelude.{ℕ, List, refl, ap, ◌∙◌, text_is, is_among}
 use Rattle.script_names.proofs.Keys.{any_text}
 use Rattle.script_names.proofs.texts.Names.contains.Goals as goal
 

@@ -1,6 +1,4 @@
-use Rattle.std.proofs.Common.{◌≡◌, drop}
-use Rattle.script_names.specs.Texts.{texts_of}
-use Rattle.script_names.specs.Scope.{share_a_name}
+use Rattle.script_names.proofs.Prelude.{◌≡◌, drop, texts_of, share_a_name}
 use Rattle.script_names.proofs.texts.Names.has_any.Given as goal
 
 abbrev pub invariant-loop-text : goal.invariant-loop-text

@@ -1,7 +1,4 @@
-use Rattle.std.proofs.Common.{◌≡◌, drop, sym, ap, ◌∙◌}
-use Rattle.std.proofs.lemmas.List.{drop-map}
-use Rattle.script_names.specs.Texts.{text_is, texts_of}
-use Rattle.script_names.specs.Scope.{share_a_name}
+use Rattle.script_names.proofs.Prelude.{◌≡◌, drop, sym, ap, ◌∙◌, drop-map, text_is, texts_of, share_a_name}
 use Rattle.script_names.proofs.Shared.{either_way, others_decide}
 use Rattle.script_names.proofs.texts.Names.has_any_of.Goals as goal
 

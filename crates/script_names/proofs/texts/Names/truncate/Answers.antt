@@ -1,6 +1,4 @@
-use Rattle.std.proofs.Common.{ap, sym, take, ◌∙◌}
-use Rattle.std.proofs.lemmas.List.{take-map}
-use Rattle.script_names.specs.Texts.{texts_of}
+use Rattle.script_names.proofs.Prelude.{ap, sym, take, ◌∙◌, take-map, texts_of}
 use Rattle.script_names.proofs.texts.Names.truncate.Goals as goal
 
 pub returns : goal.returns

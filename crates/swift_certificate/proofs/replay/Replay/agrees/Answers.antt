@@ -1,12 +1,4 @@
-use Rattle.std.proofs.Common.{rules, ◌≡◌, ◌<◌, ℕ, ℤ, List, Vec, length, map, refl, subst}
-use Rattle.std.specs.Arc.{arc_value}
-use Rattle.std.specs.declared.alloc.Global.{Global}
-use Rattle.script_code.specs.Seen.{rows_of}
-use Rattle.swift_script.specs.Scripts.{ScriptView, root_count}
-use Rattle.swift_steps.specs.OpenHistories.{rows_at}
-use Rattle.swift_certificate.specs.declared.playing.ExecutorProgress.{ExecutorProgress}
-use Rattle.swift_certificate.specs.Reports.{report_view}
-use Rattle.swift_certificate.specs.ReplayInside.{AreEndedAt}
+use Rattle.swift_certificate.proofs.Prelude.{rules, ◌≡◌, ◌<◌, ℕ, ℤ, List, Vec, length, map, refl, subst, arc_value, Global, rows_of, ScriptView, root_count, rows_at, ExecutorProgress, report_view, AreEndedAt}
 use Rattle.swift_certificate.proofs.Ended.{legal_is}
 use Rattle.swift_certificate.proofs.Steps.{map_ok}
 use Rattle.swift_certificate.proofs.replay.Replay.agrees.Goals as goal

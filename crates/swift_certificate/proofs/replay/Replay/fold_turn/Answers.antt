@@ -1,8 +1,4 @@
-use Rattle.std.proofs.Common.{rules, ◌≡◌, ◌∙◌, IfSome, sym, subst, refl}
-use Rattle.std.proofs.lemmas.Option.{slice_get_read}
-use Rattle.swift_certificate.specs.Reports.{report_view}
-use Rattle.swift_certificate.specs.ReplayInside.{Folds}
-use Rattle.swift_steps.proofs.Ran.{if_yes}
+use Rattle.swift_certificate.proofs.Prelude.{rules, ◌≡◌, ◌∙◌, IfSome, sym, subst, refl, slice_get_read, report_view, Folds, if_yes}
 use Rattle.swift_certificate.proofs.Steps.{checkpoint_is, replay_folded}
 use Rattle.swift_certificate.proofs.replay.Replay.fold_turn.Goals as goal
 

@@ -1,18 +1,5 @@
-use Rattle.std.proofs.Common.{rules, ◌≡◌, ◌∙◌, List, refl, sym, subst, ap}
-use Rattle.std.specs.Prelude.{slice_get, Some}
-use Rattle.std.proofs.lemmas.Option.{slice_get_read}
-use Rattle.swift_types.specs.declared.id.TaskId.{TaskId}
+use Rattle.swift_certificate.proofs.Prelude.{rules, ◌≡◌, ◌∙◌, List, refl, sym, subst, ap, slice_get, Some, slice_get_read, TaskId, FrameView, frame_view, RecordView, HasFrames, IfRunning, given_at, NextTurn, PlayedTurn, Plays, record_of, if_yes, at_rest, report_view}
 use Rattle.swift_interpreter.specs.declared.frame.Frame.{Frame}
-use Rattle.swift_interpreter.specs.Frames.{FrameView, frame_view}
-use Rattle.swift_journal.specs.Records.{RecordView}
-use Rattle.swift_turn.specs.Body.{HasFrames, IfRunning}
-use Rattle.swift_steps.specs.NextTurns.{given_at}
-use Rattle.swift_steps.specs.declared.next_turn.NextTurn.{NextTurn}
-use Rattle.swift_steps.specs.declared.played.PlayedTurn.{PlayedTurn}
-use Rattle.swift_steps.specs.OpenHistories.{Plays, record_of}
-use Rattle.swift_steps.proofs.Ran.{if_yes}
-use Rattle.swift_steps.proofs.Steps.{at_rest}
-use Rattle.swift_certificate.specs.Reports.{report_view}
 use Rattle.swift_certificate.proofs.Steps.{journal_is, replay_ran, some_of}
 use Rattle.swift_certificate.proofs.replay.Replay.journal_turn.Goals as goal
 

@@ -1,8 +1,4 @@
-use Rattle.std.proofs.Common.{◌∙◌, ℤ, [], Vec, map, ap}
-use Rattle.std.specs.declared.alloc.Global.{Global}
-use Rattle.script_code.specs.Seen.{rows_of}
-use Rattle.swift_journal.specs.Checkpoints.{CheckpointRoomView}
-use Rattle.swift_certificate.specs.Reports.{report_view}
+use Rattle.swift_certificate.proofs.Prelude.{◌∙◌, ℤ, [], Vec, map, ap, Global, rows_of, CheckpointRoomView, report_view}
 use Rattle.swift_certificate.proofs.Steps.{places_first, starts_from}
 use Rattle.swift_certificate.proofs.replay.Replay.new.Goals as goal
 

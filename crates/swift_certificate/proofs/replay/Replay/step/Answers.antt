@@ -1,7 +1,4 @@
-use Rattle.std.proofs.Common.{refl}
-use Rattle.swift_certificate.specs.Reports.{report_view}
-use Rattle.swift_steps.proofs.Ran.{if_yes}
-use Rattle.swift_steps.proofs.Steps.{at_rest}
+use Rattle.swift_certificate.proofs.Prelude.{refl, report_view, if_yes, at_rest}
 use Rattle.swift_certificate.proofs.Steps.{replay_stays}
 use Rattle.swift_certificate.proofs.replay.Replay.step.Goals as goal
 

@@ -1,6 +1,4 @@
-use Rattle.std.proofs.Common.{ℕ, List, Option, ap, subst, sym, arith}
-use Rattle.swift_types.specs.declared.priority.Priority.{Priority}
-use Rattle.swift_escalation.specs.LevelsInside.{AreChained, IsSettled, GraphView}
+use Rattle.swift_escalation.proofs.Prelude.{ℕ, List, Option, ap, subst, sym, arith, Priority, AreChained, IsSettled, GraphView}
 use Rattle.swift_escalation.proofs.Push.{chained_push, settled_push}
 use Rattle.swift_escalation.proofs.graph.Graph.add.Goals as goal
 

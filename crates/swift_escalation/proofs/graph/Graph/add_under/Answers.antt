@@ -1,12 +1,5 @@
-use Rattle.swift_types.specs.declared.priority.Priority.TheVariants.{Background}
-use Rattle.std.proofs.lemmas.List.{get_or_read}
-use Rattle.std.proofs.Common.{◌<◌, get_or, ◌≡◌, ℕ, List, Option, length, arith, subst, sym, ap, ◌∙◌, [], ◌∷◌, ◌++◌}
-use Rattle.swift_escalation.specs.declared.graph.TaskEdge.{TaskEdge}
+use Rattle.swift_escalation.proofs.Prelude.{Background, get_or_read, ◌<◌, get_or, ◌≡◌, ℕ, List, Option, length, arith, subst, sym, ap, ◌∙◌, [], ◌∷◌, ◌++◌, TaskEdge, with_items_is, with_items, AreChained, IsSettled, GraphView, higher, Priority}
 use Rattle.swift_escalation.proofs.Push.{settled_under, higher_first, chained_push}
-use Rattle.std.proofs.lemmas.List.{with_items_is}
-use Rattle.std.specs.Vec.{with_items}
-use Rattle.swift_escalation.specs.LevelsInside.{AreChained, IsSettled, GraphView, higher}
-use Rattle.swift_types.specs.declared.priority.Priority.{Priority}
 use Rattle.swift_escalation.proofs.graph.Graph.add_under.Goals as goal
 
 pub link-requires-clause-chained : goal.link-requires-clause-chained

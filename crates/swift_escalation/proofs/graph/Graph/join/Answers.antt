@@ -1,12 +1,4 @@
-use Rattle.std.proofs.Common.{◌≡◌, ℕ, ◌-◌, ◌<◌, [], ◌∷◌, ◌++◌, List, Option, length, arith, subst, sym, ap, ◌∙◌}
-use Rattle.swift_escalation.specs.declared.graph.TaskEdge.{TaskEdge}
-use Rattle.std.proofs.lemmas.List.{with_items_is}
-use Rattle.std.specs.Vec.{with_items}
-use Rattle.swift_escalation.specs.LevelsInside.{AreChained, IsSettled, IsSettledBut, Settling, GraphView, level_of}
-use Rattle.swift_types.specs.declared.priority.Priority.{Priority}
-use Rattle.std.proofs.lemmas.List.{get_or_read}
-use Rattle.swift_types.specs.declared.priority.Priority.TheVariants.{Background}
-use Rattle.swift_types.specs.Priority.{rank}
+use Rattle.swift_escalation.proofs.Prelude.{◌≡◌, ℕ, ◌-◌, ◌<◌, [], ◌∷◌, ◌++◌, List, Option, length, arith, subst, sym, ap, ◌∙◌, TaskEdge, with_items_is, with_items, AreChained, IsSettled, IsSettledBut, Settling, GraphView, level_of, Priority, get_or_read, Background, rank}
 use Rattle.swift_escalation.proofs.Push.{open_push}
 use Rattle.swift_escalation.proofs.graph.Graph.join.Goals as goal
 

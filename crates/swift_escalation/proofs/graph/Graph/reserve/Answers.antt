@@ -1,7 +1,4 @@
-use Rattle.std.proofs.Common.{ℕ, List, Option, length, arith, subst, sym, ap, ◌∙◌}
-use Rattle.swift_types.specs.declared.priority.Priority.{Priority}
-use Rattle.swift_escalation.specs.declared.graph.TaskEdge.{TaskEdge}
-use Rattle.swift_escalation.specs.LevelsInside.{AreChained, IsSettled}
+use Rattle.swift_escalation.proofs.Prelude.{ℕ, List, Option, length, arith, subst, sym, ap, ◌∙◌, Priority, TaskEdge, AreChained, IsSettled}
 use Rattle.swift_escalation.proofs.graph.Graph.reserve.Goals as goal
 
 pub invariant_of-self : goal.invariant_of-self

@@ -1,4 +1,4 @@
-use Rattle.std.proofs.Common.{◌∙◌, arith}
+use Rattle.swift_escalation.proofs.Prelude.{◌∙◌, arith}
 use Rattle.swift_escalation.proofs.PlaceLemmas.{place_stays}
 use Rattle.swift_escalation.proofs.places.TaskPlaces.fill.Goals as goal
 

@@ -1,5 +1,4 @@
-use Rattle.std.proofs.Common.{◌≡◌, ℕ, ◌+◌, ◌-◌, vec_len}
-use Rattle.swift_escalation.specs.PlacesInside.{place_in, HasRoom}
+use Rattle.swift_escalation.proofs.Prelude.{◌≡◌, ℕ, ◌+◌, ◌-◌, vec_len, place_in, HasRoom}
 use Rattle.swift_escalation.proofs.places.TaskPlaces.fill.Given as goal
 
 abbrev pub invariant-fill : goal.invariant-fill

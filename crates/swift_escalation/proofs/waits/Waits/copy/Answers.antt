@@ -1,6 +1,4 @@
-use Rattle.std.proofs.Common.{◌≡◌, ◌<◌, ◌∙◌, ap, sym, subst, arith, ℕ}
-use Rattle.swift_escalation.specs.LevelsInside.{GraphView}
-use Rattle.swift_escalation.specs.PlacesInside.{HasRoom, place_in}
+use Rattle.swift_escalation.proofs.Prelude.{◌≡◌, ◌<◌, ◌∙◌, ap, sym, subst, arith, ℕ, GraphView, HasRoom, place_in}
 use Rattle.swift_escalation.proofs.Copies.{copied}
 use Rattle.swift_escalation.proofs.waits.Waits.copy.Goals as goal
 

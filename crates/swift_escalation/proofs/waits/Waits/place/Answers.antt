@@ -1,7 +1,4 @@
-use Rattle.std.proofs.Common.{subst}
-use Rattle.std.specs.Option.{IsSome}
-use Rattle.swift_escalation.specs.PlacesInside.{place_in}
-use Rattle.swift_escalation.specs.Waits.{IsKnown, WaitsView}
+use Rattle.swift_escalation.proofs.Prelude.{subst, IsSome, place_in, IsKnown, WaitsView}
 use Rattle.swift_escalation.proofs.Record.{place_known}
 use Rattle.swift_escalation.proofs.waits.Waits.place.Goals as goal
 

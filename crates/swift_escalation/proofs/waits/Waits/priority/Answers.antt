@@ -1,7 +1,4 @@
-use Rattle.std.proofs.Common.{◌≡◌, Some, arith, subst, sym, refl}
-use Rattle.swift_escalation.specs.PlacesInside.{place_in}
-use Rattle.std.proofs.lemmas.Option.{slice_get_within}
-use Rattle.swift_escalation.specs.Waits.{tasks_of, IsKnown, IsPriority, WaitsView}
+use Rattle.swift_escalation.proofs.Prelude.{◌≡◌, Some, arith, subst, sym, refl, place_in, slice_get_within, tasks_of, IsKnown, IsPriority, WaitsView}
 use Rattle.swift_escalation.proofs.Record.{known_from_stands, is_priority}
 use Rattle.swift_escalation.proofs.waits.Waits.priority.Goals as goal
 

@@ -1,15 +1,4 @@
-use Rattle.swift_types.specs.declared.id.TaskId.{TaskId}
-use Rattle.std.proofs.Common.{ℕ, ◌+◌, ◌<◌, List, Some, [], ◌∷◌, ◌++◌, length, get_or, arith, subst, sym, ap, ◌∙◌, nat_eq, cond, Option}
-use Rattle.std.proofs.lemmas.Option.{slice_get_within}
-use Rattle.swift_escalation.specs.PlacesInside.{place_in}
-use Rattle.swift_escalation.specs.LevelsInside.{GraphView, higher}
-use Rattle.swift_escalation.specs.Waits.{IsKnown, WaitsView, tasks_of, with_event}
-use Rattle.swift_escalation.specs.WaitsInside.{StandsAt, AreOf}
-use Rattle.swift_types.specs.declared.priority.Priority.TheVariants.{Background}
-use Rattle.swift_types.specs.declared.priority.Priority.{Priority}
-use Rattle.swift_escalation.specs.declared.graph.TaskEdge.{TaskEdge}
-use Rattle.swift_escalation.specs.declared.waits.PriorityEvent.{PriorityEvent}
-use Rattle.swift_escalation.specs.declared.waits.PriorityEvent.TheVariants.{Child}
+use Rattle.swift_escalation.proofs.Prelude.{TaskId, ℕ, ◌+◌, ◌<◌, List, Some, [], ◌∷◌, ◌++◌, length, get_or, arith, subst, sym, ap, ◌∙◌, nat_eq, cond, Option, slice_get_within, place_in, GraphView, higher, IsKnown, WaitsView, tasks_of, with_event, StandsAt, AreOf, Background, Priority, TaskEdge, PriorityEvent, Child}
 use Rattle.swift_escalation.proofs.PlaceLemmas.{room_for_fewer}
 use Rattle.swift_escalation.proofs.Record.{none_here, are_of_child}
 use Rattle.swift_escalation.proofs.waits.Waits.record_child.Goals as goal

@@ -1,10 +1,4 @@
-use Rattle.swift_types.specs.declared.id.TaskId.{TaskId}
-use Rattle.std.proofs.Common.{ℕ, ◌+◌, List, Some, [], ◌∷◌, ◌++◌, arith, subst, sym, ap, ◌∙◌, nat_eq, cond, Option}
-use Rattle.swift_escalation.specs.PlacesInside.{place_in}
-use Rattle.swift_escalation.specs.LevelsInside.{GraphView}
-use Rattle.swift_escalation.specs.Waits.{IsKnown, WaitsView}
-use Rattle.swift_escalation.specs.WaitsInside.{AreOf}
-use Rattle.swift_escalation.specs.declared.waits.PriorityEvent.{PriorityEvent}
+use Rattle.swift_escalation.proofs.Prelude.{TaskId, ℕ, ◌+◌, List, Some, [], ◌∷◌, ◌++◌, arith, subst, sym, ap, ◌∙◌, nat_eq, cond, Option, place_in, GraphView, IsKnown, WaitsView, AreOf, PriorityEvent}
 use Rattle.swift_escalation.proofs.PlaceLemmas.{room_for_fewer}
 use Rattle.swift_escalation.proofs.Record.{none_here, are_of_own}
 use Rattle.swift_escalation.proofs.waits.Waits.record_own.Goals as goal

@@ -1,13 +1,4 @@
-use Rattle.swift_types.specs.declared.id.TaskId.{TaskId}
-use Rattle.std.proofs.Common.{ℕ, ◌<◌, List, [], ◌∷◌, ◌++◌, arith, subst, sym, ap, Option, ◌∙◌}
-use Rattle.std.proofs.lemmas.Option.{slice_get_within}
-use Rattle.swift_escalation.specs.PlacesInside.{place_in}
-use Rattle.swift_escalation.specs.LevelsInside.{GraphView, Settling, level_of}
-use Rattle.swift_escalation.specs.Waits.{WaitsView, tasks_of, with_event}
-use Rattle.swift_escalation.specs.WaitsInside.{StandsAt, AreOf}
-use Rattle.swift_escalation.specs.declared.graph.TaskEdge.{TaskEdge}
-use Rattle.swift_escalation.specs.declared.waits.PriorityEvent.{PriorityEvent}
-use Rattle.swift_escalation.specs.declared.waits.PriorityEvent.TheVariants.{Wait}
+use Rattle.swift_escalation.proofs.Prelude.{TaskId, ℕ, ◌<◌, List, [], ◌∷◌, ◌++◌, arith, subst, sym, ap, Option, ◌∙◌, slice_get_within, place_in, GraphView, Settling, level_of, WaitsView, tasks_of, with_event, StandsAt, AreOf, TaskEdge, PriorityEvent, Wait}
 use Rattle.swift_escalation.proofs.PlaceLemmas.{room_for_fewer}
 use Rattle.swift_escalation.proofs.Record.{are_of_wait}
 use Rattle.swift_escalation.proofs.waits.Waits.record_wait.Goals as goal

@@ -1,8 +1,4 @@
-use Rattle.std.proofs.Common.{List, arith, subst, sym, ap}
-use Rattle.swift_escalation.specs.PlacesInside.{place_in}
-use Rattle.swift_escalation.specs.LevelsInside.{GraphView}
-use Rattle.swift_escalation.specs.WaitsInside.{AreOf}
-use Rattle.swift_escalation.specs.declared.waits.PriorityEvent.{PriorityEvent}
+use Rattle.swift_escalation.proofs.Prelude.{List, arith, subst, sym, ap, place_in, GraphView, AreOf, PriorityEvent}
 use Rattle.swift_escalation.proofs.PlaceLemmas.{room_for_fewer}
 use Rattle.swift_escalation.proofs.Record.{are_of_same}
 use Rattle.swift_escalation.proofs.waits.Waits.reserve.Goals as goal

@@ -1,6 +1,4 @@
-use Rattle.std.proofs.Common.{rules, ◌≡◌, ◌*◌, ◌∷◌, ap, sym, ◌∙◌}
-use Rattle.swift_executor.specs.Exec.{DeskView, has_found, image_of}
-use Rattle.swift_executor.specs.Taken.{TakenView, taken_of}
+use Rattle.swift_executor.proofs.Prelude.{rules, ◌≡◌, ◌*◌, ◌∷◌, ap, sym, ◌∙◌, DeskView, has_found, image_of, TakenView, taken_of}
 use Rattle.swift_executor.proofs.exec.Exec.close.Goals as goal
 
 pub returns-in-Run-clause-moved : goal.returns-in-Run-clause-moved

@@ -1,10 +1,4 @@
-use Rattle.std.proofs.Common.{◌*◌, ◌∷◌, refl, map, ap, sym, subst, ◌∙◌}
-use Rattle.swift_history.specs.Jobs.{job_facts}
-use Rattle.swift_executor.specs.Exec.{DeskView, ExecView, IsAt, image_of, state_name}
-use Rattle.swift_executor.specs.Held.{IsStateAt}
-use Rattle.swift_executor.specs.Inbox.{InboxView}
-use Rattle.swift_executor.specs.Taken.{TakenView}
-use Rattle.swift_executor.specs.Visits.{HasStayed}
+use Rattle.swift_executor.proofs.Prelude.{◌*◌, ◌∷◌, refl, map, ap, sym, subst, ◌∙◌, job_facts, DeskView, ExecView, IsAt, image_of, state_name, IsStateAt, InboxView, TakenView, HasStayed}
 use Rattle.swift_executor.proofs.Visits.{free_at, of_book_at, state_at}
 use Rattle.swift_executor.proofs.VisitsDone.{HasReady, failed, has_found, has_tried, visited}
 use Rattle.swift_executor.proofs.exec.Exec.run_one.Goals as goal

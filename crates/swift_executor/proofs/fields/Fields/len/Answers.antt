@@ -1,9 +1,5 @@
-use Rattle.std.proofs.Common.{◌≡◌, ℤ, length, ap, sym, ◌∙◌, arith}
-use Rattle.std.proofs.lemmas.List.{length-map}
-use Rattle.std.specs.declared.vec.Vec.{Vec}
+use Rattle.swift_executor.proofs.Prelude.{◌≡◌, ℤ, length, ap, sym, ◌∙◌, arith, length-map, Vec, rows_of, FieldsAre}
 use Rattle.std.specs.declared.alloc.Global.{Global}
-use Rattle.script_code.specs.Seen.{rows_of}
-use Rattle.swift_executor.specs.FieldsInside.{FieldsAre}
 use Rattle.swift_executor.proofs.Rows.{restored_length}
 use Rattle.swift_executor.proofs.fields.Fields.len.Goals as goal
 

@@ -1,8 +1,5 @@
-use Rattle.std.proofs.Common.{rules, arith, ◌≡◌, length, ◌++◌, ◌∷◌, [], ◌+◌, refl, sym, ap, ◌∙◌, append-nil, length-append}
-use Rattle.std.proofs.lemmas.List.{map-append}
-use Rattle.swift_history.specs.Jobs.{job_facts}
-use Rattle.swift_executor.specs.declared.inbox.view.PassKnown.{PassKnown}
-use Rattle.swift_executor.specs.Inbox.{InboxView}
+use Rattle.swift_executor.proofs.Prelude.{rules, arith, ◌≡◌, length, ◌++◌, ◌∷◌, [], ◌+◌, refl, sym, ap, ◌∙◌, append-nil, map-append, job_facts, PassKnown, InboxView}
+use Rattle.std.proofs.Common.{length-append}
 use Rattle.swift_executor.proofs.AccountIsKept.{takes, goes_on}
 use Rattle.swift_executor.proofs.inbox.Inbox.drain.Goals as goal
 

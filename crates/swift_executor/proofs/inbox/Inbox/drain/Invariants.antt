@@ -1,8 +1,5 @@
-use Rattle.std.proofs.Common.{List, ◌≡◌, ◌++◌, length, map, vec_capacity, true}
+use Rattle.swift_executor.proofs.Prelude.{List, ◌≡◌, ◌++◌, length, map, vec_capacity, true, job_facts, JobView, BodyView}
 use Rattle.crossbeam_queue.specs.Passes.{view, IsPassOf as IsRawPassOf}
-use Rattle.swift_history.specs.Jobs.{job_facts}
-use Rattle.swift_job.specs.Job.{JobView}
-use Rattle.swift_turn.specs.Body.{BodyView}
 use Rattle.swift_executor.proofs.inbox.Inbox.drain.Given as goal
 
 abbrev pub invariant-drain : goal.invariant-drain

@@ -1,4 +1,4 @@
-use Rattle.std.proofs.Common.{rules}
+use Rattle.swift_executor.proofs.Prelude.{rules}
 use Rattle.swift_executor.proofs.AccountIsKept.{takes}
 use Rattle.swift_executor.proofs.inbox.Inbox.take.Goals as goal
 

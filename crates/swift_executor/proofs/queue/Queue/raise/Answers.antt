@@ -1,11 +1,4 @@
-use Rattle.std.proofs.Common.{◌≡◌, ◌<◌, get_or, is_some, false, ℕ, List, None, Option, IfSome, ◌∙◌, lit<, length, map, ap, sym, subst, arith}
-use Rattle.std.proofs.lemmas.List.{get_or_default, length-map}
-use Rattle.std.proofs.lemmas.List.Sorted.{IsPermutation-refl, length_permutation}
-use Rattle.std.specs.List.Sorted.{IsPermutation}
-use Rattle.swift_executor.specs.QueueInside.List.{HasArrival}
-use Rattle.swift_executor.specs.Picks.{raised}
-use Rattle.swift_executor.specs.Queue.{IsOrderly, IsWithout, QueueView}
-use Rattle.swift_executor.specs.declared.queue.waiting.Waiting.{Waiting}
+use Rattle.swift_executor.proofs.Prelude.{◌≡◌, ◌<◌, get_or, is_some, false, ℕ, List, None, Option, IfSome, ◌∙◌, lit<, length, map, ap, sym, subst, arith, get_or_default, length-map, IsPermutation-refl, length_permutation, IsPermutation, HasArrival, raised, IsOrderly, IsWithout, QueueView, Waiting}
 use Rattle.swift_executor.proofs.ArrivalsStayRight.{arrivals_raise, no_arrival}
 use Rattle.swift_executor.proofs.QueueStaysOrderly.{orderly_raise}
 use Rattle.swift_executor.proofs.RaiseChangesOne.{raise_without}

@@ -1,9 +1,4 @@
-use Rattle.std.proofs.Common.{ℕ, List, ◌∷◌, length, set, Some, ap, sym, subst, ◌∙◌, arith}
-use Rattle.std.proofs.lemmas.List.Sorted.{length_permutation}
-use Rattle.swift_types.specs.declared.id.TaskId.{TaskId}
-use Rattle.swift_executor.specs.QueueInside.ArrivalOf.{AreArrivals}
-use Rattle.swift_executor.specs.Queue.{IsOrderly, IsRestorable, QueueView, waiting}
-use Rattle.swift_executor.specs.declared.queue.waiting.Waiting.{Waiting}
+use Rattle.swift_executor.proofs.Prelude.{ℕ, List, ◌∷◌, length, set, Some, ap, sym, subst, ◌∙◌, arith, length_permutation, TaskId, AreArrivals, IsOrderly, IsRestorable, QueueView, waiting, Waiting}
 use Rattle.swift_executor.proofs.ArrivalsStayRight.{arrivals_add}
 use Rattle.swift_executor.proofs.QueueStaysOrderly.{orderly_add}
 use Rattle.swift_executor.proofs.queue.Queue.restore.Goals as goal

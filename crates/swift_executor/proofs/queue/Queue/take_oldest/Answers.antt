@@ -1,11 +1,4 @@
-use Rattle.std.proofs.Common.{ℕ, List, ◌∷◌, length, ap, sym, subst, arith, ◌∙◌}
-use Rattle.std.proofs.lemmas.List.Sorted.{length_permutation}
-use Rattle.swift_executor.specs.QueueInside.ArrivalOf.{AreArrivals}
-use Rattle.swift_executor.specs.QueueInside.PriorityLists.{PriorityListsView}
-use Rattle.swift_executor.specs.QueueInside.QueueInvariant.{QueueInvariant}
-use Rattle.swift_job.specs.Job.{JobView}
-use Rattle.swift_executor.specs.Picks.{IsOlder}
-use Rattle.swift_executor.specs.Queue.{IsOrderly, IsRestorable, QueueView, TakesFirst}
+use Rattle.swift_executor.proofs.Prelude.{ℕ, List, ◌∷◌, length, ap, sym, subst, arith, ◌∙◌, length_permutation, AreArrivals, PriorityListsView, QueueInvariant, JobView, IsOlder, IsOrderly, IsRestorable, QueueView, TakesFirst}
 use Rattle.swift_executor.proofs.ArrivalsStayRight.{arrivals_take}
 use Rattle.swift_executor.proofs.QueueStaysOrderly.{orderly_take, restorable}
 use Rattle.swift_executor.proofs.queue.Queue.take_oldest.Goals as goal

@@ -1,7 +1,4 @@
-use Rattle.std.proofs.Common.{rules, ℕ, List, Option, None, replicate, sym, subst}
-use Rattle.swift_executor.specs.QueueInside.ArrivalOf.{AreArrivals}
-use Rattle.swift_executor.specs.QueueInside.PriorityLists.{PriorityListsView}
-use Rattle.swift_executor.specs.Queue.{IsOrderly}
+use Rattle.swift_executor.proofs.Prelude.{rules, ℕ, List, Option, None, replicate, sym, subst, AreArrivals, PriorityListsView, IsOrderly}
 use Rattle.swift_executor.proofs.ArrivalsStayRight.{arrivals_new}
 use Rattle.swift_executor.proofs.QueueStaysOrderly.{orderly_new}
 use Rattle.swift_executor.proofs.queue.Queue.with_room.Goals as goal

@@ -1,7 +1,4 @@
-use Rattle.std.proofs.Common.{◌≤◌, List, length, ltb, sym, subst, arith, rules}
-use Rattle.std.proofs.lemmas.List.Sorted.{IsPartitionPoint-from_clause, IsPartitionedBy-ltb, IsPermutation-insert}
-use Rattle.swift_executor.specs.QueueInside.List.{IsByArrival}
-use Rattle.swift_executor.specs.declared.queue.waiting.Waiting.{Waiting}
+use Rattle.swift_executor.proofs.Prelude.{◌≤◌, List, length, ltb, sym, subst, arith, rules, IsPartitionPoint-from_clause, IsPartitionedBy-ltb, IsPermutation-insert, IsByArrival, Waiting}
 use Rattle.swift_executor.proofs.PlaceByArrival.{rises_at, rises_not_falls}
 use Rattle.swift_executor.proofs.queue.list.insert_by_arrival.Goals as goal
 

@@ -1,9 +1,4 @@
-use Rattle.std.proofs.Common.{◌≡◌, List, ltb, ap, ◌∙◌, arith, rules}
-use Rattle.std.proofs.lemmas.Bool.{eq-eqb}
-use Rattle.std.proofs.lemmas.List.{get_or_default}
-use Rattle.std.proofs.lemmas.List.Sorted.{IsPartitionPoint-from_clause, IsPartitionedBy-ltb}
-use Rattle.swift_types.specs.declared.id.TaskId.{TaskId}
-use Rattle.swift_executor.specs.declared.queue.waiting.Waiting.{Waiting}
+use Rattle.swift_executor.proofs.Prelude.{◌≡◌, List, ltb, ap, ◌∙◌, arith, rules, eq-eqb, get_or_default, IsPartitionPoint-from_clause, IsPartitionedBy-ltb, TaskId, Waiting}
 use Rattle.swift_executor.proofs.PlaceByArrival.{none_at, rises_not_falls}
 use Rattle.swift_executor.proofs.queue.list.place_by_arrival.Goals as goal
 

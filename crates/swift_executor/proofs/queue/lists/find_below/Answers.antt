@@ -1,4 +1,4 @@
-use Rattle.std.proofs.Common.{arith}
+use Rattle.swift_executor.proofs.Prelude.{arith}
 use Rattle.swift_executor.proofs.RaiseChangesOne.{known_list}
 use Rattle.swift_executor.proofs.queue.lists.find_below.Goals as goal
 

@@ -1,4 +1,4 @@
-use Rattle.swift_executor.specs.QueueInside.Lists.{AreWithout}
+use Rattle.swift_executor.proofs.Prelude.{AreWithout}
 use Rattle.swift_executor.proofs.queue.lists.find_below.Given as goal
 
 abbrev pub invariant-loop-lower : goal.invariant-loop-lower

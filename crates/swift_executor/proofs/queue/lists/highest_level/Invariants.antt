@@ -1,5 +1,4 @@
-use Rattle.std.proofs.Common.{◌≤◌}
-use Rattle.swift_executor.specs.QueueInside.Lists.{AreEmptyFrom}
+use Rattle.swift_executor.proofs.Prelude.{◌≤◌, AreEmptyFrom}
 use Rattle.swift_executor.proofs.queue.lists.highest_level.Given as goal
 
 abbrev pub invariant-loop-level : goal.invariant-loop-level

@@ -1,8 +1,4 @@
-use Rattle.std.proofs.Common.{◌≢◌, ℕ, ◌<◌, [], ◌∷◌, Global, length, get_or, sym, ◌∙◌, arith, length-set}
-use Rattle.std.specs.VecDeque.{deque_items}
-use Rattle.std.specs.declared.collections.VecDeque.{VecDeque}
-use Rattle.swift_executor.specs.declared.queue.waiting.Waiting.{Waiting}
-use Rattle.swift_executor.specs.QueueInside.List.{IsList}
+use Rattle.swift_executor.proofs.Prelude.{◌≢◌, ℕ, ◌<◌, [], ◌∷◌, Global, length, get_or, sym, ◌∙◌, arith, length-set, deque_items, VecDeque, Waiting, IsList}
 use Rattle.swift_executor.proofs.OneListOfAll.{all_list, exchange}
 use Rattle.swift_executor.proofs.EditedListIsList.{each_set, insert_list, rank_few}
 use Rattle.swift_executor.proofs.queue.lists.insert_by_priority.Goals as goal

@@ -1,8 +1,4 @@
-use Rattle.std.proofs.Common.{◌≡◌, ℕ, ◌+◌, ◌<◌, ◌≤◌, Global, Option, Some, IfSome, length, get_or, refl, sym, subst, ◌∙◌, arith}
-use Rattle.std.proofs.lemmas.Bool.{ltb-true, ltb-false}
-use Rattle.std.specs.declared.collections.VecDeque.{VecDeque}
-use Rattle.swift_executor.specs.QueueInside.List.{IsByArrival}
-use Rattle.swift_executor.specs.QueueInside.Lists.{IsOldestBelow}
+use Rattle.swift_executor.proofs.Prelude.{◌≡◌, ℕ, ◌+◌, ◌<◌, ◌≤◌, Global, Option, Some, IfSome, length, get_or, refl, sym, subst, ◌∙◌, arith, ltb-true, ltb-false, VecDeque, IsByArrival, IsOldestBelow}
 use Rattle.swift_executor.proofs.FirstIsPicked.{least_new, least_old, least_oldest, starts, starts_any}
 use Rattle.swift_executor.proofs.queue.lists.oldest_level.Goals as goal
 use Rattle.swift_executor.proofs.queue.lists.oldest_level.Goals.{in-Some-found, in-None, then-is_older, else-is_older}

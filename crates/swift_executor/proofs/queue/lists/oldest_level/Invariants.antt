@@ -1,4 +1,4 @@
-use Rattle.swift_executor.specs.QueueInside.Lists.{IsOldestBelow}
+use Rattle.swift_executor.proofs.Prelude.{IsOldestBelow}
 use Rattle.swift_executor.proofs.queue.lists.oldest_level.Given as goal
 
 abbrev pub invariant-loop-level : goal.invariant-loop-level

@@ -1,10 +1,4 @@
-use Rattle.std.proofs.Common.{ℕ, List, [], ◌∷◌, Global, get_or, sym, subst, ◌∙◌, length-set}
-use Rattle.std.proofs.lemmas.List.Sorted.{IsPermutation-remove}
-use Rattle.std.specs.List.Sorted.{IsPermutation}
-use Rattle.std.specs.VecDeque.{deque_items}
-use Rattle.std.specs.declared.collections.VecDeque.{VecDeque}
-use Rattle.swift_executor.specs.declared.queue.waiting.Waiting.{Waiting}
-use Rattle.swift_executor.specs.QueueInside.List.{IsList}
+use Rattle.swift_executor.proofs.Prelude.{ℕ, List, [], ◌∷◌, Global, get_or, sym, subst, ◌∙◌, length-set, IsPermutation-remove, IsPermutation, deque_items, VecDeque, Waiting, IsList}
 use Rattle.swift_executor.proofs.OneListOfAll.{exchange}
 use Rattle.swift_executor.proofs.EditedListIsList.{each_set, remove_list}
 use Rattle.swift_executor.proofs.queue.lists.take_at.Goals as goal

@@ -1,13 +1,4 @@
-use Rattle.std.proofs.Common.{◌≡◌, ◌≢◌, true≢false, ◌+◌, ℕ, List, [], ◌∷◌, ◌++◌, length, map, inl, inr, ap, sym, subst, ◌∙◌, arith}
-use Rattle.std.proofs.lemmas.List.{length-map, length-append}
-use Rattle.std.proofs.lemmas.List.Elements.{All-map}
-use Rattle.std.proofs.lemmas.List.Sorted.{IsPermutation-map, length_permutation}
-use Rattle.std.specs.List.Sorted.{IsPermutation}
-use Rattle.swift_types.specs.declared.id.TaskId.{TaskId}
-use Rattle.swift_job.specs.Job.{JobView}
-use Rattle.swift_executor.specs.Queue.{waiting}
-use Rattle.swift_executor.specs.Ready.{Adds, HasRoom, IsClear, ReadyJobsView, ReadyJob, level_at, priority_of, times}
-use Rattle.swift_executor.specs.ReadyInside.{job_of, task_in, task_of}
+use Rattle.swift_executor.proofs.Prelude.{◌≡◌, ◌≢◌, true≢false, ◌+◌, ℕ, List, [], ◌∷◌, ◌++◌, length, map, inl, inr, ap, sym, subst, ◌∙◌, arith, length-map, length-append, All-map, IsPermutation-map, length_permutation, IsPermutation, TaskId, JobView, waiting, Adds, HasRoom, IsClear, ReadyJobsView, ReadyJob, level_at, priority_of, times, job_of, task_in, task_of}
 use Rattle.swift_executor.proofs.ReadyKept.{all_unmap, counted_add, tasks_add, tasks_behind}
 use Rattle.swift_executor.proofs.ready.ReadyJobs.add.Goals as goal
 

@@ -1,5 +1,4 @@
-use Rattle.std.proofs.Common.{◌≡◌, ℕ, List, length, take, true, eqb, ap, sym, subst, ◌∙◌}
-use Rattle.swift_executor.specs.Ready.{AreHigher, ReadyJobsView}
+use Rattle.swift_executor.proofs.Prelude.{◌≡◌, ℕ, List, length, take, true, eqb, ap, sym, subst, ◌∙◌, AreHigher, ReadyJobsView}
 use Rattle.swift_executor.proofs.Counting.{none_higher}
 use Rattle.swift_executor.proofs.ready.ReadyJobs.count.Goals as goal
 use lib.Pointwise.{pointwise}

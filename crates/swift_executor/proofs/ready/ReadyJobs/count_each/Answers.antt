@@ -1,6 +1,4 @@
-use Rattle.std.proofs.Common.{get_or, refl, ap, ◌∙◌}
-use Rattle.std.proofs.lemmas.List.Sorted.{IsPermutation-trans}
-use Rattle.swift_executor.specs.Ready.{ReadyJobsView}
+use Rattle.swift_executor.proofs.Prelude.{get_or, refl, ap, ◌∙◌, IsPermutation-trans, ReadyJobsView}
 use Rattle.swift_executor.proofs.Counting.{one_counted}
 use Rattle.swift_executor.proofs.ready.ReadyJobs.count_each.Goals as goal
 

@@ -1,6 +1,4 @@
-use Rattle.std.proofs.Common.{◌≡◌, ◌≤◌, length}
-use Rattle.std.specs.List.Sorted.{IsPermutation}
-use Rattle.swift_types.specs.declared.limits.TheConstants.{TASKS}
+use Rattle.swift_executor.proofs.Prelude.{◌≡◌, ◌≤◌, length, IsPermutation, TASKS}
 use Rattle.swift_executor.proofs.Counting.{AreCountedBelow}
 use Rattle.swift_executor.proofs.ready.ReadyJobs.count_each.Given as goal
 

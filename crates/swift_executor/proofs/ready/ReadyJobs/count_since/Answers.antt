@@ -1,5 +1,4 @@
-use Rattle.std.proofs.Common.{ℕ, ◌≤◌, Option, IfSome, subst}
-use Rattle.swift_executor.specs.Ready.{AreAtMost, ReadyJobsView}
+use Rattle.swift_executor.proofs.Prelude.{ℕ, ◌≤◌, Option, IfSome, subst, AreAtMost, ReadyJobsView}
 use Rattle.swift_executor.proofs.Counting.{at_most_higher}
 use Rattle.swift_executor.proofs.ready.ReadyJobs.count_since.Goals as goal
 

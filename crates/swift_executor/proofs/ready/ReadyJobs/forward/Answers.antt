@@ -1,12 +1,4 @@
-use Rattle.std.proofs.Common.{◌≡◌, ◌≢◌, ◌<◌, ℕ, suc, List, ◌∷◌, ◌++◌, lit<, length, map, take, drop, get_or, inr, ap, sym, subst, ◌∙◌, arith}
-use Rattle.std.proofs.lemmas.List.Sorted.{IsPermutation-map, IsPermutation-remove, length_permutation}
-use Rattle.std.specs.List.{All}
-use Rattle.std.specs.List.Sorted.{IsPermutation}
-use Rattle.swift_types.specs.declared.id.TaskId.{TaskId}
-use Rattle.swift_job.specs.Job.{JobView}
-use Rattle.swift_executor.specs.Queue.{waiting}
-use Rattle.swift_executor.specs.Ready.{Forwards, IsClear, ReadyJobsView, ReadyJob, level_at, priority_of}
-use Rattle.swift_executor.specs.ReadyInside.{job_of}
+use Rattle.swift_executor.proofs.Prelude.{◌≡◌, ◌≢◌, ◌<◌, ℕ, suc, List, ◌∷◌, ◌++◌, lit<, length, map, take, drop, get_or, inr, ap, sym, subst, ◌∙◌, arith, IsPermutation-map, IsPermutation-remove, length_permutation, All, IsPermutation, TaskId, JobView, waiting, Forwards, IsClear, ReadyJobsView, ReadyJob, level_at, priority_of, job_of}
 use Rattle.swift_executor.proofs.ReadyKept.{all_unmap, counted_add, parted, tasks_forward}
 use Rattle.swift_executor.proofs.ready.ReadyJobs.forward.Goals as goal
 

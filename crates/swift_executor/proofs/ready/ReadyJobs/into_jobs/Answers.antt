@@ -1,8 +1,4 @@
-use Rattle.std.proofs.Common.{List, ◌++◌, map, subst}
-use Rattle.std.proofs.lemmas.List.Sorted.{IsPermutation-append_comm, IsPermutation-trans}
-use Rattle.std.specs.List.Sorted.{IsPermutation}
-use Rattle.swift_job.specs.Job.{JobView}
-use Rattle.swift_executor.specs.Ready.{ReadyJobsView}
+use Rattle.swift_executor.proofs.Prelude.{List, ◌++◌, map, subst, IsPermutation-append_comm, IsPermutation-trans, IsPermutation, JobView, ReadyJobsView}
 use Rattle.swift_executor.proofs.ReadyKept.{jobs_seen}
 use Rattle.swift_executor.proofs.ready.ReadyJobs.into_jobs.Goals as goal
 

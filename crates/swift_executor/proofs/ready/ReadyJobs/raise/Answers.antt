@@ -1,13 +1,5 @@
-use Rattle.std.proofs.Common.{◌<◌, ℕ, List, ◌++◌, length, map, set, ap, sym, subst, ◌∙◌, arith, length-set, get_or-set_same, get_or-set_other}
-use Rattle.std.proofs.lemmas.List.{get_or_default}
-use Rattle.std.specs.List.Sorted.{IsPermutation}
-use Rattle.swift_types.specs.declared.id.TaskId.{TaskId}
-use Rattle.swift_types.specs.declared.priority.Priority.{Priority}
-use Rattle.swift_executor.specs.Picks.{raised}
-use Rattle.swift_executor.specs.Ready.{ReadyJobsView, ReadyJob, level_at, priority_of, times}
-use Rattle.swift_executor.specs.ReadyInside.{job_of, task_in, task_of}
+use Rattle.swift_executor.proofs.Prelude.{◌<◌, ℕ, List, ◌++◌, length, map, set, ap, sym, subst, ◌∙◌, arith, length-set, get_or-set_same, get_or-set_other, get_or_default, IsPermutation, TaskId, Priority, raised, ReadyJobsView, ReadyJob, level_at, priority_of, times, job_of, task_in, task_of, IsPermutation-append_left, IsPermutation-map}
 use Rattle.swift_executor.proofs.ReadyKept.{counted_raise, raised_seen, raised_tasks, seen_perm, times_perm}
-use Rattle.std.proofs.lemmas.List.Sorted.{IsPermutation-append_left, IsPermutation-map}
 use Rattle.swift_executor.proofs.ready.ReadyJobs.raise.Goals as goal
 
 pub invariant_of-self : goal.invariant_of-self

@@ -1,11 +1,4 @@
-use Rattle.std.proofs.Common.{◌≢◌, ◌∷◌, lit<, map, ap, sym, subst, ◌∙◌, arith}
-use Rattle.std.proofs.lemmas.List.{length-map}
-use Rattle.std.proofs.lemmas.List.Sorted.{IsPermutation-map, length_permutation}
-use Rattle.std.specs.List.Sorted.{IsPermutation}
-use Rattle.swift_types.specs.declared.id.TaskId.{TaskId}
-use Rattle.swift_executor.specs.Queue.{waiting}
-use Rattle.swift_executor.specs.Ready.{CanRestore, ReadyJobsView, ReadyJob, level_at, priority_of, ready_job}
-use Rattle.swift_executor.specs.ReadyInside.{job_of, task_in}
+use Rattle.swift_executor.proofs.Prelude.{◌≢◌, ◌∷◌, lit<, map, ap, sym, subst, ◌∙◌, arith, length-map, IsPermutation-map, length_permutation, IsPermutation, TaskId, waiting, CanRestore, ReadyJobsView, ReadyJob, level_at, priority_of, ready_job, job_of, task_in}
 use Rattle.swift_executor.proofs.ReadyKept.{all_unmap, counted_add, tasks_add}
 use Rattle.swift_executor.proofs.ready.ReadyJobs.restore.Goals as goal
 

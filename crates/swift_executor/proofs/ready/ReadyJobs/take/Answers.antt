@@ -1,13 +1,4 @@
-use Rattle.std.proofs.Common.{◌≢◌, ◌∷◌, Contains, map, sym, subst, arith}
-use Rattle.std.proofs.lemmas.List.{length-map}
-use Rattle.std.proofs.lemmas.List.Elements.{All-map}
-use Rattle.std.proofs.lemmas.List.Sorted.{IsPermutation-map, length_permutation}
-use Rattle.std.specs.List.{All}
-use Rattle.std.specs.List.Sorted.{IsPermutation}
-use Rattle.swift_types.specs.declared.id.TaskId.{TaskId}
-use Rattle.swift_executor.specs.Queue.{QueueView, waiting}
-use Rattle.swift_executor.specs.Ready.{ComesFirst, ReadyJobsView, ready_job}
-use Rattle.swift_executor.specs.ReadyInside.{ReadyInvariant, job_of, task_in}
+use Rattle.swift_executor.proofs.Prelude.{◌≢◌, ◌∷◌, Contains, map, sym, subst, arith, length-map, All-map, IsPermutation-map, length_permutation, All, IsPermutation, TaskId, QueueView, waiting, ComesFirst, ReadyJobsView, ready_job, ReadyInvariant, job_of, task_in}
 use Rattle.swift_executor.proofs.ReadyKept.{all_come, counted_take, stands_taken, tasks_take}
 use Rattle.swift_executor.proofs.ready.ReadyJobs.take.Goals as goal
 

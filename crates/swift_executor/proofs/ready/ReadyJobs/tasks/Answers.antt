@@ -1,7 +1,4 @@
-use Rattle.std.proofs.Common.{List, ◌++◌, map, ap, ◌∙◌}
-use Rattle.swift_types.specs.declared.id.TaskId.{TaskId}
-use Rattle.swift_executor.specs.Ready.{ReadyJobsView, tasks_in, times}
-use Rattle.swift_executor.specs.ReadyInside.{task_in}
+use Rattle.swift_executor.proofs.Prelude.{List, ◌++◌, map, ap, ◌∙◌, TaskId, ReadyJobsView, tasks_in, times, task_in}
 use Rattle.swift_executor.proofs.ReadyKept.{tasks_seen}
 use Rattle.swift_executor.proofs.ready.ReadyJobs.tasks.Goals as goal
 

@@ -1,11 +1,4 @@
-use Rattle.std.proofs.Common.{◌≡◌, ℕ, List, [], ◌++◌, length, map, sym, subst, ap, ◌∙◌, arith}
-use Rattle.swift_job.specs.Job.{JobView}
-use Rattle.swift_executor.specs.Queue.{QueueView}
-use Rattle.swift_executor.specs.declared.queue.waiting.Waiting.{Waiting}
-use Rattle.std.proofs.lemmas.List.{length-replicate}
-use Rattle.swift_types.specs.declared.limits.TheConstants.{TASKS}
-use Rattle.swift_executor.specs.Ready.{times}
-use Rattle.swift_executor.specs.ReadyInside.{AreCounted, job_of, task_in, task_of}
+use Rattle.swift_executor.proofs.Prelude.{◌≡◌, ℕ, List, [], ◌++◌, length, map, sym, subst, ap, ◌∙◌, arith, JobView, QueueView, Waiting, length-replicate, TASKS, times, AreCounted, job_of, task_in, task_of}
 use Rattle.swift_executor.proofs.ready.ReadyJobs.with_room.Goals as goal
 
 pub returns-in-Ok : goal.returns-in-Ok

@@ -1,6 +1,4 @@
-use Rattle.std.proofs.Common.{◌≡◌, None, ap, sym, subst, ◌∙◌}
-use Rattle.swift_executor.specs.State.{BelongsTo, ExecStateView}
-use Rattle.swift_executor.specs.StateInside.{chosen_of}
+use Rattle.swift_executor.proofs.Prelude.{◌≡◌, None, ap, sym, subst, ◌∙◌, BelongsTo, ExecStateView, chosen_of}
 use Rattle.swift_executor.proofs.StateKept.{accept_keeps}
 use Rattle.swift_executor.proofs.state.ExecState.accept.Goals as goal
 

@@ -1,15 +1,4 @@
-use Rattle.std.proofs.Common.{◌≡◌, ℕ, Bool, List, [], ◌∷◌, Contains, None, Option, refl, ap, sym, subst, ◌∙◌, arith}
-use Rattle.std.proofs.lemmas.Bool.{ltb-true, ltb-false}
-use Rattle.std.proofs.lemmas.List.Sorted.{IsPermutation-trans}
-use Rattle.std.specs.List.{All}
-use Rattle.std.specs.List.Sorted.{IsPermutation}
-use Rattle.swift_types.specs.declared.id.TaskId.{TaskId}
-use Rattle.swift_turn.specs.Body.{BodyView}
-use Rattle.swift_script.specs.Scripts.{ScriptView, executor_kind}
-use Rattle.swift_executor.specs.Ready.{AreHigher, ComesFirst, ReadyJobsView, level_at, ready_job}
-use Rattle.swift_executor.specs.State.{Chooses, ChosenView, ExecStateView, HasNone, ExecInvariant, LacksTask, leaders, takes_by_arrival}
-use Rattle.swift_executor.specs.StateInside.{chosen_of}
-use Rattle.swift_executor.specs.declared.chosen.Chosen.{Chosen}
+use Rattle.swift_executor.proofs.Prelude.{◌≡◌, ℕ, Bool, List, [], ◌∷◌, Contains, None, Option, refl, ap, sym, subst, ◌∙◌, arith, ltb-true, ltb-false, IsPermutation-trans, All, IsPermutation, TaskId, BodyView, ScriptView, executor_kind, AreHigher, ComesFirst, ReadyJobsView, level_at, ready_job, Chooses, ChosenView, ExecStateView, HasNone, ExecInvariant, LacksTask, leaders, takes_by_arrival, chosen_of, Chosen}
 use Rattle.swift_executor.proofs.Picked.{all_of, none_behind, none_left, two_steps, was_inside}
 use Rattle.swift_executor.proofs.StateKept.{choose_keeps, reorder_keeps}
 use Rattle.swift_executor.proofs.state.ExecState.choose.Goals as goal

@@ -1,8 +1,4 @@
-use Rattle.std.proofs.Common.{subst, sym}
-use Rattle.swift_turn.specs.Body.{BodyView}
-use Rattle.swift_executor.specs.Ready.{ReadyJobsView}
-use Rattle.swift_executor.specs.State.{ExecInvariant, ExecStateView}
-use Rattle.swift_executor.specs.StateInside.{chosen_of}
+use Rattle.swift_executor.proofs.Prelude.{subst, sym, BodyView, ReadyJobsView, ExecInvariant, ExecStateView, chosen_of}
 use Rattle.swift_executor.proofs.StateKept.{counted_keeps}
 use Rattle.swift_executor.proofs.state.ExecState.counts_from.Goals as goal
 

@@ -1,12 +1,5 @@
-use Rattle.std.proofs.Common.{◌≡◌, ℤ, List, Some, Option, IfSome, refl, ap, sym, subst, ◌∙◌}
-use Rattle.std.proofs.lemmas.Option.{same_Some}
-use Rattle.swift_interpreter.specs.Frames.{effect_views, frame_view}
-use Rattle.swift_interpreter.specs.TurnStates.{exit_view}
-use Rattle.swift_executor.specs.State.{ChosenView, ExecStateView, HasChosen, IsBegun, IsChosen, ExecInvariant, Plays, PutsBack}
-use Rattle.swift_executor.specs.StateInside.{chosen_at, chosen_of, chosen_view, stage_of}
-use Rattle.swift_executor.specs.declared.chosen.ChosenStage.TheVariants.{Played}
+use Rattle.swift_executor.proofs.Prelude.{◌≡◌, ℤ, List, Some, Option, IfSome, refl, ap, sym, subst, ◌∙◌, same_Some, effect_views, frame_view, exit_view, ChosenView, ExecStateView, HasChosen, IsBegun, IsChosen, ExecInvariant, Plays, PutsBack, chosen_at, chosen_of, chosen_view, stage_of, Played, ScriptView}
 use Rattle.swift_executor.proofs.ChosenJob.{begun_stage, runs, seen}
-use Rattle.swift_script.specs.Scripts.{ScriptView}
 use Rattle.swift_executor.proofs.Spared.{all_hold, may_spare}
 use Rattle.swift_executor.proofs.StartInvariants.{StartWell}
 use Rattle.swift_executor.proofs.StateKept.{stage_keeps}

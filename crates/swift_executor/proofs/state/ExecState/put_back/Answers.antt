@@ -1,12 +1,4 @@
-use Rattle.std.proofs.Common.{◌≡◌, ℕ, IsSome, Some, None, Option, IfSome, lit<, refl, ap, sym, subst, ◌∙◌}
-use Rattle.swift_job.specs.Job.{JobView}
-use Rattle.swift_turn.specs.Body.{BodyView}
-use Rattle.swift_history.specs.TurnEnds.{JobFacts}
-use Rattle.swift_types.specs.declared.id.TaskId.{TaskId}
-use Rattle.swift_executor.specs.Ready.{CanRestore}
-use Rattle.swift_executor.specs.FieldsInside.{FieldsAre}
-use Rattle.swift_executor.specs.State.{ChosenView, ExecStateView, HasChosen, IsChosen, ExecInvariant, PutsBack}
-use Rattle.swift_executor.specs.StateInside.{chosen_at, chosen_of, chosen_view}
+use Rattle.swift_executor.proofs.Prelude.{◌≡◌, ℕ, IsSome, Some, None, Option, IfSome, lit<, refl, ap, sym, subst, ◌∙◌, JobView, BodyView, JobFacts, TaskId, CanRestore, FieldsAre, ChosenView, ExecStateView, HasChosen, IsChosen, ExecInvariant, PutsBack, chosen_at, chosen_of, chosen_view}
 use Rattle.swift_executor.proofs.ChosenJob.{can_go, runs, seen}
 use Rattle.swift_executor.proofs.StateKept.{back_keeps, belongs_back, same_task}
 use Rattle.swift_executor.proofs.state.ExecState.put_back.Goals as goal

@@ -1,6 +1,4 @@
-use Rattle.std.proofs.Common.{ap, ◌∙◌}
-use Rattle.swift_executor.specs.Ready.{tasks_in, times}
-use Rattle.swift_executor.specs.State.{ExecStateView}
+use Rattle.swift_executor.proofs.Prelude.{ap, ◌∙◌, tasks_in, times, ExecStateView}
 use Rattle.swift_executor.proofs.state.ExecState.ready.Goals as goal
 
 pub returns : goal.returns

@@ -1,21 +1,6 @@
-use Rattle.std.proofs.Common.{◌≡◌, List, map, Some, Option, IfSome, ◌++◌, ◌∷◌, [], refl, ap, sym, subst, ◌∙◌}
-use Rattle.std.proofs.lemmas.Option.{same_Some}
+use Rattle.swift_executor.proofs.Prelude.{◌≡◌, List, map, Some, Option, IfSome, ◌++◌, ◌∷◌, [], refl, ap, sym, subst, ◌∙◌, same_Some, BookView, Account, BookKnown, ScriptView, with_turn_begun, job_facts, has_last_root, BookSeatView, RunsAtSeat, seat_of, IsSeatFor, orders_of, records_in, seen_by, IsRefusal, ExecFault, BeginsTurn, ChosenView, ExecStateView, HasChosen, IsChosen, ExecInvariant, IsPicked, PutsBack, begun, refusal_to_begin, chosen_at, chosen_of, chosen_view, Chosen, Begun}
 use Rattle.swift_events.specs.declared.event.Event.TheVariants.{Begin as Begins_event}
-use Rattle.swift_tasks.specs.Books.{BookView}
-use Rattle.swift_course.specs.Views.{Account, BookKnown}
-use Rattle.swift_script.specs.Scripts.{ScriptView}
-use Rattle.swift_course.specs.Steps.{with_turn_begun}
-use Rattle.swift_history.specs.Jobs.{job_facts}
-use Rattle.swift_history.specs.Orderly.{has_last_root}
-use Rattle.swift_shared_book.specs.Shared.{BookSeatView, RunsAtSeat, seat_of}
-use Rattle.swift_executor.specs.Seats.{IsSeatFor, orders_of, records_in, seen_by}
 use Rattle.swift_tasks.specs.Refusals.{refusal_of_begin}
-use Rattle.swift_executor.specs.Refusals.{IsRefusal}
-use Rattle.swift_executor.specs.declared.fault.ExecFault.{ExecFault}
-use Rattle.swift_executor.specs.State.{BeginsTurn, ChosenView, ExecStateView, HasChosen, IsChosen, ExecInvariant, IsPicked, PutsBack, begun, refusal_to_begin}
-use Rattle.swift_executor.specs.StateInside.{chosen_at, chosen_of, chosen_view}
-use Rattle.swift_executor.specs.declared.chosen.Chosen.{Chosen}
-use Rattle.swift_executor.specs.declared.chosen.ChosenStage.TheVariants.{Begun}
 use Rattle.swift_executor.proofs.ChosenJob.{seen}
 use Rattle.swift_executor.proofs.SeatKept.{back_knows, began_knows, orders_begun, records_begun, picked_has_ticket, picked_runs}
 use Rattle.swift_executor.proofs.StateKept.{refused_so, stage_keeps, stage_picked}

@@ -1,21 +1,4 @@
-use Rattle.std.proofs.Common.{◌≡◌, Some, None, Option, IfSome, map, refl, ap, sym, subst, ◌∙◌, inl, inr}
-use Rattle.std.proofs.lemmas.Option.{same_Some}
-use Rattle.swift_interpreter.specs.Frames.{effect_views}
-use Rattle.swift_interpreter.specs.TurnStates.{exit_view}
-use Rattle.swift_job.specs.Job.{JobView}
-use Rattle.swift_turn.specs.Body.{BodyView}
-use Rattle.std.specs.List.{AllByRecursion}
-use Rattle.swift_script.specs.Scripts.{ScriptView}
-use Rattle.swift_tasks.specs.Books.{IsJobOf}
-use Rattle.swift_history.specs.Jobs.{job_facts}
-use Rattle.swift_executor.specs.PlayingInside.{Applied, refusal_of_left}
-use Rattle.swift_executor.specs.FieldsInside.{FieldsAre}
-use Rattle.swift_executor.specs.State.{ChosenView, EndsTurn, ExecStateView, HasChosen, IsChosen, ExecInvariant, IsPlayed, PutsBack, record_of, refusal_of_stage, refusal_to_apply}
-use Rattle.swift_executor.specs.Refusals.{IsRefusal}
-use Rattle.swift_executor.specs.declared.fault.ExecFault.{ExecFault}
-use Rattle.swift_executor.specs.Seats.{IsSeatFor, orders_of}
-use Rattle.swift_executor.specs.StateInside.{chosen_at, chosen_of, chosen_view, stage_of}
-use Rattle.swift_executor.specs.declared.chosen.PlayedTurn.{PlayedTurn}
+use Rattle.swift_executor.proofs.Prelude.{◌≡◌, Some, None, Option, IfSome, map, refl, ap, sym, subst, ◌∙◌, inl, inr, same_Some, effect_views, exit_view, JobView, BodyView, AllByRecursion, ScriptView, IsJobOf, job_facts, Applied, refusal_of_left, FieldsAre, ChosenView, EndsTurn, ExecStateView, HasChosen, IsChosen, ExecInvariant, IsPlayed, PutsBack, record_of, refusal_of_stage, refusal_to_apply, IsRefusal, ExecFault, IsSeatFor, orders_of, chosen_at, chosen_of, chosen_view, stage_of, PlayedTurn}
 use Rattle.swift_executor.proofs.ChosenJob.{played_stage, runs, seen}
 use Rattle.swift_executor.proofs.Ended.{ended, unchanged}
 use Rattle.swift_executor.proofs.SeatKept.{back_knows, orders_applied}

@@ -1,8 +1,4 @@
-use Rattle.std.proofs.Common.{List, [], ◌∷◌, ◌++◌, ap, sym, subst, ◌∙◌}
-use Rattle.std.specs.List.Sorted.{IsPermutation}
-use Rattle.std.proofs.lemmas.List.Sorted.{IsPermutation-sym, IsPermutation-to_front}
-use Rattle.swift_types.specs.declared.id.TaskId.{TaskId}
-use Rattle.swift_executor.specs.TasksInside.{ReadyTasksView}
+use Rattle.swift_executor.proofs.Prelude.{List, [], ◌∷◌, ◌++◌, ap, sym, subst, ◌∙◌, IsPermutation, IsPermutation-sym, IsPermutation-to_front, TaskId, ReadyTasksView}
 use Rattle.swift_executor.proofs.tasks.ReadyTasks.add.Goals as goal
 
 pub returns-clause-tasks : goal.returns-clause-tasks

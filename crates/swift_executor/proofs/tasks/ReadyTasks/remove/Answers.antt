@@ -1,7 +1,4 @@
-use Rattle.std.proofs.Common.{◌≡◌, ◌<◌, ◌≤◌, List, [], ◌∷◌, ◌++◌, get_or, set, length, ap, sym, subst, ◌∙◌, arith}
-use Rattle.std.specs.List.Sorted.{IsPermutation}
-use Rattle.swift_types.specs.declared.id.TaskId.{TaskId}
-use Rattle.swift_executor.specs.TasksInside.{ReadyTasksView}
+use Rattle.swift_executor.proofs.Prelude.{◌≡◌, ◌<◌, ◌≤◌, List, [], ◌∷◌, ◌++◌, get_or, set, length, ap, sym, subst, ◌∙◌, arith, IsPermutation, TaskId, ReadyTasksView}
 use Rattle.swift_executor.proofs.Removed.{removed, removed_last}
 use Rattle.swift_executor.proofs.tasks.ReadyTasks.remove.Goals as goal
 

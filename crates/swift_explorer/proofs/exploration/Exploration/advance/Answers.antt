@@ -1,5 +1,4 @@
-use Rattle.std.proofs.Common.{◌≤◌, length, subst}
-use Rattle.swift_explorer.specs.Explorations.{ExplorationView}
+use Rattle.swift_explorer.proofs.Prelude.{◌≤◌, length, subst, ExplorationView}
 use Rattle.swift_explorer.proofs.Growing.{nodes_grown}
 use Rattle.swift_explorer.proofs.exploration.Exploration.advance.Goals as goal
 

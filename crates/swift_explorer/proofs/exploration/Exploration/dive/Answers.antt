@@ -1,7 +1,4 @@
-use Rattle.std.proofs.Common.{sym, subst, ap}
-use Rattle.std.specs.Arc.{arc_value}
-use Rattle.swift_script.specs.Scripts.{ScriptView}
-use Rattle.swift_explorer.specs.SearchInside.{HasGoneOn}
+use Rattle.swift_explorer.proofs.Prelude.{sym, subst, ap, arc_value, ScriptView, HasGoneOn}
 use Rattle.swift_explorer.proofs.Seeing.{gone_seen}
 use Rattle.swift_explorer.proofs.exploration.Exploration.dive.Goals as goal
 

@@ -1,9 +1,4 @@
-use Rattle.std.proofs.Common.{◌≡◌, ◌≤◌, ◌∙◌, ℕ, true, leb, length, vec_len, sym, subst, ap, arith}
-use Rattle.std.proofs.lemmas.Bool.{false≢true, leb-true}
-use Rattle.swift_script.specs.Scripts.{ScriptView}
-use Rattle.swift_explorer.specs.declared.search.Search.{Search}
-use Rattle.swift_explorer.specs.Explorations.{ExplorationView}
-use Rattle.swift_explorer.specs.Outcomes.{HasEachOutcome, NeverBreaks}
+use Rattle.swift_explorer.proofs.Prelude.{◌≡◌, ◌≤◌, ◌∙◌, ℕ, true, leb, length, vec_len, sym, subst, ap, arith, false≢true, leb-true, ScriptView, Search, ExplorationView, HasEachOutcome, NeverBreaks}
 use Rattle.swift_explorer.proofs.Complete.{has_each, never_breaks}
 use Rattle.swift_explorer.proofs.exploration.Exploration.finish.Goals.{then-is_complete, else-is_complete}
 use Rattle.swift_explorer.proofs.exploration.Exploration.finish.Goals as goal

@@ -1,4 +1,4 @@
-use Rattle.std.specs.Arc.{arc_value}
+use Rattle.swift_explorer.proofs.Prelude.{arc_value}
 use Rattle.swift_explorer.proofs.Complete.{gone_none}
 use Rattle.swift_explorer.proofs.exploration.Exploration.new.Goals as goal
 

@@ -1,8 +1,4 @@
-use Rattle.std.proofs.Common.{rules, refl}
-use Rattle.std.specs.Arc.{arc_value}
-use Rattle.swift_history.specs.Histories.{added}
-use Rattle.swift_steps.proofs.Steps.{at_rest}
-use Rattle.swift_explorer.specs.HistoryInside.{IsMissing}
+use Rattle.swift_explorer.proofs.Prelude.{rules, refl, arc_value, added, at_rest, IsMissing}
 use Rattle.swift_explorer.proofs.Followed.{history_on, yes_is}
 use Rattle.swift_explorer.proofs.Orderly.{add_orderly}
 use Rattle.swift_explorer.proofs.Used.{used_same}

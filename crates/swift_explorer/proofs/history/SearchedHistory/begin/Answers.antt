@@ -1,8 +1,4 @@
-use Rattle.std.proofs.Common.{rules, refl}
-use Rattle.std.specs.Arc.{arc_value}
-use Rattle.swift_history.specs.Histories.{begun}
-use Rattle.swift_steps.proofs.Steps.{at_rest}
-use Rattle.swift_explorer.specs.HistoryInside.{MayBegin}
+use Rattle.swift_explorer.proofs.Prelude.{rules, refl, arc_value, begun, at_rest, MayBegin}
 use Rattle.swift_explorer.proofs.Followed.{history_on, yes_is}
 use Rattle.swift_explorer.proofs.Orderly.{begin_orderly}
 use Rattle.swift_explorer.proofs.Used.{used_same}

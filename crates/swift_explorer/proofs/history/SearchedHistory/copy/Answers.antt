@@ -1,4 +1,4 @@
-use Rattle.std.proofs.Common.{◌∙◌}
+use Rattle.swift_explorer.proofs.Prelude.{◌∙◌}
 use Rattle.swift_explorer.proofs.Copies.{is_copy}
 use Rattle.swift_explorer.proofs.history.SearchedHistory.copy.Goals as goal
 

@@ -1,6 +1,4 @@
-use Rattle.std.proofs.Common.{◌≡◌, ◌∙◌, ◌+◌, ℕ, length, sym, subst, ap}
-use Rattle.swift_events.specs.Lives.{life_of}
-use Rattle.swift_explorer.specs.HistoryInside.{AreEnded}
+use Rattle.swift_explorer.proofs.Prelude.{◌≡◌, ◌∙◌, ◌+◌, ℕ, length, sym, subst, ap, life_of, AreEnded}
 use Rattle.swift_explorer.proofs.Ended.{ended_push, push_length}
 use Rattle.swift_explorer.proofs.history.SearchedHistory.endings.Goals as goal
 

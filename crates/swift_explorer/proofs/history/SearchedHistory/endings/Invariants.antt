@@ -1,5 +1,4 @@
-use Rattle.std.proofs.Common.{◌≡◌, length}
-use Rattle.swift_explorer.specs.HistoryInside.{AreEnded}
+use Rattle.swift_explorer.proofs.Prelude.{◌≡◌, length, AreEnded}
 use Rattle.swift_explorer.proofs.history.SearchedHistory.endings.Given as goal
 
 abbrev pub invariant-loop-place : goal.invariant-loop-place

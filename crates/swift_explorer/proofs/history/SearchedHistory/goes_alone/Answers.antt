@@ -1,18 +1,6 @@
-use Rattle.std.proofs.Common.{rules, ◌≡◌, ◌<◌, ℕ, ℤ, List, ◌∷◌, Vec, get_or, length, sym, subst, ap, ap₂, ◌∙◌, arith}
-use Rattle.std.specs.Prelude.{Some, slice_get, unwrap_or, Option}
-use Rattle.std.specs.declared.alloc.Global.{Global}
-use Rattle.std.proofs.lemmas.Option.{slice_get-get_or}
-use Rattle.script_code.specs.Seen.{rows_of}
-use Rattle.swift_interpreter.specs.Frames.{FrameView, effect_views, frame_view}
+use Rattle.swift_explorer.proofs.Prelude.{rules, ◌≡◌, ◌<◌, ℕ, ℤ, List, ◌∷◌, Vec, get_or, length, sym, subst, ap, ap₂, ◌∙◌, arith, Some, slice_get, unwrap_or, Option, Global, slice_get-get_or, rows_of, FrameView, effect_views, frame_view, BodyView, HasFrames, TaskView, callers_of, NextTurn, ScriptView, arc_value, given_at, GoesOnAtOnce, TurnGoesOn, any_env, rows_at}
 use Rattle.swift_interpreter.specs.TurnStates.{exit_view}
-use Rattle.swift_turn.specs.Body.{BodyView, HasFrames, TaskView, callers_of}
-use Rattle.swift_steps.specs.declared.next_turn.NextTurn.{NextTurn}
-use Rattle.swift_script.specs.Scripts.{ScriptView}
-use Rattle.std.specs.Arc.{arc_value}
-use Rattle.swift_steps.specs.NextTurns.{given_at}
 use Rattle.swift_steps.proofs.Rows.{rows_here}
-use Rattle.swift_explorer.specs.AheadInside.{GoesOnAtOnce, TurnGoesOn, any_env}
-use Rattle.swift_explorer.specs.HistoryInside.{rows_at}
 use Rattle.swift_explorer.proofs.Trial.{as_before, frames_back, turn_goes_on}
 use Rattle.swift_explorer.proofs.history.SearchedHistory.goes_alone.Goals as goal
 

@@ -1,5 +1,4 @@
-use Rattle.std.proofs.Common.{◌<◌, ◌∙◌, ℕ, refl, subst, ap, arith, inl, inr}
-use Rattle.swift_events.specs.Relations.{opened_by, is_closed}
+use Rattle.swift_explorer.proofs.Prelude.{◌<◌, ◌∙◌, ℕ, refl, subst, ap, arith, inl, inr, opened_by, is_closed}
 use Rattle.swift_explorer.proofs.Ended.{lt_or}
 use Rattle.swift_explorer.proofs.history.SearchedHistory.has_closed_all.Goals as goal
 

@@ -1,16 +1,4 @@
-use Rattle.std.proofs.Common.{◌≡◌, ◌++◌, ℤ, Bool, List, Vec, map, reverse, ap, subst, ◌∙◌}
-use Rattle.std.specs.declared.alloc.Global.{Global}
-use Rattle.std.specs.Option.{option_map}
-use Rattle.script_code.specs.Seen.{rows_of}
-use Rattle.swift_events.specs.declared.event.Event.{Event}
-use Rattle.swift_history.specs.TurnEnds.{JobFacts}
-use Rattle.swift_tasks.specs.Books.{jobs_held}
-use Rattle.swift_digest.specs.Digests.{digest_of}
-use Rattle.swift_explorer.specs.Numbers.{flag_numbers, list_numbers}
-use Rattle.swift_explorer.specs.FrameNumbers.{fields_numbers}
-use Rattle.swift_explorer.specs.DigestNumbers.{IsWritten}
-use Rattle.swift_explorer.specs.HistoryInside.{rows_at}
-use Rattle.swift_explorer.specs.KeysInside.{job_left, job_numbers, ready_view, rest_of}
+use Rattle.swift_explorer.proofs.Prelude.{◌≡◌, ◌++◌, ℤ, Bool, List, Vec, map, reverse, ap, subst, ◌∙◌, Global, option_map, rows_of, Event, JobFacts, jobs_held, digest_of, flag_numbers, list_numbers, fields_numbers, IsWritten, rows_at, job_left, job_numbers, ready_view, rest_of}
 use Rattle.swift_explorer.proofs.Written.{rest_written}
 use Rattle.swift_explorer.proofs.history.SearchedHistory.into_key.Goals as goal
 

@@ -1,8 +1,4 @@
-use Rattle.std.proofs.Common.{rules, ◌≡◌, ◌∙◌, ℕ, length, refl, sym, ap, arith, inl, inr}
-use Rattle.std.specs.Arc.{arc_value}
-use Rattle.swift_events.specs.Lives.{life_of}
-use Rattle.swift_history.specs.Checks.{is_begun}
-use Rattle.swift_steps.specs.NextTurns.{seat_of}
+use Rattle.swift_explorer.proofs.Prelude.{rules, ◌≡◌, ◌∙◌, ℕ, length, refl, sym, ap, arith, inl, inr, arc_value, life_of, is_begun, seat_of}
 use Rattle.swift_explorer.proofs.Ended.{lt_or}
 use Rattle.swift_explorer.proofs.Orderly.{before_or_past, seat_past}
 use Rattle.swift_explorer.proofs.history.SearchedHistory.is_busy.Goals as goal

@@ -1,9 +1,4 @@
-use Rattle.std.proofs.Common.{◌≡◌, ◌<◌, ℕ, false}
-use Rattle.std.specs.Prelude.{Some}
-use Rattle.std.specs.Arc.{arc_value}
-use Rattle.swift_events.specs.Lives.{life_of}
-use Rattle.swift_history.specs.Checks.{is_begun}
-use Rattle.swift_steps.specs.NextTurns.{AreOf, seat_of}
+use Rattle.swift_explorer.proofs.Prelude.{◌≡◌, ◌<◌, ℕ, false, Some, arc_value, life_of, is_begun, AreOf, seat_of}
 use Rattle.swift_explorer.proofs.history.SearchedHistory.is_busy.Given as goal
 
 -- none of the tasks before runs a turn there

@@ -1,4 +1,4 @@
-use Rattle.swift_explorer.specs.HistoryInside.{AreThere}
+use Rattle.swift_explorer.proofs.Prelude.{AreThere}
 use Rattle.swift_explorer.proofs.history.SearchedHistory.missing_root.Given as goal
 
 abbrev pub invariant-loop-place : goal.invariant-loop-place

@@ -1,12 +1,4 @@
-use Rattle.std.proofs.Common.{rules, ◌≡◌, ◌∙◌, ℤ, [], Vec, arith, length, map, refl, sym, subst, ap}
-use Rattle.std.proofs.lemmas.List.{length-map}
-use Rattle.std.specs.declared.alloc.Global.{Global}
-use Rattle.std.specs.Arc.{arc_value}
-use Rattle.script_code.specs.Seen.{rows_of}
-use Rattle.swift_script.specs.Scripts.{ScriptView}
-use Rattle.swift_course.specs.Course.{starts}
-use Rattle.swift_steps.specs.OpenHistories.{IsFollowed}
-use Rattle.swift_explorer.specs.HistoryInside.{AreFirst}
+use Rattle.swift_explorer.proofs.Prelude.{rules, ◌≡◌, ◌∙◌, ℤ, [], Vec, arith, length, map, refl, sym, subst, ap, length-map, Global, arc_value, rows_of, ScriptView, starts, IsFollowed, AreFirst}
 use Rattle.swift_explorer.proofs.First.{few_used, first_fields, first_many, none_used}
 use Rattle.swift_explorer.proofs.history.SearchedHistory.new.Goals as goal
 

@@ -1,11 +1,5 @@
-use Rattle.std.proofs.Common.{rules, ◌≡◌, ◌<◌, ◌^◌, ◌∙◌, ℕ, Vec, true, length, sym, subst, ap}
-use Rattle.std.specs.Prelude.{is_some}
-use Rattle.std.specs.declared.alloc.Global.{Global}
-use Rattle.std.specs.Arc.{arc_value}
-use Rattle.swift_script.specs.Scripts.{root_count}
-use Rattle.swift_explorer.specs.declared.moves.Move.{Move}
+use Rattle.swift_explorer.proofs.Prelude.{rules, ◌≡◌, ◌<◌, ◌^◌, ◌∙◌, ℕ, Vec, true, length, sym, subst, ap, is_some, Global, arc_value, root_count, Move, AreThere, HasEach, HasEachMove, IsUnderWay, MayBegin}
 use Rattle.swift_explorer.specs.declared.moves.Move.TheVariants as step
-use Rattle.swift_explorer.specs.HistoryInside.{AreThere, HasEach, HasEachMove, IsUnderWay, MayBegin}
 use Rattle.swift_explorer.proofs.EachMove.{each_with_add, each_with_begins}
 use Rattle.swift_explorer.proofs.history.SearchedHistory.next.Goals.{then-is_some+in_ok-push, else-is_some+in_ok-push_begins}
 use Rattle.swift_explorer.proofs.history.SearchedHistory.next.Goals as goal

@@ -1,7 +1,4 @@
-use Rattle.std.proofs.Common.{rules, List, subst}
-use Rattle.swift_explorer.specs.declared.moves.Move.{Move}
-use Rattle.swift_explorer.specs.FusedInside.{ArePlansOf}
-use Rattle.swift_explorer.specs.HistoryInside.{HasEachMove}
+use Rattle.swift_explorer.proofs.Prelude.{rules, List, subst, Move, ArePlansOf, HasEachMove}
 use Rattle.swift_explorer.proofs.LooksAway.{each_step}
 use Rattle.swift_explorer.proofs.history.SearchedHistory.next_fused.Goals as goal
 

@@ -1,11 +1,4 @@
-use Rattle.std.proofs.Common.{rules, refl, ◌≡◌, ◌∙◌, List, length, sym, subst, ap}
-use Rattle.std.specs.Arc.{arc_value}
-use Rattle.swift_script.specs.Scripts.{ScriptView, root_count}
-use Rattle.swift_events.specs.Events.{tasks_of}
-use Rattle.swift_explorer.specs.declared.moves.Move.{Move}
-use Rattle.swift_explorer.specs.Steps.{AreSteps}
-use Rattle.swift_explorer.specs.EndsInside.{SomeGoesOn}
-use Rattle.swift_explorer.specs.HistoryInside.{HaveClosed, rows_at}
+use Rattle.swift_explorer.proofs.Prelude.{rules, refl, ◌≡◌, ◌∙◌, List, length, sym, subst, ap, arc_value, ScriptView, root_count, tasks_of, Move, AreSteps, SomeGoesOn, HaveClosed, rows_at}
 use Rattle.swift_explorer.proofs.Ended.{folds_none, legal_is, report_of}
 use Rattle.swift_explorer.proofs.KnownEnds.{none_of, not_yet, reached}
 use Rattle.swift_explorer.proofs.history.SearchedHistory.outcome.Goals as goal

@@ -1,9 +1,4 @@
-use Rattle.std.proofs.Common.{List, ◌+◌, take, take_all, subst, arith}
-use Rattle.std.specs.Prelude.{slice_index_or}
-use Rattle.std.proofs.lemmas.List.{take_more}
-use Rattle.swift_explorer.specs.declared.moves.Move.{Move}
-use Rattle.swift_explorer.specs.declared.moves.Move.TheVariants.{Add}
-use Rattle.swift_explorer.specs.FusedInside.{ArePlansOf}
+use Rattle.swift_explorer.proofs.Prelude.{List, ◌+◌, take, take_all, subst, arith, slice_index_or, take_more, Move, Add, ArePlansOf}
 use Rattle.swift_explorer.proofs.LooksAway.{plans_push}
 use Rattle.swift_explorer.proofs.history.SearchedHistory.plans_of.Goals as goal
 

@@ -1,7 +1,4 @@
-use Rattle.std.proofs.Common.{take}
-use Rattle.std.specs.Arc.{arc_value}
-use Rattle.swift_explorer.specs.FusedInside.{ArePlansOf}
-use Rattle.swift_explorer.specs.MarksInside.{AreTold}
+use Rattle.swift_explorer.proofs.Prelude.{take, arc_value, ArePlansOf, AreTold}
 use Rattle.swift_explorer.proofs.history.SearchedHistory.plans_of.Given as goal
 
 abbrev pub invariant-loop-step : goal.invariant-loop-step

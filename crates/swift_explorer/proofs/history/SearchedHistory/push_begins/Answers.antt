@@ -1,9 +1,5 @@
-use Rattle.std.proofs.Common.{◌+◌, ◌∙◌, Vec, refl, sym, subst, ap}
-use Rattle.std.specs.Prelude.{Contains}
-use Rattle.std.specs.declared.alloc.Global.{Global}
-use Rattle.swift_explorer.specs.declared.moves.Move.{Move}
+use Rattle.swift_explorer.proofs.Prelude.{◌+◌, ◌∙◌, Vec, refl, sym, subst, ap, Contains, Global, Move, HasEach, MayBegin}
 use Rattle.swift_explorer.specs.declared.moves.Move.TheVariants as step
-use Rattle.swift_explorer.specs.HistoryInside.{HasEach, MayBegin}
 use Rattle.swift_explorer.proofs.EachMove.{each_push, each_skip, kept_push}
 use Rattle.swift_explorer.proofs.history.SearchedHistory.push_begins.Goals.{then-can_begin+in_ok-push, else-can_begin}
 use Rattle.swift_explorer.proofs.history.SearchedHistory.push_begins.Goals as goal

@@ -1,8 +1,5 @@
-use Rattle.std.proofs.Common.{◌<◌, ◌^◌, length}
-use Rattle.std.specs.Prelude.{Contains}
-use Rattle.swift_explorer.specs.declared.moves.Move.{Move}
+use Rattle.swift_explorer.proofs.Prelude.{◌<◌, ◌^◌, length, Contains, Move, HasEach, MayBegin}
 use Rattle.swift_explorer.specs.declared.moves.Move.TheVariants as step
-use Rattle.swift_explorer.specs.HistoryInside.{HasEach, MayBegin}
 use Rattle.swift_explorer.proofs.history.SearchedHistory.push_begins.Given as goal
 
 abbrev pub invariant-loop-place : goal.invariant-loop-place

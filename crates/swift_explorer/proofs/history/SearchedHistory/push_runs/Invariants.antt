@@ -1,5 +1,5 @@
 use Rattle.swift_explorer.specs.declared.moves.Move.TheVariants as step
-use Rattle.swift_explorer.specs.HistoryInside.{HasEach, IsUnderWay}
+use Rattle.swift_explorer.proofs.Prelude.{HasEach, IsUnderWay}
 use Rattle.swift_explorer.proofs.history.SearchedHistory.push_runs.Given as goal
 
 abbrev pub invariant-loop-place : goal.invariant-loop-place

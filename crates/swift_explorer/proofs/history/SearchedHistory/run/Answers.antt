@@ -1,11 +1,5 @@
-use Rattle.std.proofs.Common.{◌≡◌, ◌<◌, length, refl, subst, sym, ap, arith}
-use Rattle.std.specs.Arc.{arc_value}
-use Rattle.swift_types.specs.declared.id.TaskId.{TaskId}
-use Rattle.swift_history.specs.Histories.{ran}
-use Rattle.swift_turn.specs.Body.{HasFrames}
+use Rattle.swift_explorer.proofs.Prelude.{◌≡◌, ◌<◌, length, refl, subst, sym, ap, arith, arc_value, TaskId, ran, HasFrames, Plays, record_of, at_rest}
 use Rattle.swift_steps.specs.declared.played.PlayedTurn.{PlayedTurn}
-use Rattle.swift_steps.specs.OpenHistories.{Plays, record_of}
-use Rattle.swift_steps.proofs.Steps.{at_rest}
 use Rattle.swift_explorer.proofs.Followed.{history_on, some_of}
 use Rattle.swift_explorer.proofs.Used.{used_set, used_short}
 use Rattle.swift_explorer.proofs.history.SearchedHistory.run.Goals as goal

@@ -1,8 +1,4 @@
-use Rattle.std.proofs.Common.{sym, subst, ap}
-use Rattle.std.specs.Arc.{arc_value}
-use Rattle.swift_script.specs.Scripts.{ScriptView}
-use Rattle.swift_explorer.specs.AheadInside.{StartsHold}
-use Rattle.swift_explorer.specs.MarksInside.{AreTold, HaveSilentMarks}
+use Rattle.swift_explorer.proofs.Prelude.{sym, subst, ap, arc_value, ScriptView, StartsHold, AreTold, HaveSilentMarks}
 use Rattle.swift_explorer.proofs.RunningAhead.{ahead_none, ahead_on, ahead_some, not_lost}
 use Rattle.swift_explorer.proofs.history.SearchedHistory.run_ahead.Goals as goal
 

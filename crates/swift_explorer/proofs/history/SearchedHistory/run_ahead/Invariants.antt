@@ -1,4 +1,4 @@
-use Rattle.swift_explorer.specs.AheadInside.{RunsAhead}
+use Rattle.swift_explorer.proofs.Prelude.{RunsAhead}
 use Rattle.swift_explorer.proofs.history.SearchedHistory.run_ahead.Given as goal
 
 abbrev pub invariant-turns : goal.invariant-turns

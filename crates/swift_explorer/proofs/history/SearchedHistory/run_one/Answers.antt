@@ -1,7 +1,5 @@
-use Rattle.std.proofs.Common.{rules, refl, ◌∙◌}
-use Rattle.std.specs.Prelude.{IsTrue}
+use Rattle.swift_explorer.proofs.Prelude.{rules, refl, ◌∙◌, IsTrue, IsQuietAt}
 use Rattle.swift_explorer.specs.declared.moves.Move.TheVariants as step
-use Rattle.swift_explorer.specs.AheadInside.{IsQuietAt}
 use Rattle.swift_explorer.proofs.Paths.{was_done}
 use Rattle.swift_explorer.proofs.RunningAhead.{runs_turn}
 use Rattle.swift_explorer.proofs.Trial.{before_some, goes_some}

@@ -1,4 +1,4 @@
-use Rattle.std.proofs.Common.{◌≡◌, ◌⊎◌, ◌↔◌, ℕ, List, Contains, subst}
+use Rattle.swift_explorer.proofs.Prelude.{◌≡◌, ◌⊎◌, ◌↔◌, ℕ, List, Contains, subst}
 use Rattle.swift_explorer.proofs.KeySets.{bytes_of, put_keys}
 use Rattle.swift_explorer.proofs.key_set.KeySet.add.Goals as goal
 

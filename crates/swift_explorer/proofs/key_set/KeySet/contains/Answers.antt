@@ -1,6 +1,4 @@
-use Rattle.std.proofs.Common.{ap, ◌∙◌}
-use Rattle.std.specs.List.{list_any}
-use Rattle.std.specs.Str.{bytes_eq}
+use Rattle.swift_explorer.proofs.Prelude.{ap, ◌∙◌, list_any, bytes_eq}
 use Rattle.swift_explorer.proofs.KeySets.{any_bytes}
 use Rattle.swift_explorer.proofs.key_set.KeySet.contains.Goals as goal
 

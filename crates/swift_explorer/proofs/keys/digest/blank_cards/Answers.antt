@@ -1,8 +1,4 @@
-use Rattle.std.proofs.Common.{◌∙◌, arith, length, subst, sym, ap}
-use Rattle.std.specs.Prelude.{All}
-use Rattle.std.proofs.lemmas.List.{length_push}
-use Rattle.std.proofs.lemmas.List.Elements.{All-nil, All-push}
-use Rattle.swift_explorer.specs.CardsInside.{IsBlank}
+use Rattle.swift_explorer.proofs.Prelude.{◌∙◌, arith, length, subst, sym, ap, All, length_push, All-nil, All-push, IsBlank}
 use Rattle.swift_explorer.proofs.CardsNoted.{cards_none, open_none}
 use Rattle.swift_explorer.proofs.keys.digest.blank_cards.Goals as goal
 

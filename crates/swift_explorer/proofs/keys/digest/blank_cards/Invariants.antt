@@ -1,6 +1,4 @@
-use Rattle.std.proofs.Common.{◌-◌, ◌≤◌, length, vec_len}
-use Rattle.std.specs.Prelude.{All}
-use Rattle.swift_explorer.specs.CardsInside.{IsBlank}
+use Rattle.swift_explorer.proofs.Prelude.{◌-◌, ◌≤◌, length, vec_len, All, IsBlank}
 use Rattle.swift_explorer.proofs.keys.digest.blank_cards.Given as goal
 
 abbrev pub invariant-fill : goal.invariant-fill

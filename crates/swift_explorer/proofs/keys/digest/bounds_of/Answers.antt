@@ -1,8 +1,5 @@
-use Rattle.std.proofs.Common.{List, refl, sym, ◌∙◌, ap, subst, arith}
+use Rattle.swift_explorer.proofs.Prelude.{List, refl, sym, ◌∙◌, ap, subst, arith, Event, digest_of, IsWithin}
 use Rattle.std.proofs.lemmas.List.{take_all}
-use Rattle.swift_events.specs.declared.event.Event.{Event}
-use Rattle.swift_digest.specs.Digests.{digest_of}
-use Rattle.swift_explorer.specs.DigestNumbers.{IsWithin}
 use Rattle.swift_explorer.proofs.CardSteps.{bounds_none, bounds_step, made_none, made_step, one_at_most}
 use Rattle.swift_explorer.proofs.keys.digest.bounds_of.Goals as goal
 

@@ -1,6 +1,4 @@
-use Rattle.std.proofs.Common.{◌≡◌, ◌≤◌, ◌^◌, take}
-use Rattle.swift_explorer.specs.DigestNumbers.{IsWithin}
-use Rattle.swift_digest.specs.Digests.{digest_of}
+use Rattle.swift_explorer.proofs.Prelude.{◌≡◌, ◌≤◌, ◌^◌, take, IsWithin, digest_of}
 use Rattle.swift_explorer.proofs.keys.digest.bounds_of.Given as goal
 
 abbrev pub invariant-loop-event : goal.invariant-loop-event

@@ -1,8 +1,5 @@
-use Rattle.std.proofs.Common.{◌^◌, ◌-◌, List, refl, subst, arith}
+use Rattle.swift_explorer.proofs.Prelude.{◌^◌, ◌-◌, List, refl, subst, arith, Event, digest_of, AreCards}
 use Rattle.std.proofs.lemmas.List.{take_all}
-use Rattle.swift_events.specs.declared.event.Event.{Event}
-use Rattle.swift_digest.specs.Digests.{digest_of}
-use Rattle.swift_explorer.specs.CardsInside.{AreCards}
 use Rattle.swift_explorer.proofs.CardsNoted.{cards_more, open_fewer, open_more}
 use Rattle.swift_explorer.proofs.keys.digest.cards_of.Goals as goal
 

@@ -1,6 +1,4 @@
-use Rattle.std.proofs.Common.{take}
-use Rattle.swift_digest.specs.Digests.{digest_of}
-use Rattle.swift_explorer.specs.CardsInside.{AreCards, OpenAtMost}
+use Rattle.swift_explorer.proofs.Prelude.{take, digest_of, AreCards, OpenAtMost}
 use Rattle.swift_explorer.proofs.keys.digest.cards_of.Given as goal
 
 abbrev pub invariant-loop-event : goal.invariant-loop-event

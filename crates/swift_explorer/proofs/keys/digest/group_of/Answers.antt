@@ -1,8 +1,5 @@
-use Rattle.std.proofs.Common.{List, refl, subst, arith, rules}
+use Rattle.swift_explorer.proofs.Prelude.{List, refl, subst, arith, rules, Event, digest_of, IsKeyGroup}
 use Rattle.std.proofs.lemmas.List.{take_all}
-use Rattle.swift_events.specs.declared.event.Event.{Event}
-use Rattle.swift_digest.specs.Digests.{digest_of}
-use Rattle.swift_explorer.specs.CardsInside.{IsKeyGroup}
 use Rattle.swift_explorer.proofs.CardSteps.{fewer_unless, group_none, group_step, one_at_most}
 use Rattle.swift_explorer.proofs.keys.digest.group_of.Goals as goal
 

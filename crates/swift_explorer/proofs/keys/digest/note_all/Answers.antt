@@ -1,5 +1,4 @@
-use Rattle.std.proofs.Common.{ℕ, ◌^◌, ◌-◌, subst, arith}
-use Rattle.swift_explorer.specs.CardsInside.{IsNotedAt}
+use Rattle.swift_explorer.proofs.Prelude.{ℕ, ◌^◌, ◌-◌, subst, arith, IsNotedAt}
 use Rattle.swift_explorer.proofs.CardsNoted.{one_noted, open_at, open_fewer, two_noted}
 use Rattle.swift_explorer.proofs.keys.digest.note_all.Goals as goal
 

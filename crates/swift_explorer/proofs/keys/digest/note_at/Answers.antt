@@ -1,5 +1,4 @@
-use Rattle.std.proofs.Common.{◌<◌, ◌≤◌, length, refl, arith, ◌^◌, ◌-◌}
-use Rattle.std.proofs.lemmas.Option.{slice_get_read}
+use Rattle.swift_explorer.proofs.Prelude.{◌<◌, ◌≤◌, length, refl, arith, ◌^◌, ◌-◌, slice_get_read}
 use Rattle.swift_explorer.proofs.CardsNoted.{noted_none, noted_set}
 use Rattle.swift_explorer.proofs.keys.digest.note_at.Goals as goal
 

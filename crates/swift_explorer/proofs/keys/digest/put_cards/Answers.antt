@@ -1,9 +1,4 @@
-use Rattle.std.proofs.Common.{◌≡◌, ◌<◌, ◌++◌, ℕ, List, append-nil, get_or, length, sym, subst, ap, ◌∙◌, arith}
-use Rattle.swift_explorer.specs.Numbers.{each_numbers}
-use Rattle.swift_explorer.specs.DigestNumbers.{card_numbers}
-use Rattle.swift_digest.specs.Digests.{digest_of}
-use Rattle.swift_explorer.specs.CardsInside.{AreCards, IsCard, card_of_parts}
-use Rattle.swift_explorer.specs.declared.keys.digest.KeyCard.{KeyCard}
+use Rattle.swift_explorer.proofs.Prelude.{◌≡◌, ◌<◌, ◌++◌, ℕ, List, append-nil, get_or, length, sym, subst, ap, ◌∙◌, arith, each_numbers, card_numbers, digest_of, AreCards, IsCard, card_of_parts, KeyCard}
 use Rattle.swift_explorer.proofs.CardSteps.{card_written}
 use Rattle.swift_explorer.proofs.CardsNoted.{card_at}
 use Rattle.swift_explorer.proofs.Steps.{each_step}

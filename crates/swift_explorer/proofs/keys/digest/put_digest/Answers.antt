@@ -1,7 +1,4 @@
-use Rattle.std.proofs.Common.{ℕ, ℤ, List, ◌++◌, ap, ◌∙◌}
-use Rattle.swift_digest.specs.Digests.{Digest, digest_of}
-use Rattle.swift_explorer.specs.Numbers.{each_numbers}
-use Rattle.swift_explorer.specs.DigestNumbers.{card_numbers, groups_numbers, head_numbers}
+use Rattle.swift_explorer.proofs.Prelude.{ℕ, ℤ, List, ◌++◌, ap, ◌∙◌, Digest, digest_of, each_numbers, card_numbers, groups_numbers, head_numbers}
 use Rattle.swift_explorer.proofs.Steps.{two_writes}
 use Rattle.swift_explorer.proofs.keys.digest.put_digest.Goals as goal
 

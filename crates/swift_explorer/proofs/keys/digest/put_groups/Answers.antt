@@ -1,5 +1,4 @@
-use Rattle.swift_explorer.specs.DigestNumbers.{groups_numbers}
-use Rattle.swift_digest.specs.Digests.{digest_of}
+use Rattle.swift_explorer.proofs.Prelude.{groups_numbers, digest_of}
 use Rattle.swift_explorer.proofs.Steps.{each_step}
 use Rattle.swift_explorer.proofs.keys.digest.put_groups.Goals as goal
 

@@ -1,6 +1,4 @@
-use Rattle.std.proofs.Common.{◌++◌, ap, ◌∙◌}
-use Rattle.swift_explorer.specs.DigestNumbers.{group_numbers}
-use Rattle.swift_digest.specs.Digests.{digest_of}
+use Rattle.swift_explorer.proofs.Prelude.{◌++◌, ap, ◌∙◌, group_numbers, digest_of}
 use Rattle.swift_explorer.proofs.CardSteps.{group_written}
 use Rattle.swift_explorer.proofs.Steps.{each_step}
 use Rattle.swift_explorer.proofs.keys.digest.put_groups_of.Goals as goal

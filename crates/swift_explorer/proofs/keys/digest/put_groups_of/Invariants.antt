@@ -1,7 +1,4 @@
-use Rattle.std.proofs.Common.{◌≡◌, ◌++◌}
-use Rattle.swift_explorer.specs.Numbers.{each_numbers}
-use Rattle.swift_explorer.specs.DigestNumbers.{group_numbers}
-use Rattle.swift_digest.specs.Digests.{digest_of}
+use Rattle.swift_explorer.proofs.Prelude.{◌≡◌, ◌++◌, each_numbers, group_numbers, digest_of}
 use Rattle.swift_explorer.proofs.keys.digest.put_groups_of.Given as goal
 
 abbrev pub invariant-loop-place : goal.invariant-loop-place

@@ -1,7 +1,4 @@
-use Rattle.std.proofs.Common.{◌≡◌, ℕ, ℤ, ◌<◌, ◌∷◌, ◌++◌, length, reverse, get_or, ap, ◌∙◌, arith, rules, w64, to_z, of_z}
-use Rattle.std.specs.Prelude.{pos}
-use Rattle.std.proofs.lemmas.List.{length-reverse}
-use Rattle.swift_explorer.specs.FrameNumbers.{binding_numbers}
+use Rattle.swift_explorer.proofs.Prelude.{◌≡◌, ℕ, ℤ, ◌<◌, ◌∷◌, ◌++◌, length, reverse, get_or, ap, ◌∙◌, arith, rules, w64, to_z, of_z, pos, length-reverse, binding_numbers}
 use Rattle.swift_explorer.proofs.Steps.{some_step, some_all}
 use Rattle.swift_explorer.proofs.keys.frames.put_bindings.Goals as goal
 

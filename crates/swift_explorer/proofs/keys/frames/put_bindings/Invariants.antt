@@ -1,6 +1,4 @@
-use Rattle.std.proofs.Common.{◌≡◌, ◌++◌, reverse, take}
-use Rattle.swift_explorer.specs.Numbers.{some_numbers}
-use Rattle.swift_explorer.specs.FrameNumbers.{binding_numbers}
+use Rattle.swift_explorer.proofs.Prelude.{◌≡◌, ◌++◌, reverse, take, some_numbers, binding_numbers}
 use Rattle.swift_explorer.proofs.keys.frames.put_bindings.Given as goal
 
 abbrev pub invariant-loop-place : goal.invariant-loop-place

@@ -1,9 +1,5 @@
-use Rattle.std.proofs.Common.{ℤ, List, [], ◌∷◌, ◌++◌, map, ap, ◌∙◌, arith}
-use Rattle.std.specs.Prelude.{pos}
-use Rattle.std.proofs.lemmas.List.{length-map, get_or-map}
+use Rattle.swift_explorer.proofs.Prelude.{ℤ, List, [], ◌∷◌, ◌++◌, map, ap, ◌∙◌, arith, pos, length-map, get_or-map, rows_of, rows_numbers}
 use Rattle.std.specs.Global.{Vec}
-use Rattle.script_code.specs.Seen.{rows_of}
-use Rattle.swift_explorer.specs.FrameNumbers.{rows_numbers}
 use Rattle.swift_explorer.proofs.Steps.{some_step, some_all, two_writes}
 use Rattle.swift_explorer.proofs.keys.frames.put_fields.Goals as goal
 

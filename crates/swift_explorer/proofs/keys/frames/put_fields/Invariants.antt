@@ -1,7 +1,4 @@
-use Rattle.std.proofs.Common.{◌≡◌, ◌++◌, map, take}
-use Rattle.script_code.specs.Seen.{rows_of}
-use Rattle.swift_explorer.specs.Numbers.{some_numbers}
-use Rattle.swift_explorer.specs.FrameNumbers.{rows_numbers}
+use Rattle.swift_explorer.proofs.Prelude.{◌≡◌, ◌++◌, map, take, rows_of, some_numbers, rows_numbers}
 use Rattle.swift_explorer.proofs.keys.frames.put_fields.Given as goal
 
 abbrev pub invariant-loop-rows : goal.invariant-loop-rows

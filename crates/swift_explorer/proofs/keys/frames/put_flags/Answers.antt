@@ -1,5 +1,4 @@
-use Rattle.std.proofs.Common.{refl, arith, false}
-use Rattle.swift_explorer.specs.Numbers.{flag_numbers}
+use Rattle.swift_explorer.proofs.Prelude.{refl, arith, false, flag_numbers}
 use Rattle.swift_explorer.proofs.Steps.{some_step, some_all, two_writes}
 use Rattle.swift_explorer.proofs.keys.frames.put_flags.Goals as goal
 

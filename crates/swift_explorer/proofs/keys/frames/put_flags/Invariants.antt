@@ -1,5 +1,4 @@
-use Rattle.std.proofs.Common.{◌≡◌, ◌++◌, take}
-use Rattle.swift_explorer.specs.Numbers.{some_numbers, flag_numbers}
+use Rattle.swift_explorer.proofs.Prelude.{◌≡◌, ◌++◌, take, some_numbers, flag_numbers}
 use Rattle.swift_explorer.proofs.keys.frames.put_flags.Given as goal
 
 abbrev pub invariant-loop-flag : goal.invariant-loop-flag

@@ -1,4 +1,4 @@
-use Rattle.std.proofs.lemmas.List.{reverse-reverse}
+use Rattle.swift_explorer.proofs.Prelude.{reverse-reverse}
 use Rattle.swift_explorer.proofs.keys.frames.put_groups.Goals as goal
 
 pub returns : goal.returns

@@ -1,5 +1,4 @@
-use Rattle.std.proofs.Common.{refl, arith}
-use Rattle.swift_explorer.specs.Numbers.{number_numbers}
+use Rattle.swift_explorer.proofs.Prelude.{refl, arith, number_numbers}
 use Rattle.swift_explorer.proofs.Steps.{some_step, some_all, two_writes}
 use Rattle.swift_explorer.proofs.keys.frames.put_ids.Goals as goal
 

@@ -1,5 +1,4 @@
-use Rattle.std.proofs.Common.{◌≡◌, ◌++◌, take}
-use Rattle.swift_explorer.specs.Numbers.{some_numbers, number_numbers}
+use Rattle.swift_explorer.proofs.Prelude.{◌≡◌, ◌++◌, take, some_numbers, number_numbers}
 use Rattle.swift_explorer.proofs.keys.frames.put_ids.Given as goal
 
 abbrev pub invariant-loop-id : goal.invariant-loop-id

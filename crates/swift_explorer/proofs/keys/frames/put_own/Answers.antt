@@ -1,8 +1,4 @@
-use Rattle.std.proofs.Common.{◌≡◌, ℤ, ◌<◌, ◌∷◌, ◌++◌, length, map, get_or, ap, ◌∙◌, arith, rules, w64, to_z, of_z}
-use Rattle.std.specs.Prelude.{pos}
-use Rattle.std.proofs.lemmas.List.{length-map, get_or-map}
-use Rattle.script_code.specs.Seen.{pair_of}
-use Rattle.swift_explorer.specs.FrameNumbers.{binding_numbers}
+use Rattle.swift_explorer.proofs.Prelude.{◌≡◌, ℤ, ◌<◌, ◌∷◌, ◌++◌, length, map, get_or, ap, ◌∙◌, arith, rules, w64, to_z, of_z, pos, length-map, get_or-map, pair_of, binding_numbers}
 use Rattle.swift_explorer.proofs.Steps.{some_step, some_all, reverse_pairs}
 use Rattle.swift_explorer.proofs.keys.frames.put_own.Goals as goal
 

@@ -1,9 +1,5 @@
-use Rattle.std.proofs.Common.{ℤ, List, [], ◌∷◌, ◌++◌, ap, ◌∙◌, arith}
-use Rattle.std.specs.Prelude.{pos}
-use Rattle.std.proofs.lemmas.List.{length-map, get_or-map}
+use Rattle.swift_explorer.proofs.Prelude.{ℤ, List, [], ◌∷◌, ◌++◌, ap, ◌∙◌, arith, pos, length-map, get_or-map, rows_of, values_numbers}
 use Rattle.std.specs.Global.{Vec}
-use Rattle.script_code.specs.Seen.{rows_of}
-use Rattle.swift_explorer.specs.FrameNumbers.{values_numbers}
 use Rattle.swift_explorer.proofs.Steps.{some_step, some_all, two_writes}
 use Rattle.swift_explorer.proofs.keys.frames.put_rows.Goals as goal
 

@@ -1,7 +1,4 @@
-use Rattle.std.proofs.Common.{◌≡◌, ◌++◌, take}
-use Rattle.script_code.specs.Seen.{rows_of}
-use Rattle.swift_explorer.specs.Numbers.{some_numbers}
-use Rattle.swift_explorer.specs.FrameNumbers.{values_numbers}
+use Rattle.swift_explorer.proofs.Prelude.{◌≡◌, ◌++◌, take, rows_of, some_numbers, values_numbers}
 use Rattle.swift_explorer.proofs.keys.frames.put_rows.Given as goal
 
 abbrev pub invariant-loop-row : goal.invariant-loop-row

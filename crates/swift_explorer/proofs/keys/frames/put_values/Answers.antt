@@ -1,6 +1,4 @@
-use Rattle.std.proofs.Common.{◌≡◌, ℤ, [], ◌∷◌, ◌++◌, get_or, refl, ap, ◌∙◌, arith, rules, w64, to_z, of_z}
-use Rattle.std.specs.Prelude.{pos}
-use Rattle.swift_explorer.specs.Numbers.{value_numbers}
+use Rattle.swift_explorer.proofs.Prelude.{◌≡◌, ℤ, [], ◌∷◌, ◌++◌, get_or, refl, ap, ◌∙◌, arith, rules, w64, to_z, of_z, pos, value_numbers}
 use Rattle.swift_explorer.proofs.Steps.{some_step, some_all, two_writes}
 use Rattle.swift_explorer.proofs.keys.frames.put_values.Goals as goal
 

@@ -1,5 +1,4 @@
-use Rattle.std.proofs.Common.{◌≡◌, ◌++◌, take}
-use Rattle.swift_explorer.specs.Numbers.{some_numbers, value_numbers}
+use Rattle.swift_explorer.proofs.Prelude.{◌≡◌, ◌++◌, take, some_numbers, value_numbers}
 use Rattle.swift_explorer.proofs.keys.frames.put_values.Given as goal
 
 abbrev pub invariant-loop-value : goal.invariant-loop-value

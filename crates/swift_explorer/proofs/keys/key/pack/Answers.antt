@@ -1,7 +1,5 @@
-use Rattle.std.proofs.Common.{◌≡◌, ℤ, ◌++◌, get_or, refl, ap, ◌∙◌, arith, rules, w64, to_z, of_z}
-use Rattle.std.specs.Prelude.{pos}
+use Rattle.swift_explorer.proofs.Prelude.{◌≡◌, ℤ, ◌++◌, get_or, refl, ap, ◌∙◌, arith, rules, w64, to_z, of_z, pos, all_packed, packed}
 use Rattle.std.proofs.lemmas.List.{take_all}
-use Rattle.swift_explorer.specs.Bytes.{all_packed, packed}
 use Rattle.swift_explorer.proofs.Bytes.{packed_step}
 use Rattle.swift_explorer.proofs.keys.key.pack.Goals as goal
 

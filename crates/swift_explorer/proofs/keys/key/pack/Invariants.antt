@@ -1,5 +1,4 @@
-use Rattle.std.proofs.Common.{◌≡◌, take}
-use Rattle.swift_explorer.specs.Bytes.{all_packed}
+use Rattle.swift_explorer.proofs.Prelude.{◌≡◌, take, all_packed}
 use Rattle.swift_explorer.proofs.keys.key.pack.Given as goal
 
 abbrev pub invariant-loop-number : goal.invariant-loop-number

@@ -1,4 +1,4 @@
-use Rattle.swift_explorer.specs.Numbers.{flag_numbers}
+use Rattle.swift_explorer.proofs.Prelude.{flag_numbers}
 use Rattle.swift_explorer.proofs.Codes.{flag_code, list_code, resume_code}
 use Rattle.swift_explorer.proofs.FrameCodes.{bindings_code, fields_code, frame_code}
 use Rattle.swift_explorer.proofs.keys.laws.values_are_read.Goals as goal

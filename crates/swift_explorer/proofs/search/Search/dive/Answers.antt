@@ -1,4 +1,4 @@
-use Rattle.std.proofs.lemmas.Result.{on_ok_weaker}
+use Rattle.swift_explorer.proofs.Prelude.{on_ok_weaker}
 use Rattle.swift_explorer.proofs.Seeing.{seen_none, seen_on, seen_sound}
 use Rattle.swift_explorer.proofs.search.Search.dive.Goals as goal
 

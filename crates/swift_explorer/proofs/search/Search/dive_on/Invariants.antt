@@ -1,4 +1,4 @@
-use Rattle.swift_explorer.specs.SearchInside.{HasSeen}
+use Rattle.swift_explorer.proofs.Prelude.{HasSeen}
 use Rattle.swift_explorer.proofs.search.Search.dive_on.Given as goal
 
 abbrev pub invariant-loop : goal.invariant-loop

@@ -1,6 +1,4 @@
-use Rattle.std.proofs.Common.{sym, subst}
-use Rattle.std.proofs.lemmas.Result.{on_ok_weaker}
-use Rattle.swift_explorer.specs.SearchInside.{HasGrown}
+use Rattle.swift_explorer.proofs.Prelude.{sym, subst, on_ok_weaker, HasGrown}
 use Rattle.swift_explorer.proofs.Growing.{grown_on}
 use Rattle.swift_explorer.proofs.HistoriesTaken.{grown_taken}
 use Rattle.swift_explorer.proofs.search.Search.expand.Goals as goal

@@ -1,12 +1,4 @@
-use Rattle.std.proofs.Common.{◌≡◌, ◌∙◌, sym, subst, ap}
-use Rattle.std.specs.Prelude.{All}
-use Rattle.std.specs.Arc.{arc_value}
-use Rattle.std.proofs.lemmas.Result.{on_ok_weaker}
-use Rattle.swift_script.specs.Scripts.{ScriptView}
-use Rattle.swift_explorer.specs.HistoryInside.{IsPath}
-use Rattle.swift_explorer.specs.EndsInside.{IsKnownEnd, IsReportAfter}
-use Rattle.swift_explorer.specs.Outcomes.{IfReached, IsOutcomeOf}
-use Rattle.swift_explorer.specs.SearchInside.{IsSound, StepWasTried}
+use Rattle.swift_explorer.proofs.Prelude.{◌≡◌, ◌∙◌, sym, subst, ap, All, arc_value, on_ok_weaker, ScriptView, IsPath, IsKnownEnd, IsReportAfter, IfReached, IsOutcomeOf, IsSound, StepWasTried}
 use Rattle.swift_explorer.proofs.Growing.{grown_on}
 use Rattle.swift_explorer.proofs.Noting.{on_ok_both}
 use Rattle.swift_explorer.proofs.Trying.{expanded}

@@ -1,8 +1,4 @@
-use Rattle.std.proofs.Common.{◌≡◌, ◌<◌, ◌∙◌, length, sym, subst, ap, arith}
-use Rattle.std.proofs.lemmas.Bool.{false≢true}
-use Rattle.std.specs.Arc.{arc_value}
-use Rattle.swift_script.specs.Scripts.{ScriptView}
-use Rattle.swift_explorer.specs.SearchInside.{HasGoneOn, IsExpandedAt, IsSound}
+use Rattle.swift_explorer.proofs.Prelude.{◌≡◌, ◌<◌, ◌∙◌, length, sym, subst, ap, arith, false≢true, arc_value, ScriptView, HasGoneOn, IsExpandedAt, IsSound}
 use Rattle.swift_explorer.proofs.Growing.{gone_one, gone_still, grown_none, grown_on}
 use Rattle.swift_explorer.proofs.search.Search.go_through.Goals as goal
 

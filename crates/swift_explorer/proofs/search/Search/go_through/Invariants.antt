@@ -1,7 +1,4 @@
-use Rattle.std.proofs.Common.{◌≡◌, ◌+◌}
-use Rattle.std.specs.Prelude.{IsTrue}
-use Rattle.std.specs.Arc.{arc_value}
-use Rattle.swift_explorer.specs.SearchInside.{HasGoneOn, HasGrown}
+use Rattle.swift_explorer.proofs.Prelude.{◌≡◌, ◌+◌, IsTrue, arc_value, HasGoneOn, HasGrown}
 use Rattle.swift_explorer.proofs.search.Search.go_through.Given as goal
 
 abbrev pub invariant-loop : goal.invariant-loop

@@ -1,7 +1,4 @@
-use Rattle.std.proofs.Common.{subst}
-use Rattle.std.specs.Arc.{arc_value}
-use Rattle.swift_explorer.specs.declared.search.Search.{Search}
-use Rattle.swift_explorer.specs.HistoryInside.{IsPath}
+use Rattle.swift_explorer.proofs.Prelude.{subst, arc_value, Search, IsPath}
 use Rattle.swift_explorer.proofs.HistoriesTaken.{path_found, sound_taken}
 use Rattle.swift_explorer.proofs.search.Search.history_at.Goals as goal
 

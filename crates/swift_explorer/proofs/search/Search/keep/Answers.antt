@@ -1,9 +1,4 @@
-use Rattle.std.proofs.Common.{rules, ◌≡◌, ◌<◌, length, true, arith}
-use Rattle.std.specs.List.{list_any}
-use Rattle.std.specs.Str.{bytes_eq}
-use Rattle.std.proofs.lemmas.Result.{on_ok_weaker}
-use Rattle.swift_explorer.specs.declared.search.Node.{Node}
-use Rattle.swift_explorer.specs.declared.search.Search.{Search}
+use Rattle.swift_explorer.proofs.Prelude.{rules, ◌≡◌, ◌<◌, length, true, arith, list_any, bytes_eq, on_ok_weaker, Node, Search}
 use Rattle.swift_explorer.proofs.Keeping.{keeps_known, keeps_full, keeps_new}
 use Rattle.swift_explorer.proofs.search.Search.keep.Goals as goal
 

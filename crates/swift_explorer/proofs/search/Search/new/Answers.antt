@@ -1,9 +1,4 @@
-use Rattle.std.proofs.Common.{rules, ◌≡◌, subst}
-use Rattle.std.specs.Arc.{arc_value}
-use Rattle.std.proofs.lemmas.Bool.{false≢true}
-use Rattle.swift_script.specs.Scripts.{ScriptView}
-use Rattle.swift_explorer.specs.AheadInside.{StartsHold}
-use Rattle.swift_explorer.specs.MarksInside.{AreTold, HaveSilentMarks}
+use Rattle.swift_explorer.proofs.Prelude.{rules, ◌≡◌, subst, arc_value, false≢true, ScriptView, StartsHold, AreTold, HaveSilentMarks}
 use Rattle.swift_explorer.proofs.Sound.{sound_none}
 use Rattle.swift_explorer.proofs.StartInvariants.{starts_hold}
 use Rattle.swift_explorer.proofs.search.Search.new.Goals as goal

@@ -1,6 +1,4 @@
-use Rattle.std.proofs.Common.{sym, subst}
-use Rattle.std.specs.Arc.{arc_value}
-use Rattle.swift_explorer.specs.SearchInside.{IsSound}
+use Rattle.swift_explorer.proofs.Prelude.{sym, subst, arc_value, IsSound}
 use Rattle.swift_explorer.proofs.Noting.{on_ok_four, sound_noted}
 use Rattle.swift_explorer.proofs.search.Search.note.Goals as goal
 

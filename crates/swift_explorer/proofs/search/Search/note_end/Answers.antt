@@ -1,6 +1,4 @@
-use Rattle.std.specs.Prelude.{OnOk, Contains}
-use Rattle.swift_explorer.specs.declared.outcome.RunOutcome.{RunOutcome}
-use Rattle.swift_explorer.specs.SearchInside.{HasSeen}
+use Rattle.swift_explorer.proofs.Prelude.{OnOk, Contains, RunOutcome, HasSeen}
 use Rattle.swift_explorer.proofs.Noting.{on_ok_both, on_ok_four}
 use Rattle.swift_explorer.proofs.Seeing.{seen_noted}
 use Rattle.swift_explorer.proofs.search.Search.note_end.Goals as goal

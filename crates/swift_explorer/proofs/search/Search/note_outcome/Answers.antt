@@ -1,6 +1,4 @@
-use Rattle.std.proofs.Common.{rules, ◌≡◌, true, false}
-use Rattle.std.specs.List.{list_any}
-use Rattle.std.specs.Str.{bytes_eq}
+use Rattle.swift_explorer.proofs.Prelude.{rules, ◌≡◌, true, false, list_any, bytes_eq}
 use Rattle.swift_explorer.proofs.Noting.{is_there, known_tells, new_keyed, new_noted, new_once}
 use Rattle.swift_explorer.proofs.search.Search.note_outcome.Goals as goal
 

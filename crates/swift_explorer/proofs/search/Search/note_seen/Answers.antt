@@ -1,4 +1,4 @@
-use Rattle.std.proofs.lemmas.Result.{on_ok_weaker}
+use Rattle.swift_explorer.proofs.Prelude.{on_ok_weaker}
 use Rattle.swift_explorer.proofs.Seeing.{seen_on}
 use Rattle.swift_explorer.proofs.search.Search.note_seen.Goals as goal
 

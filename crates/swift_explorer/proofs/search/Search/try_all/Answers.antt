@@ -1,10 +1,4 @@
-use Rattle.std.proofs.Common.{◌≡◌, sym, subst, ap}
-use Rattle.std.specs.Prelude.{All}
-use Rattle.std.specs.Arc.{arc_value}
-use Rattle.std.proofs.lemmas.List.Elements.{All-push, All-weaker}
-use Rattle.swift_script.specs.Scripts.{ScriptView}
-use Rattle.swift_explorer.specs.HistoryInside.{IsPath}
-use Rattle.swift_explorer.specs.SearchInside.{IsSound, StepWasTried}
+use Rattle.swift_explorer.proofs.Prelude.{◌≡◌, sym, subst, ap, All, arc_value, All-push, All-weaker, ScriptView, IsPath, IsSound, StepWasTried}
 use Rattle.swift_explorer.proofs.Growing.{grown_on, step_grown}
 use Rattle.swift_explorer.proofs.search.Search.try_all.Goals as goal
 

@@ -1,13 +1,4 @@
-use Rattle.std.proofs.Common.{◌≡◌, take, take_all, sym, subst, ap, arith}
-use Rattle.std.specs.Prelude.{All, slice_index_or}
-use Rattle.std.specs.Arc.{arc_value}
-use Rattle.std.proofs.lemmas.List.{take_more}
-use Rattle.std.proofs.lemmas.List.Elements.{All-nil, All-push, All-weaker}
-use Rattle.swift_script.specs.Scripts.{ScriptView}
-use Rattle.swift_explorer.specs.declared.moves.Move.TheVariants.{Add}
-use Rattle.swift_explorer.specs.declared.fused.Step.TheVariants.{One}
-use Rattle.swift_explorer.specs.HistoryInside.{IsPath}
-use Rattle.swift_explorer.specs.SearchInside.{IsSound, StepWasTried}
+use Rattle.swift_explorer.proofs.Prelude.{◌≡◌, take, take_all, sym, subst, ap, arith, All, slice_index_or, arc_value, take_more, All-nil, All-push, All-weaker, ScriptView, Add, One, IsPath, IsSound, StepWasTried}
 use Rattle.swift_explorer.proofs.Copies.{path_copied}
 use Rattle.swift_explorer.proofs.Growing.{grown_none, grown_on, step_grown}
 use Rattle.swift_explorer.proofs.search.Search.try_each.Goals as goal

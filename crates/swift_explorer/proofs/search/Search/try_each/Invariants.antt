@@ -1,7 +1,4 @@
-use Rattle.std.proofs.Common.{take}
-use Rattle.std.specs.Prelude.{All, IsTrue}
-use Rattle.std.specs.Arc.{arc_value}
-use Rattle.swift_explorer.specs.SearchInside.{HasGrown, IsSound, StepWasTried}
+use Rattle.swift_explorer.proofs.Prelude.{take, All, IsTrue, arc_value, HasGrown, IsSound, StepWasTried}
 use Rattle.swift_explorer.proofs.search.Search.try_each.Given as goal
 
 abbrev pub invariant-loop-step : goal.invariant-loop-step

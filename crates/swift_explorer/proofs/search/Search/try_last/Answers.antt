@@ -1,13 +1,4 @@
-use Rattle.std.proofs.Common.{◌≡◌, [], ◌∷◌, ◌++◌, sym, subst, ap}
-use Rattle.std.specs.Prelude.{IfSome}
-use Rattle.std.specs.Arc.{arc_value}
-use Rattle.std.proofs.lemmas.Result.{on_ok_weaker}
-use Rattle.swift_script.specs.Scripts.{ScriptView}
-use Rattle.swift_explorer.specs.Outcomes.{IsBrokenAfter}
-use Rattle.swift_explorer.specs.HistoryInside.{IsPath, WasDone}
-use Rattle.swift_explorer.specs.AheadInside.{StartsHold}
-use Rattle.swift_explorer.specs.MarksInside.{AreTold, HaveSilentMarks}
-use Rattle.swift_explorer.specs.SearchInside.{HasGrown, IsFollowedAhead, IsSound, paths_of}
+use Rattle.swift_explorer.proofs.Prelude.{◌≡◌, [], ◌∷◌, ◌++◌, sym, subst, ap, IfSome, arc_value, on_ok_weaker, ScriptView, IsBrokenAfter, IsPath, WasDone, StartsHold, AreTold, HaveSilentMarks, HasGrown, IsFollowedAhead, IsSound, paths_of}
 use Rattle.swift_explorer.proofs.Growing.{grown_on, like_grown}
 use Rattle.swift_explorer.proofs.Keeping.{keeps_none}
 use Rattle.swift_explorer.proofs.Nodes.{may_on}

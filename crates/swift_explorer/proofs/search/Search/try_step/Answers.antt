@@ -1,12 +1,4 @@
-use Rattle.std.proofs.Common.{◌∙◌, List, [], ◌∷◌, ◌++◌, append_assoc, sym, subst, ap, rules}
-use Rattle.std.specs.Arc.{arc_value}
-use Rattle.std.proofs.lemmas.Result.{on_ok_weaker}
-use Rattle.swift_script.specs.Scripts.{ScriptView}
-use Rattle.swift_explorer.specs.declared.moves.Move.{Move}
-use Rattle.swift_explorer.specs.declared.history.SearchedHistory.{SearchedHistory}
-use Rattle.swift_explorer.specs.FusedInside.{first_half}
-use Rattle.swift_explorer.specs.HistoryInside.{IsPath}
-use Rattle.swift_explorer.specs.SearchInside.{WasTriedLast}
+use Rattle.swift_explorer.proofs.Prelude.{◌∙◌, List, [], ◌∷◌, ◌++◌, append_assoc, sym, subst, ap, rules, arc_value, on_ok_weaker, ScriptView, Move, SearchedHistory, first_half, IsPath, WasTriedLast}
 use Rattle.swift_explorer.proofs.search.Search.try_step.Goals as goal
 
 pub try_last-requires : goal.try_last-requires

@@ -1,6 +1,4 @@
-use Rattle.std.proofs.Common.{◌≡◌, length}
-use Rattle.script_code.specs.Seen.{rows_of}
-use Rattle.swift_interpreter.specs.Saved.{restored}
+use Rattle.swift_interpreter.proofs.Prelude.{◌≡◌, length, rows_of, restored}
 use Rattle.swift_interpreter.proofs.saved.SavedRows.put_back.Given as goal
 
 abbrev pub invariant-loop-self : goal.invariant-loop-self

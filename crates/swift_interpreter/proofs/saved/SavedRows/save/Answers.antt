@@ -1,9 +1,5 @@
-use Rattle.std.proofs.Common.{◌≡◌, ℕ, ℤ, ◌+◌, List, ◌∷◌, length, take, ap, ◌∙◌, arith}
-use Rattle.std.proofs.lemmas.List.{with_items_is}
-use Rattle.std.proofs.lemmas.Result.{err_from_is_err_and}
+use Rattle.swift_interpreter.proofs.Prelude.{◌≡◌, ℕ, ℤ, ◌+◌, List, ◌∷◌, length, take, ap, ◌∙◌, arith, with_items_is, err_from_is_err_and, newest_first, SavedRow}
 use Rattle.std.specs.Vec.{with_items}
-use Rattle.swift_interpreter.specs.SavedInside.{newest_first}
-use Rattle.swift_interpreter.specs.declared.saved.SavedRow.{SavedRow}
 use Rattle.swift_interpreter.proofs.saved.SavedRows.save.Goals as goal
 
 pub returns-clause-ok : goal.returns-clause-ok

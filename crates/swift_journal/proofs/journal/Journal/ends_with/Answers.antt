@@ -1,9 +1,4 @@
-use Rattle.std.proofs.Common.{◌≡◌, ℕ, ℤ, ◌-◌, ◌<◌, List, length, get_or, sym, ap, ◌∙◌, arith, rules}
-use Rattle.std.proofs.lemmas.List.{length-map}
-use Rattle.std.specs.Bool.{IsTrue}
-use Rattle.swift_journal.specs.JournalInside.{effects_at, record_at, record_of, words_at}
-use Rattle.swift_journal.specs.TailInside.{whole}
-use Rattle.swift_journal.specs.declared.stored.StoredEffect.{StoredEffect}
+use Rattle.swift_journal.proofs.Prelude.{◌≡◌, ℕ, ℤ, ◌-◌, ◌<◌, List, length, get_or, sym, ap, ◌∙◌, arith, rules, length-map, IsTrue, effects_at, record_at, record_of, words_at, whole, StoredEffect}
 use Rattle.swift_journal.proofs.RecordsStay.{turn_at}
 use Rattle.swift_journal.proofs.journal.Journal.ends_with.Goals as goal
 use Rattle.swift_journal.proofs.journal.Journal.ends_with.Goals.{then-is_same_head, else-is_same_head}

@@ -1,9 +1,4 @@
-use Rattle.std.proofs.Common.{◌<◌, ℤ, List, length, sym, ap, ◌∙◌, arith}
-use Rattle.std.proofs.lemmas.List.{length-map}
-use Rattle.swift_journal.specs.JournalInside.{effects_at, record_at, record_of, words_at}
-use Rattle.swift_journal.specs.Records.{record_view}
-use Rattle.swift_journal.specs.TailInside.{whole}
-use Rattle.swift_journal.specs.declared.stored.StoredEffect.{StoredEffect}
+use Rattle.swift_journal.proofs.Prelude.{◌<◌, ℤ, List, length, sym, ap, ◌∙◌, arith, length-map, effects_at, record_at, record_of, words_at, record_view, whole, StoredEffect}
 use Rattle.swift_journal.proofs.RecordsStay.{last_is, turn_at}
 use Rattle.swift_journal.proofs.journal.Journal.has.Goals as goal
 

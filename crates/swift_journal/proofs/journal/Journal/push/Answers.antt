@@ -1,6 +1,4 @@
-use Rattle.std.proofs.Common.{◌≡◌, List, ◌∷◌, [], ◌++◌, false, is_err, rules, ap, ◌∙◌}
-use Rattle.swift_journal.specs.Records.{RecordView, record_view}
-use Rattle.swift_journal.specs.TailInside.{whole}
+use Rattle.swift_journal.proofs.Prelude.{◌≡◌, List, ◌∷◌, [], ◌++◌, false, is_err, rules, ap, ◌∙◌, RecordView, record_view, whole}
 use Rattle.swift_journal.proofs.Ahead.{on_ok}
 use Rattle.swift_journal.proofs.RecordsStay.{put_view}
 use Rattle.swift_journal.proofs.journal.Journal.push.Goals as goal

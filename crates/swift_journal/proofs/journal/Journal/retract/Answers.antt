@@ -1,7 +1,4 @@
-use Rattle.std.proofs.Common.{ap, ◌∙◌}
-use Rattle.std.proofs.lemmas.List.{append-nil}
-use Rattle.swift_journal.specs.JournalInside.{span_of, record_of}
-use Rattle.swift_journal.specs.TailInside.{whole}
+use Rattle.swift_journal.proofs.Prelude.{ap, ◌∙◌, append-nil, span_of, record_of, whole}
 use Rattle.swift_journal.proofs.TurnsStay.{retracted}
 use Rattle.swift_journal.proofs.journal.Journal.retract.Goals as goal
 

@@ -1,7 +1,4 @@
-use Rattle.std.proofs.Common.{◌≡◌, ℕ, ℤ, ◌+◌, ◌-◌, ◌<◌, List, length, take, drop, sym, ap, ◌∙◌, arith, rules}
-use Rattle.swift_journal.specs.CheckpointInside.{after_of, next_effect, next_start}
-use Rattle.swift_journal.specs.declared.stored.FoldedHead.{FoldedHead}
-use Rattle.swift_journal.specs.declared.stored.StoredEffect.{StoredEffect}
+use Rattle.swift_journal.proofs.Prelude.{◌≡◌, ℕ, ℤ, ◌+◌, ◌-◌, ◌<◌, List, length, take, drop, sym, ap, ◌∙◌, arith, rules, after_of, next_effect, next_start, FoldedHead, StoredEffect}
 use Rattle.swift_journal.proofs.FoldedReads.{kept_same}
 use Rattle.swift_journal.proofs.FoldedStay.{folded_count, folded_is}
 use Rattle.swift_journal.proofs.turns.FoldedTurns.at.Goals as goal

@@ -1,4 +1,4 @@
-use Rattle.std.proofs.Common.{◌≡◌, ◌<◌, ◌^◌, length, arith, rules, ◌∙◌}
+use Rattle.swift_journal.proofs.Prelude.{◌≡◌, ◌<◌, ◌^◌, length, arith, rules, ◌∙◌}
 use Rattle.swift_journal.proofs.FoldedStay.{folded_count}
 use Rattle.swift_journal.proofs.turns.FoldedTurns.len.Goals as goal
 

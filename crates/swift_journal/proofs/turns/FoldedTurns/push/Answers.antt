@@ -1,7 +1,4 @@
-use Rattle.std.proofs.Common.{◌≡◌, List, ◌∷◌, [], ◌++◌, length, rules, ap, ◌∙◌}
-use Rattle.swift_journal.specs.CheckpointInside.{ended_view}
-use Rattle.swift_journal.specs.Checkpoints.{FoldedView}
-use Rattle.swift_journal.specs.declared.stored.FoldedHead.{FoldedHead}
+use Rattle.swift_journal.proofs.Prelude.{◌≡◌, List, ◌∷◌, [], ◌++◌, length, rules, ap, ◌∙◌, ended_view, FoldedView, FoldedHead}
 use Rattle.swift_journal.proofs.FoldedReads.{reads_as_kept}
 use Rattle.swift_journal.proofs.FoldedStay.{pushed_placed, pushed_view}
 use Rattle.swift_journal.proofs.turns.FoldedTurns.push.Goals as goal

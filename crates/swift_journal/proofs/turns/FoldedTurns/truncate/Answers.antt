@@ -1,5 +1,4 @@
-use Rattle.std.proofs.Common.{◌<◌, ◌≤◌, length, arith, rules}
-use Rattle.std.proofs.lemmas.List.{take_all}
+use Rattle.swift_journal.proofs.Prelude.{◌<◌, ◌≤◌, length, arith, rules, take_all}
 use Rattle.swift_journal.proofs.FoldedStay.{folded_count, left_laid, left_view}
 use Rattle.swift_journal.proofs.turns.FoldedTurns.truncate.Goals as goal
 

@@ -1,7 +1,5 @@
-use Rattle.std.proofs.Common.{◌≡◌, subst}
+use Rattle.swift_script.proofs.Prelude.{◌≡◌, subst, ScriptView, executor_invariants}
 use Rattle.script_code.specs.Tree.{terms_of}
-use Rattle.script_printing.specs.Script.{ScriptView}
-use Rattle.swift_script.specs.Scripts.{executor_invariants}
 use Rattle.swift_script.proofs.script.Script.executor_invariants.Goals as goal
 
 pub returns : goal.returns

@@ -1,9 +1,4 @@
-use Rattle.std.proofs.Common.{◌<◌, length, arith, sym, subst}
-use Rattle.std.proofs.lemmas.Slice.Zip.{AllZip-long}
-use Rattle.script_printing.specs.Script.{ScriptView}
-use Rattle.script_compiler.specs.IsCompiled.{IsMethod}
-use Rattle.swift_script.specs.Scripts.{parts_of, method_count, method_at}
-use Rattle.swift_script.specs.TreeInside.{tree_in}
+use Rattle.swift_script.proofs.Prelude.{◌<◌, length, arith, sym, subst, AllZip-long, ScriptView, IsMethod, parts_of, method_count, method_at, tree_in}
 use Rattle.swift_script.proofs.MethodPlaces.{method_there}
 use Rattle.swift_script.proofs.script.Script.method.Goals as goal
 

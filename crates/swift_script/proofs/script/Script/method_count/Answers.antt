@@ -1,9 +1,4 @@
-use Rattle.std.proofs.Common.{◌≡◌, length, subst, arith}
-use Rattle.std.proofs.lemmas.Slice.Zip.{AllZip-long}
-use Rattle.script_printing.specs.Script.{ScriptView}
-use Rattle.script_compiler.specs.IsCompiled.{IsMethod}
-use Rattle.swift_script.specs.Scripts.{parts_of, method_count}
-use Rattle.swift_script.specs.TreeInside.{tree_in}
+use Rattle.swift_script.proofs.Prelude.{◌≡◌, length, subst, arith, AllZip-long, ScriptView, IsMethod, parts_of, method_count, tree_in}
 use Rattle.swift_script.proofs.script.Script.method_count.Goals as goal
 
 pub returns : goal.returns

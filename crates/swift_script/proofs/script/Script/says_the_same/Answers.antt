@@ -1,6 +1,4 @@
-use Rattle.std.proofs.Common.{ap, subst, ◌∙◌}
-use Rattle.script_printing.specs.Printed.{printed}
-use Rattle.swift_script.specs.Accepted.{WasAccepted}
+use Rattle.swift_script.proofs.Prelude.{ap, subst, ◌∙◌, printed, WasAccepted}
 use Rattle.swift_script.proofs.Printing.{says}
 use Rattle.swift_script.proofs.script.Script.says_the_same.Goals as goal
 

@@ -1,5 +1,4 @@
-use Rattle.std.proofs.Common.{subst, sym, IfSome}
-use Rattle.swift_shared_book.specs.LockSeat.{LockSeatView, MayLearn}
+use Rattle.swift_shared_book.proofs.Prelude.{subst, sym, IfSome, LockSeatView, MayLearn}
 use Rattle.swift_shared_book.proofs.LockCalls.{closes}
 use Rattle.swift_shared_book.proofs.lock.Lock.close.Goals as goal
 

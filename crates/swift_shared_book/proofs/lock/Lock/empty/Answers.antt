@@ -1,5 +1,4 @@
-use Rattle.std.proofs.Common.{rules, sym, ap, ◌∙◌, Some, ◌∷◌}
-use Rattle.atomic_table.specs.Table.{rest}
+use Rattle.swift_shared_book.proofs.Prelude.{rules, sym, ap, ◌∙◌, Some, ◌∷◌, rest}
 use Rattle.swift_shared_book.proofs.lock.Lock.empty.Goals as goal
 
 pub exchange-requires : goal.exchange-requires

@@ -1,7 +1,5 @@
-use Rattle.std.proofs.Common.{rules, subst, sym, ap, ◌∙◌, ◌∷◌}
+use Rattle.swift_shared_book.proofs.Prelude.{rules, subst, sym, ap, ◌∙◌, ◌∷◌, step, LockSeatView, MayLearn}
 use mathlib.Core.Option.{none}
-use Rattle.atomic_table.specs.Table.{step}
-use Rattle.swift_shared_book.specs.LockSeat.{LockSeatView, MayLearn}
 use Rattle.swift_shared_book.proofs.LockSteps.{locks, swap_holds}
 use Rattle.swift_shared_book.proofs.LockCalls.{free_hand, locked_with}
 use Rattle.swift_shared_book.proofs.lock.Lock.lock_awaited.Goals as goal

@@ -1,4 +1,4 @@
-use Rattle.std.proofs.Common.{◌≡◌}
+use Rattle.swift_shared_book.proofs.Prelude.{◌≡◌}
 use Rattle.swift_shared_book.proofs.lock.Lock.lock_awake.Given as goal
 
 abbrev pub invariant-looks : goal.invariant-looks

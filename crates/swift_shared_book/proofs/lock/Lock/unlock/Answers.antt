@@ -1,7 +1,5 @@
-use Rattle.std.proofs.Common.{rules, subst, sym, IfSome, IsSome}
+use Rattle.swift_shared_book.proofs.Prelude.{rules, subst, sym, IfSome, IsSome, step, LockSeatView, MayUnlock}
 use mathlib.Core.Option.{none}
-use Rattle.atomic_table.specs.Table.{step}
-use Rattle.swift_shared_book.specs.LockSeat.{LockSeatView, MayUnlock}
 use Rattle.swift_shared_book.proofs.LockCalls.{unlocks_filled}
 use Rattle.swift_shared_book.proofs.lock.Lock.unlock.Goals as goal
 

@@ -1,11 +1,4 @@
-use Rattle.std.proofs.Common.{◌≡◌, Option, Some, List, [], ◌∷◌, ◌++◌, IfSome, sym, ap, ◌∙◌, subst}
-use Rattle.swift_turn.specs.Body.{BodyView}
-use Rattle.swift_job.specs.Job.{JobView}
-use Rattle.swift_course.specs.Views.{BookFacts}
-use Rattle.swift_tasks.specs.Books.{BookView}
-use Rattle.swift_shared_book.specs.Calls.{facts_of}
-use Rattle.swift_shared_book.specs.Shared.{BookSeatView, OpenSeatView, tickets_view}
-use Rattle.swift_shared_book.specs.StepsInside.{KnowsRoot}
+use Rattle.swift_shared_book.proofs.Prelude.{◌≡◌, Option, Some, List, [], ◌∷◌, ◌++◌, IfSome, sym, ap, ◌∙◌, subst, BodyView, JobView, BookFacts, BookView, facts_of, BookSeatView, OpenSeatView, tickets_view, KnowsRoot}
 use Rattle.swift_shared_book.proofs.RuleKept.{root_parted, roots_at}
 use Rattle.swift_shared_book.proofs.Shapes.{append_is, has_tickets}
 use Rattle.swift_shared_book.proofs.shared.BookLock.add_root.Goals as goal

@@ -1,13 +1,4 @@
-use Rattle.std.proofs.Common.{◌≡◌, Bool, List, sym, ap, ◌∙◌, subst, rules}
-use Rattle.swift_interpreter.specs.Frames.{effect_views}
-use Rattle.swift_interpreter.specs.TurnStates.{exit_view}
-use Rattle.std.specs.Prelude.{IsSomeAnd, None}
-use Rattle.swift_turn.specs.Body.{BodyView}
-use Rattle.swift_job.specs.Job.{JobView}
-use Rattle.swift_course.specs.Views.{BookKnown}
-use Rattle.swift_tasks.specs.Refusals.{IsRefusal, refusal_of_apply}
-use Rattle.swift_shared_book.specs.Shared.{OpenSeatView, TicketedJobsView, newest}
-use Rattle.swift_shared_book.specs.SharedInside.{HasTicketsOf, oldest_first}
+use Rattle.swift_shared_book.proofs.Prelude.{◌≡◌, Bool, List, sym, ap, ◌∙◌, subst, rules, effect_views, exit_view, IsSomeAnd, None, BodyView, JobView, BookKnown, IsRefusal, refusal_of_apply, OpenSeatView, TicketedJobsView, newest, HasTicketsOf, oldest_first}
 use Rattle.swift_shared_book.proofs.RuleKept.{IsPlayedIn, ends_answered, ends_run, refused_run}
 use Rattle.swift_shared_book.proofs.shared.BookLock.apply.Goals as goal
 

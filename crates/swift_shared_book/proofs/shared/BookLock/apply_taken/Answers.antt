@@ -1,15 +1,4 @@
-use Rattle.std.proofs.Common.{◌≡◌, ℕ, false, Some, List, length, drop, map, refl, sym, ap, ◌∙◌, subst, arith, rules}
-use Rattle.std.specs.Prelude.{vec_len}
-use Rattle.swift_interpreter.specs.Frames.{effect_views}
-use Rattle.swift_interpreter.specs.TurnStates.{exit_view}
-use Rattle.swift_turn.specs.Body.{BodyView}
-use Rattle.swift_job.specs.Job.{JobView}
-use Rattle.swift_course.specs.Seats.{gathered}
-use Rattle.swift_tasks.specs.Books.{BookView}
-use Rattle.swift_history.specs.Jobs.{job_facts}
-use Rattle.swift_shared_book.specs.Calls.{facts_of}
-use Rattle.swift_shared_book.specs.Shared.{BookSeatView, newest, tickets_view}
-use Rattle.swift_shared_book.specs.StepsInside.{MayGiveBack, knowing_record}
+use Rattle.swift_shared_book.proofs.Prelude.{◌≡◌, ℕ, false, Some, List, length, drop, map, refl, sym, ap, ◌∙◌, subst, arith, rules, vec_len, effect_views, exit_view, BodyView, JobView, gathered, BookView, job_facts, facts_of, BookSeatView, newest, tickets_view, MayGiveBack, knowing_record}
 use Rattle.swift_shared_book.proofs.RuleKept.{applies, ends_taken, jobs_made, no_fewer, tickets_after}
 use Rattle.swift_shared_book.proofs.Shapes.{has_tickets}
 use Rattle.swift_shared_book.proofs.shared.BookLock.apply_taken.Goals as goal

@@ -1,6 +1,4 @@
-use Rattle.std.proofs.Common.{◌≡◌, Some, rules, sym, ap, ◌∙◌}
-use Rattle.swift_tasks.specs.Books.{BookView}
-use Rattle.swift_shared_book.specs.Calls.{facts_of}
+use Rattle.swift_shared_book.proofs.Prelude.{◌≡◌, Some, rules, sym, ap, ◌∙◌, BookView, facts_of}
 use Rattle.swift_shared_book.proofs.RuleKept.{begins}
 use Rattle.swift_shared_book.proofs.shared.BookLock.begin.Goals as goal
 

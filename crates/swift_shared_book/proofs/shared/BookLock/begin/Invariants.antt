@@ -1,5 +1,4 @@
-use Rattle.std.proofs.Common.{Some}
-use Rattle.swift_history.specs.Jobs.{job_facts}
+use Rattle.swift_shared_book.proofs.Prelude.{Some, job_facts}
 use Rattle.swift_shared_book.proofs.shared.BookLock.begin.Given as goal
 
 abbrev pub ghosts-give_begun : goal.ghosts-give_begun

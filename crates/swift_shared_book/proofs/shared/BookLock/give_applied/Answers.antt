@@ -1,8 +1,4 @@
-use Rattle.std.proofs.Common.{◌≡◌, sym, subst}
-use Rattle.swift_course.specs.Views.{BookKnown}
-use Rattle.swift_shared_book.specs.Calls.{facts_of}
-use Rattle.swift_shared_book.specs.StepsInside.{MayGiveBack}
-use Rattle.swift_shared_book.specs.declared.opened.OpenBook.{OpenBook}
+use Rattle.swift_shared_book.proofs.Prelude.{◌≡◌, sym, subst, BookKnown, facts_of, MayGiveBack, OpenBook}
 use Rattle.swift_shared_book.proofs.RuleKept.{unlocks}
 use Rattle.swift_shared_book.proofs.shared.BookLock.give_applied.Goals as goal
 

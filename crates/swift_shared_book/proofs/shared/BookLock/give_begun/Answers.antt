@@ -1,10 +1,4 @@
-use Rattle.std.proofs.Common.{sym, subst, IfSome}
-use Rattle.swift_history.specs.Jobs.{job_facts}
-use Rattle.swift_history.specs.Orderly.{has_last_root}
-use Rattle.swift_shared_book.specs.Calls.{facts_of}
-use Rattle.swift_shared_book.specs.Shared.{BeginsTicket, facts_in}
-use Rattle.swift_shared_book.specs.StepsInside.{MayGiveBack}
-use Rattle.swift_shared_book.specs.declared.opened.OpenBook.{OpenBook}
+use Rattle.swift_shared_book.proofs.Prelude.{sym, subst, IfSome, job_facts, has_last_root, facts_of, BeginsTicket, facts_in, MayGiveBack, OpenBook}
 use Rattle.swift_shared_book.proofs.RuleKept.{names_begun, unlocks}
 use Rattle.swift_shared_book.proofs.shared.BookLock.give_begun.Goals as goal
 

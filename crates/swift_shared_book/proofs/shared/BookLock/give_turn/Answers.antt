@@ -1,7 +1,4 @@
-use Rattle.std.proofs.Common.{◌≡◌, length, ap, ◌∙◌}
-use Rattle.swift_course.specs.Views.{BookKnown}
-use Rattle.swift_course.specs.Seats.{gathered, some_parted}
-use Rattle.swift_shared_book.specs.Shared.{BookSeatView, newest, seat_of, tickets_view}
+use Rattle.swift_shared_book.proofs.Prelude.{◌≡◌, length, ap, ◌∙◌, BookKnown, gathered, some_parted, BookSeatView, newest, seat_of, tickets_view}
 use Rattle.swift_shared_book.proofs.Shapes.{parted_is}
 use Rattle.swift_shared_book.proofs.shared.BookLock.give_turn.Goals as goal
 

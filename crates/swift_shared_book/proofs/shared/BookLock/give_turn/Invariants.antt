@@ -1,7 +1,4 @@
-use Rattle.std.proofs.Common.{map}
-use Rattle.swift_history.specs.Jobs.{job_facts}
-use Rattle.swift_shared_book.specs.Shared.{newest}
-use Rattle.swift_shared_book.specs.StepsInside.{knowing_record}
+use Rattle.swift_shared_book.proofs.Prelude.{map, job_facts, newest, knowing_record}
 use Rattle.swift_shared_book.proofs.shared.BookLock.give_turn.Given as goal
 
 abbrev pub ghosts-give_applied : goal.ghosts-give_applied

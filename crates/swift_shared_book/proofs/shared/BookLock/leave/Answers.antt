@@ -1,7 +1,4 @@
-use Rattle.std.proofs.Common.{◌≡◌, sym, subst}
-use Rattle.swift_shared_book.specs.Calls.{facts_of}
-use Rattle.swift_shared_book.specs.StepsInside.{MayGiveBack}
-use Rattle.swift_shared_book.specs.declared.opened.OpenBook.{OpenBook}
+use Rattle.swift_shared_book.proofs.Prelude.{◌≡◌, sym, subst, facts_of, MayGiveBack, OpenBook}
 use Rattle.swift_shared_book.proofs.RuleKept.{stays, unlocks}
 use Rattle.swift_shared_book.proofs.shared.BookLock.leave.Goals as goal
 

@@ -1,5 +1,4 @@
-use Rattle.std.proofs.Common.{◌≡◌, rules, sym, subst}
-use Rattle.swift_tasks.specs.Books.{BookView, empty_book}
+use Rattle.swift_shared_book.proofs.Prelude.{◌≡◌, rules, sym, subst, BookView, empty_book}
 use Rattle.swift_shared_book.proofs.RuleKept.{starts}
 use Rattle.swift_shared_book.proofs.shared.BookLock.new.Goals as goal
 

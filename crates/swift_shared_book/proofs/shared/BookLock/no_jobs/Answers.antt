@@ -1,5 +1,4 @@
-use Rattle.std.proofs.Common.{ap}
-use Rattle.swift_shared_book.specs.Shared.{BookSeatView}
+use Rattle.swift_shared_book.proofs.Prelude.{ap, BookSeatView}
 use Rattle.swift_shared_book.proofs.shared.BookLock.no_jobs.Goals as goal
 
 pub none-requires : goal.none-requires

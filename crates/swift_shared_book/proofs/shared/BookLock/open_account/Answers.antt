@@ -1,11 +1,4 @@
-use Rattle.std.proofs.Common.{◌≡◌, sym, ap, subst}
-use Rattle.swift_shared_book.specs.LockSeat.{LockSeatView}
-use Rattle.swift_course.specs.Views.{BookKnown}
-use Rattle.swift_course.specs.declared.known.BookImage.{BookImage}
-use Rattle.swift_course.specs.declared.known.Known.{Known}
-use Rattle.swift_course.specs.Seats.{MayPart, account_parted, maker_left}
-use Rattle.swift_course.proofs.Parts.{account_opens}
-use Rattle.swift_course.proofs.Rule.{parts}
+use Rattle.swift_shared_book.proofs.Prelude.{◌≡◌, sym, ap, subst, LockSeatView, BookKnown, BookImage, Known, MayPart, account_parted, maker_left, account_opens, parts}
 use Rattle.swift_shared_book.proofs.shared.BookLock.open_account.Goals as goal
 
 pub split-account-requires-clause-rule : goal.split-account-requires-clause-rule

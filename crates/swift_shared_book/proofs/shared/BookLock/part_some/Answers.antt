@@ -1,5 +1,4 @@
-use Rattle.swift_course.proofs.Parts.{tickets_part}
-use Rattle.swift_course.proofs.Rule.{parts}
+use Rattle.swift_shared_book.proofs.Prelude.{tickets_part, parts}
 use Rattle.swift_shared_book.proofs.shared.BookLock.part_some.Goals as goal
 
 pub split-parted-requires-clause-rule : goal.split-parted-requires-clause-rule

@@ -1,4 +1,4 @@
-use Rattle.std.proofs.Common.{rules, refl}
+use Rattle.swift_steps.proofs.Prelude.{rules, refl}
 use Rattle.swift_steps.proofs.Steps.{root_step}
 use Rattle.swift_steps.proofs.history.OpenHistory.add_root.Goals as goal
 

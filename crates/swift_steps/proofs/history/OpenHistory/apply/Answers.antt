@@ -1,13 +1,4 @@
-use Rattle.std.proofs.Common.{List, [], refl, sym, subst, ◌≡◌, map}
-use Rattle.std.specs.Prelude.{None}
-use Rattle.std.specs.List.{AllByRecursion}
-use Rattle.swift_interpreter.specs.Frames.{effect_views}
-use Rattle.swift_interpreter.specs.TurnStates.{exit_view}
-use Rattle.swift_job.specs.Job.{JobView}
-use Rattle.swift_turn.specs.Body.{BodyView}
-use Rattle.swift_tasks.specs.Books.{IsEndOf, IsJobOf}
-use Rattle.swift_history.specs.Jobs.{job_facts}
-use Rattle.swift_tasks.specs.Refusals.{refusal_of_apply}
+use Rattle.swift_steps.proofs.Prelude.{List, [], refl, sym, subst, ◌≡◌, map, None, AllByRecursion, effect_views, exit_view, JobView, BodyView, IsEndOf, IsJobOf, job_facts, refusal_of_apply}
 use Rattle.swift_steps.proofs.history.OpenHistory.apply.Goals as goal
 
 pub returns-in_ok-put_all-in-Ok-clause-applies : goal.returns-in_ok-put_all-in-Ok-clause-applies

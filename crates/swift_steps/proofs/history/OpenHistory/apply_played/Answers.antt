@@ -1,10 +1,4 @@
-use Rattle.std.proofs.Common.{◌∙◌, List, Vec, sym, subst, ap}
-use Rattle.std.specs.declared.alloc.Global.{Global}
-use Rattle.swift_interpreter.specs.Frames.{FrameView}
-use Rattle.swift_job.specs.Job.{JobView}
-use Rattle.swift_turn.specs.Body.{BodyView, HasFrames}
-use Rattle.swift_tasks.specs.Books.{BookView}
-use Rattle.swift_steps.specs.declared.next_turn.NextTurn.{NextTurn}
+use Rattle.swift_steps.proofs.Prelude.{◌∙◌, List, Vec, sym, subst, ap, Global, FrameView, JobView, BodyView, HasFrames, BookView, NextTurn}
 use Rattle.swift_steps.proofs.Ran.{if_yes, ran_step}
 use Rattle.swift_steps.proofs.history.OpenHistory.apply_played.Goals as goal
 

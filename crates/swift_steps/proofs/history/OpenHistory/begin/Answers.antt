@@ -1,5 +1,4 @@
-use Rattle.std.proofs.Common.{rules, ◌≡◌, Some, ◌∙◌, sym, refl}
-use Rattle.swift_steps.specs.NextTurns.{given_at}
+use Rattle.swift_steps.proofs.Prelude.{rules, ◌≡◌, Some, ◌∙◌, sym, refl, given_at}
 use Rattle.swift_steps.proofs.Steps.{begin_step}
 use Rattle.swift_steps.proofs.history.OpenHistory.begin.Goals as goal
 

@@ -1,11 +1,4 @@
-use Rattle.std.proofs.Common.{◌≡◌, ◌∙◌, ℤ, List, Vec, map, rules, refl, subst, ap}
-use Rattle.std.specs.Prelude.{Option}
-use Rattle.std.specs.declared.alloc.Global.{Global}
-use Rattle.std.specs.Arc.{arc_value}
-use Rattle.std.specs.List.{AllZip}
-use Rattle.script_code.specs.Seen.{rows_of}
-use Rattle.swift_steps.specs.declared.next_turn.NextTurn.{NextTurn}
-use Rattle.swift_steps.specs.NextTurns.{IsSameIf}
+use Rattle.swift_steps.proofs.Prelude.{◌≡◌, ◌∙◌, ℤ, List, Vec, map, rules, refl, subst, ap, Option, Global, arc_value, AllZip, rows_of, NextTurn, IsSameIf}
 use Rattle.swift_steps.proofs.Copies.{is_copy}
 use Rattle.swift_steps.proofs.history.OpenHistory.copy.Goals as goal
 

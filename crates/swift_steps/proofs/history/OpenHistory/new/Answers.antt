@@ -1,11 +1,4 @@
-use Rattle.std.proofs.Common.{rules, ◌≡◌, ◌∙◌, List, refl, sym, ap}
-use Rattle.std.specs.Prelude.{Option}
-use Rattle.std.specs.Option.{option_map}
-use Rattle.std.proofs.lemmas.Option.{none-some}
-use Rattle.std.specs.Arc.{arc_value}
-use Rattle.swift_tasks.specs.Books.{BookView, empty_book}
-use Rattle.swift_steps.specs.declared.next_turn.NextTurn.{NextTurn}
-use Rattle.swift_steps.specs.NextTurns.{given_at, given_view}
+use Rattle.swift_steps.proofs.Prelude.{rules, ◌≡◌, ◌∙◌, List, refl, sym, ap, Option, option_map, none-some, arc_value, BookView, empty_book, NextTurn, given_at, given_view}
 use Rattle.swift_steps.proofs.Steps.{followed_is}
 use Rattle.swift_steps.proofs.history.OpenHistory.new.Goals as goal
 

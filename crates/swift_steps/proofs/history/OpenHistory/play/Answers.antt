@@ -1,10 +1,4 @@
-use Rattle.std.proofs.Common.{◌≡◌, ◌<◌, ◌∙◌, ℤ, Vec, length, refl, sym, ap, arith}
-use Rattle.std.specs.Prelude.{Some, slice_get}
-use Rattle.std.specs.declared.alloc.Global.{Global}
-use Rattle.script_code.specs.Seen.{rows_of}
-use Rattle.std.proofs.lemmas.List.{get_or_read_under, length-set}
-use Rattle.std.proofs.lemmas.Option.{slice_get-get_or}
-use Rattle.swift_turn.specs.Body.{BodyView, PhaseView, idle}
+use Rattle.swift_steps.proofs.Prelude.{◌≡◌, ◌<◌, ◌∙◌, ℤ, Vec, length, refl, sym, ap, arith, Some, slice_get, Global, rows_of, get_or_read_under, length-set, slice_get-get_or, BodyView, PhaseView, idle}
 use Rattle.swift_steps.proofs.Ran.{plays}
 use Rattle.swift_steps.proofs.Rows.{rows_here, rows_set}
 use Rattle.swift_steps.proofs.history.OpenHistory.play.Goals as goal

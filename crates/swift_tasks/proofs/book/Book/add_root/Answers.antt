@@ -1,12 +1,4 @@
-use Rattle.std.proofs.Common.{◌≡◌, ◌<◌, ◌∙◌, ap, sym, subst, ℕ, List, ◌++◌}
-use Rattle.std.specs.Prelude.{None}
-use Rattle.std.specs.Arc.{arc_value}
-use Rattle.swift_script.specs.Scripts.{ScriptView, root_count}
-use Rattle.swift_events.specs.declared.event.Event.{Event}
-use Rattle.swift_events.specs.Lives.{life_of}
-use Rattle.swift_history.specs.TurnEnds.{root_events}
-use Rattle.swift_ledger.specs.Ledgers.{LedgerView}
-use Rattle.swift_tasks.specs.Books.{BookView}
+use Rattle.swift_tasks.proofs.Prelude.{◌≡◌, ◌<◌, ◌∙◌, ap, sym, subst, ℕ, List, ◌++◌, None, arc_value, ScriptView, root_count, Event, life_of, root_events, LedgerView, BookView}
 use Rattle.swift_tasks.proofs.Pushes.{kept_root}
 use Rattle.swift_tasks.proofs.book.Book.add_root.Goals as goal
 

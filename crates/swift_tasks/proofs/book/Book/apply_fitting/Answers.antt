@@ -1,20 +1,4 @@
-use Rattle.std.proofs.Common.{◌≡◌, ◌∙◌, refl, ap, sym, subst, arith, List, length}
-use Rattle.std.specs.Prelude.{None, map}
-use Rattle.std.specs.Arc.{arc_value}
-use Rattle.std.specs.List.{AllByRecursion}
-use Rattle.swift_types.specs.declared.id.TaskId.{TaskId}
-use Rattle.swift_script.specs.Scripts.{ScriptView}
-use Rattle.swift_interpreter.specs.Turn.{EffectView, ExitView}
-use Rattle.swift_interpreter.specs.Frames.{effect_views}
-use Rattle.swift_interpreter.specs.TurnStates.{exit_view}
-use Rattle.swift_events.specs.declared.event.Event.{Event}
-use Rattle.swift_events.specs.Relations.{waiters_of}
-use Rattle.swift_history.specs.Checks.{counters}
-use Rattle.swift_ledger.specs.Ledgers.{LedgerView}
-use Rattle.swift_tasks.specs.BookInvariant.{FitsScript, held_views}
-use Rattle.swift_tasks.specs.Books.{BookView, IsJobOf}
-use Rattle.swift_history.specs.Jobs.{job_facts}
-use Rattle.swift_tasks.specs.Refusals.{refusal_of_apply}
+use Rattle.swift_tasks.proofs.Prelude.{◌≡◌, ◌∙◌, refl, ap, sym, subst, arith, List, length, None, map, arc_value, AllByRecursion, TaskId, ScriptView, EffectView, ExitView, effect_views, exit_view, Event, waiters_of, counters, LedgerView, FitsScript, held_views, BookView, IsJobOf, job_facts, refusal_of_apply}
 use Rattle.swift_tasks.proofs.Fitting.{starts}
 use Rattle.swift_tasks.proofs.TurnTaken.{taken_fits}
 use Rattle.swift_tasks.proofs.TurnApplied.{job_fits, kept_after, end_of_book}

@@ -1,9 +1,4 @@
-use Rattle.std.proofs.Common.{◌≡◌, ◌∙◌, ap, refl, false, [], ◌∷◌, ◌++◌}
-use Rattle.swift_events.specs.declared.event.Event.{Event}
-use Rattle.swift_events.specs.declared.event.Event.TheVariants.{Begin}
-use Rattle.swift_events.specs.Lives.{life_of, is_waiting}
-use Rattle.swift_ledger.specs.Ledgers.{LedgerView}
-use Rattle.swift_tasks.specs.Books.{BookView}
+use Rattle.swift_tasks.proofs.Prelude.{◌≡◌, ◌∙◌, ap, refl, false, [], ◌∷◌, ◌++◌, Event, Begin, life_of, is_waiting, LedgerView, BookView}
 use Rattle.swift_tasks.proofs.Pushes.{kept_push, leaves_begin}
 use Rattle.swift_tasks.proofs.book.Book.begin_fitting.Goals as goal
 

@@ -1,17 +1,4 @@
-use Rattle.std.proofs.Common.{◌≡◌, ◌∙◌, ap, sym, subst, List, [], ◌∷◌, ◌++◌}
-use Rattle.std.specs.Prelude.{Option, IsSomeAnd, map}
-use Rattle.std.specs.Arc.{arc_value}
-use Rattle.swift_types.specs.declared.outcome.Resume.{Resume}
-use Rattle.swift_interpreter.specs.TurnStates.{exit_view}
-use Rattle.swift_job.specs.Job.{JobView}
-use Rattle.swift_turn.specs.declared.step.Step.{Step}
-use Rattle.swift_turn.specs.declared.step.Step.TheVariants.{Run}
-use Rattle.swift_turn.specs.Body.{BodyView, at_rest, GoesOn, AdvancesTo, CanAdvance}
-use Rattle.swift_ledger.specs.Ledgers.{LedgerView}
-use Rattle.swift_tasks.specs.ApplyingInside.{CanApply, went_on, next_of}
-use Rattle.swift_tasks.specs.BookInvariant.{held_views}
-use Rattle.swift_tasks.specs.Books.{BookView, IsEndOf}
-use Rattle.swift_history.specs.Jobs.{job_facts}
+use Rattle.swift_tasks.proofs.Prelude.{◌≡◌, ◌∙◌, ap, sym, subst, List, [], ◌∷◌, ◌++◌, Option, IsSomeAnd, map, arc_value, Resume, exit_view, JobView, Step, Run, BodyView, at_rest, GoesOn, AdvancesTo, CanAdvance, LedgerView, CanApply, went_on, next_of, held_views, BookView, IsEndOf, job_facts}
 use Rattle.swift_tasks.proofs.GoesOn.{Next, Parts, can_follow, plain_ends, plain_book, more_views}
 use Rattle.swift_tasks.proofs.book.Book.call.Goals as goal
 

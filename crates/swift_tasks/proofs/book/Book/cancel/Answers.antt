@@ -1,7 +1,4 @@
-use Rattle.std.proofs.Common.{◌∙◌, ap, refl, [], ◌∷◌, ◌++◌}
-use Rattle.swift_events.specs.declared.event.Event.{Event}
-use Rattle.swift_events.specs.declared.event.Event.TheVariants.{CancelTask}
-use Rattle.swift_ledger.specs.Ledgers.{LedgerView}
+use Rattle.swift_tasks.proofs.Prelude.{◌∙◌, ap, refl, [], ◌∷◌, ◌++◌, Event, CancelTask, LedgerView}
 use Rattle.swift_tasks.proofs.Pushes.{kept_push, leaves_cancel}
 use Rattle.swift_tasks.proofs.book.Book.cancel.Goals as goal
 

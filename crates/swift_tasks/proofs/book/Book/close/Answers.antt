@@ -1,8 +1,4 @@
-use Rattle.std.proofs.Common.{ap, subst}
-use Rattle.std.specs.List.{AllByRecursion}
-use Rattle.swift_script.specs.Scripts.{ScriptView}
-use Rattle.std.specs.Arc.{arc_value}
-use Rattle.swift_tasks.specs.Books.{BookView, IsJobOf}
+use Rattle.swift_tasks.proofs.Prelude.{ap, subst, AllByRecursion, ScriptView, arc_value, BookView, IsJobOf}
 use Rattle.swift_tasks.proofs.book.Book.close.Goals as goal
 
 pub returns-clause-bodies : goal.returns-clause-bodies

@@ -1,11 +1,4 @@
-use Rattle.std.proofs.Common.{◌≡◌, ◌∙◌, ap, List, rules, sym, subst, arith}
-use Rattle.std.specs.Prelude.{Option}
-use Rattle.std.specs.Arc.{arc_value}
-use Rattle.std.specs.List.{AllZip}
-use Rattle.swift_script.specs.Scripts.{ScriptView}
-use Rattle.swift_ledger.specs.Ledgers.{LedgerView}
-use Rattle.swift_tasks.specs.declared.held.WaitingTask.{WaitingTask}
-use Rattle.swift_tasks.specs.BookInvariant.{BookInvariant, IsSameHeld, held_views}
+use Rattle.swift_tasks.proofs.Prelude.{◌≡◌, ◌∙◌, ap, List, rules, sym, subst, arith, Option, arc_value, AllZip, ScriptView, LedgerView, WaitingTask, BookInvariant, IsSameHeld, held_views}
 use Rattle.swift_tasks.proofs.HeldCopies.{same_book, same_invariant, same_views}
 use Rattle.swift_tasks.proofs.book.Book.copy.Goals as goal
 

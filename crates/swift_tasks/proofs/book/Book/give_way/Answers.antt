@@ -1,15 +1,4 @@
-use Rattle.std.proofs.Common.{◌∙◌, ap, sym, subst, List, [], ◌∷◌, ◌++◌}
-use Rattle.std.specs.Prelude.{Option, IsSomeAnd, map}
-use Rattle.std.specs.Arc.{arc_value}
-use Rattle.swift_types.specs.declared.outcome.Resume.TheVariants.{Go}
-use Rattle.swift_interpreter.specs.Turn.{yielding}
-use Rattle.swift_job.specs.Job.{JobView}
-use Rattle.swift_turn.specs.Body.{BodyView, at_rest}
-use Rattle.swift_ledger.specs.Ledgers.{LedgerView}
-use Rattle.swift_tasks.specs.ApplyingInside.{CanApply, went_on, next_of}
-use Rattle.swift_tasks.specs.BookInvariant.{held_views}
-use Rattle.swift_tasks.specs.Books.{BookView, IsEndOf}
-use Rattle.swift_history.specs.Jobs.{job_facts}
+use Rattle.swift_tasks.proofs.Prelude.{◌∙◌, ap, sym, subst, List, [], ◌∷◌, ◌++◌, Option, IsSomeAnd, map, arc_value, Go, yielding, JobView, BodyView, at_rest, LedgerView, CanApply, went_on, next_of, held_views, BookView, IsEndOf, job_facts}
 use Rattle.swift_tasks.proofs.GoesOn.{Parts, goes_again, plain_ends, plain_book, more_views}
 use Rattle.swift_tasks.proofs.book.Book.give_way.Goals as goal
 

@@ -1,7 +1,4 @@
-use Rattle.std.proofs.Common.{◌≡◌, ◌<◌, ◌∙◌, ℕ, true, false, ap, sym, arith}
-use Rattle.std.specs.Prelude.{nat_lt}
-use Rattle.swift_events.specs.Relations.{is_closed, is_open_group, opened_by}
-use Rattle.swift_tasks.specs.Books.{BookView}
+use Rattle.swift_tasks.proofs.Prelude.{◌≡◌, ◌<◌, ◌∙◌, ℕ, true, false, ap, sym, arith, nat_lt, is_closed, is_open_group, opened_by, BookView}
 use Rattle.swift_tasks.proofs.Tests.{closed_next, open_unclosed}
 use Rattle.swift_tasks.proofs.book.Book.has_closed_all.Goals as goal
 

@@ -1,5 +1,4 @@
-use Rattle.std.proofs.Common.{◌≡◌, ◌<◌, ℕ, true}
-use Rattle.swift_events.specs.Relations.{is_closed}
+use Rattle.swift_tasks.proofs.Prelude.{◌≡◌, ◌<◌, ℕ, true, is_closed}
 use Rattle.swift_tasks.proofs.book.Book.has_closed_all.Given as goal
 
 abbrev pub invariant-loop-group : goal.invariant-loop-group

@@ -1,6 +1,5 @@
-use Rattle.std.proofs.Common.{subst}
+use Rattle.swift_tasks.proofs.Prelude.{subst, BookView}
 use Rattle.swift_ledger.specs.Levels.{HaveStayed}
-use Rattle.swift_tasks.specs.Books.{BookView}
 use Rattle.swift_tasks.proofs.book.Book.levels_changed.Goals as goal
 
 pub returns : goal.returns

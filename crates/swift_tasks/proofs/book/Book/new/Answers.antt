@@ -1,10 +1,4 @@
-use Rattle.std.proofs.Common.{arith, ◌≡◌, ◌∙◌, ap, replicate, length}
-use Rattle.std.specs.Prelude.{None, Option}
-use Rattle.std.specs.Arc.{arc_value}
-use Rattle.std.proofs.lemmas.List.{length-replicate}
-use Rattle.swift_script.specs.Scripts.{root_count}
-use Rattle.swift_ledger.specs.Ledgers.{LedgerView}
-use Rattle.swift_tasks.specs.declared.held.WaitingTask.{WaitingTask}
+use Rattle.swift_tasks.proofs.Prelude.{arith, ◌≡◌, ◌∙◌, ap, replicate, length, None, Option, arc_value, length-replicate, root_count, LedgerView, WaitingTask}
 use Rattle.swift_tasks.proofs.EmptyBook.{empty_kept, new_is_empty}
 use Rattle.swift_tasks.proofs.book.Book.new.Goals as goal
 

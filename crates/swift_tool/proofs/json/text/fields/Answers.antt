@@ -1,6 +1,4 @@
-use Rattle.std.proofs.Common.{ℕ, ℤ, ◌+◌, ◌-◌, ◌++◌, List, sym, ap, ◌∙◌, append_assoc, arith}
-use Rattle.swift_script.specs.Scripts.{actor_count}
-use Rattle.swift_tool.specs.ReportJson.{actor_json, fields_json}
+use Rattle.swift_tool.proofs.Prelude.{ℕ, ℤ, ◌+◌, ◌-◌, ◌++◌, List, sym, ap, ◌∙◌, append_assoc, arith, actor_count, actor_json, fields_json}
 use Rattle.swift_tool.proofs.Rows.{fields_from}
 use Rattle.swift_tool.proofs.json.text.fields.Goals as goal
 

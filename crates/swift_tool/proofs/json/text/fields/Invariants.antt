@@ -1,6 +1,4 @@
-use Rattle.std.proofs.Common.{◌≡◌, ◌++◌, ◌-◌}
-use Rattle.swift_script.specs.Scripts.{actor_count}
-use Rattle.swift_tool.specs.ReportJson.{fields_json}
+use Rattle.swift_tool.proofs.Prelude.{◌≡◌, ◌++◌, ◌-◌, actor_count, fields_json}
 use Rattle.swift_tool.proofs.json.text.fields.Given as goal
 
 abbrev pub invariant-loop-actor : goal.invariant-loop-actor

@@ -1,8 +1,5 @@
-use Rattle.std.proofs.Common.{◌≡◌, Bool, false, List, ◌++◌, sym, ap, ◌∙◌, rules}
-use Rattle.std.specs.Prelude.{codes}
+use Rattle.swift_tool.proofs.Prelude.{◌≡◌, Bool, false, List, ◌++◌, sym, ap, ◌∙◌, rules, codes, RecordView, executors_json, journals_json}
 use Rattle.swift_journal.specs.Checkpoints.{CheckpointRoomView}
-use Rattle.swift_journal.specs.Records.{RecordView}
-use Rattle.swift_tool.specs.ReportJson.{executors_json, journals_json}
 use Rattle.swift_tool.proofs.Joined.{said, three_joined}
 use Rattle.swift_tool.proofs.json.text.journals.Goals as goal
 

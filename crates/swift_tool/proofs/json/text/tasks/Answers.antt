@@ -1,6 +1,4 @@
-use Rattle.std.proofs.Common.{ℕ, ◌+◌, ◌++◌, List, drop, sym, ap, ◌∙◌, append_assoc}
-use Rattle.std.proofs.lemmas.List.{at_drop_more}
-use Rattle.swift_tool.specs.ReportJson.{tasks_json}
+use Rattle.swift_tool.proofs.Prelude.{ℕ, ◌+◌, ◌++◌, List, drop, sym, ap, ◌∙◌, append_assoc, at_drop_more, tasks_json}
 use Rattle.swift_tool.proofs.json.text.tasks.Goals as goal
 
 pub loop-number_of-preserved : goal.loop-number_of-preserved

@@ -1,5 +1,4 @@
-use Rattle.std.proofs.Common.{◌≡◌, ◌++◌, drop}
-use Rattle.swift_tool.specs.ReportJson.{tasks_json}
+use Rattle.swift_tool.proofs.Prelude.{◌≡◌, ◌++◌, drop, tasks_json}
 use Rattle.swift_tool.proofs.json.text.tasks.Given as goal
 
 abbrev pub invariant-loop-number_of : goal.invariant-loop-number_of

@@ -1,6 +1,4 @@
-use Rattle.std.proofs.Common.{◌≡◌, ℕ, ℤ, ◌+◌, ◌++◌, List, drop, get_or, pos, sym, ap, ◌∙◌, append_assoc, rules, w64, to_z, of_z}
-use Rattle.std.proofs.lemmas.List.{at_drop_more}
-use Rattle.swift_tool.specs.ReportJson.{field_json, values_json}
+use Rattle.swift_tool.proofs.Prelude.{◌≡◌, ℕ, ℤ, ◌+◌, ◌++◌, List, drop, get_or, pos, sym, ap, ◌∙◌, append_assoc, rules, w64, to_z, of_z, at_drop_more, field_json, values_json}
 use Rattle.swift_tool.proofs.json.text.values.Goals as goal
 
 pub loop-place-preserved : goal.loop-place-preserved

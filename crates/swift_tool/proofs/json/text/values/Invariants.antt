@@ -1,5 +1,4 @@
-use Rattle.std.proofs.Common.{◌≡◌, ◌++◌, drop}
-use Rattle.swift_tool.specs.ReportJson.{values_json}
+use Rattle.swift_tool.proofs.Prelude.{◌≡◌, ◌++◌, drop, values_json}
 use Rattle.swift_tool.proofs.json.text.values.Given as goal
 
 abbrev pub invariant-loop-place : goal.invariant-loop-place

@@ -1,7 +1,5 @@
-use Rattle.std.proofs.Common.{ℕ, ◌++◌, ap, ◌∙◌}
-use Rattle.std.specs.Prelude.{codes, decimal}
+use Rattle.swift_tool.proofs.Prelude.{ℕ, ◌++◌, ap, ◌∙◌, codes, decimal, flag_json}
 use Rattle.swift_types.specs.Priority.{rank}
-use Rattle.swift_tool.specs.ReportJson.{flag_json}
 use Rattle.swift_tool.proofs.Joined.{labelled_after, said}
 use Rattle.swift_tool.proofs.json.turns.env.Goals as goal
 

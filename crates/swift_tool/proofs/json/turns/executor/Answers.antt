@@ -1,6 +1,4 @@
-use Rattle.std.proofs.Common.{◌≡◌, ℕ, ◌+◌, ◌++◌, length, ap, sym, refl, ◌∙◌, append_assoc}
-use Rattle.std.specs.Prelude.{codes, decimal}
-use Rattle.swift_tool.specs.ReportJson.{heading_json, turns_json}
+use Rattle.swift_tool.proofs.Prelude.{◌≡◌, ℕ, ◌+◌, ◌++◌, length, ap, sym, refl, ◌∙◌, append_assoc, codes, decimal, heading_json, turns_json}
 use Rattle.swift_tool.proofs.Joined.{six_joined}
 use Rattle.swift_tool.proofs.json.turns.executor.Goals as goal
 

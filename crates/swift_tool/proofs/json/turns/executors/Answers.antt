@@ -1,8 +1,4 @@
-use Rattle.std.proofs.Common.{ℕ, ◌+◌, ◌++◌, List, drop, sym, ap, ◌∙◌, append_assoc}
-use Rattle.std.proofs.lemmas.List.{at_drop_more}
-use Rattle.std.specs.Prelude.{slice_get}
-use Rattle.swift_report.specs.Text.{folded_count}
-use Rattle.swift_tool.specs.ReportJson.{comma, executor_json, executors_json}
+use Rattle.swift_tool.proofs.Prelude.{ℕ, ◌+◌, ◌++◌, List, drop, sym, ap, ◌∙◌, append_assoc, at_drop_more, slice_get, folded_count, comma, executor_json, executors_json}
 use Rattle.swift_tool.proofs.json.turns.executors.Goals as goal
 
 pub loop-place-preserved : goal.loop-place-preserved

@@ -1,5 +1,4 @@
-use Rattle.std.proofs.Common.{◌≡◌, ◌++◌, drop}
-use Rattle.swift_tool.specs.ReportJson.{executors_json}
+use Rattle.swift_tool.proofs.Prelude.{◌≡◌, ◌++◌, drop, executors_json}
 use Rattle.swift_tool.proofs.json.turns.executors.Given as goal
 
 abbrev pub invariant-loop-place : goal.invariant-loop-place

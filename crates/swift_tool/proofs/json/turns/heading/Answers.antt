@@ -1,8 +1,5 @@
-use Rattle.std.proofs.Common.{ℕ, ◌++◌, List, ap, ◌∙◌}
-use Rattle.std.specs.Prelude.{codes, decimal}
+use Rattle.swift_tool.proofs.Prelude.{ℕ, ◌++◌, List, ap, ◌∙◌, codes, decimal, executor_kind, executor_name, kind_json}
 use Rattle.swift_types.specs.declared.executor_kind.ExecutorKind.{ExecutorKind}
-use Rattle.swift_script.specs.Scripts.{executor_kind, executor_name}
-use Rattle.swift_tool.specs.ReportJson.{kind_json}
 use Rattle.swift_tool.proofs.Joined.{labelled_after, onto}
 use Rattle.swift_tool.proofs.json.turns.heading.Goals as goal
 

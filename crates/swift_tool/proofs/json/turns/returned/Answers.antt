@@ -1,6 +1,4 @@
-use Rattle.std.proofs.Common.{◌≡◌, ℤ, ◌++◌, ap, ◌∙◌, rules, w64, to_z, of_z}
-use Rattle.std.specs.Prelude.{codes}
-use Rattle.swift_tool.specs.ReportJson.{value_json}
+use Rattle.swift_tool.proofs.Prelude.{◌≡◌, ℤ, ◌++◌, ap, ◌∙◌, rules, w64, to_z, of_z, codes, value_json}
 use Rattle.swift_tool.proofs.Joined.{three_joined}
 use Rattle.swift_tool.proofs.json.turns.returned.Goals as goal
 

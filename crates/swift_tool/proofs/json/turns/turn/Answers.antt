@@ -1,6 +1,4 @@
-use Rattle.std.specs.Prelude.{codes}
-use Rattle.swift_report.specs.Text.{method_text}
-use Rattle.swift_tool.specs.ReportJson.{env_json, resume_and_exit_json, run_json}
+use Rattle.swift_tool.proofs.Prelude.{codes, method_text, env_json, resume_and_exit_json, run_json}
 use Rattle.swift_tool.proofs.Joined.{seven_joined}
 use Rattle.swift_tool.proofs.json.turns.turn.Goals as goal
 

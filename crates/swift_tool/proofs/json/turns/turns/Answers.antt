@@ -1,4 +1,4 @@
-use Rattle.std.proofs.Common.{◌+◌, ◌<◌, length, refl, rules}
+use Rattle.swift_tool.proofs.Prelude.{◌+◌, ◌<◌, length, refl, rules}
 use Rattle.swift_tool.proofs.Places.{turns_more}
 use Rattle.swift_tool.proofs.json.turns.turns.Goals as goal
 

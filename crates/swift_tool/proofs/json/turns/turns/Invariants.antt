@@ -1,5 +1,4 @@
-use Rattle.std.proofs.Common.{◌≡◌, ◌+◌, ◌++◌, drop, length}
-use Rattle.swift_tool.specs.ReportJson.{turns_json}
+use Rattle.swift_tool.proofs.Prelude.{◌≡◌, ◌+◌, ◌++◌, drop, length, turns_json}
 use Rattle.swift_tool.proofs.json.turns.turns.Given as goal
 
 abbrev pub invariant-loop-place : goal.invariant-loop-place

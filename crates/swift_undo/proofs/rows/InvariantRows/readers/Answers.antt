@@ -1,9 +1,4 @@
-use Rattle.std.proofs.Common.{◌≡◌, ℕ, Some, None, List, length, refl, sym, subst}
-use Rattle.std.specs.Prelude.{Contains, slice_get}
-use Rattle.std.specs.declared.vec.Vec.{Vec}
-use Rattle.std.specs.declared.alloc.Global.{Global}
-use Rattle.std.proofs.lemmas.Option.{slice_get_past, slice_get_read}
-use Rattle.swift_undo.specs.RowsInside.{AreListed, places_of}
+use Rattle.swift_undo.proofs.Prelude.{◌≡◌, ℕ, Some, None, List, length, refl, sym, subst, Contains, slice_get, Vec, Global, slice_get_past, slice_get_read, AreListed, places_of}
 use Rattle.swift_undo.proofs.ReadRows.{listed_none, listed_some}
 use Rattle.swift_undo.proofs.rows.InvariantRows.readers.Goals as goal
 

@@ -1,4 +1,4 @@
-use Rattle.std.proofs.Common.{◌≡◌, ◌++◌, take}
+use Rattle.swift_workers.proofs.Prelude.{◌≡◌, ◌++◌, take}
 use Rattle.swift_workers.proofs.pool.Pool.put_all.Given as goal
 
 abbrev pub invariant-loop-put : goal.invariant-loop-put

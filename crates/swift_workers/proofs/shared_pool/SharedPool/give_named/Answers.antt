@@ -1,4 +1,4 @@
-use Rattle.std.proofs.Common.{refl}
+use Rattle.swift_workers.proofs.Prelude.{refl}
 use Rattle.swift_workers.proofs.PoolCalls.{is_held, named_unlocks, unlocked}
 use Rattle.swift_workers.proofs.shared_pool.SharedPool.give_named.Goals as goal
 

@@ -1,4 +1,4 @@
-use Rattle.std.proofs.Common.{refl}
+use Rattle.swift_workers.proofs.Prelude.{refl}
 use Rattle.swift_workers.proofs.PoolCalls.{called_by, give_up_gives}
 use Rattle.swift_workers.proofs.shared_pool.SharedPool.give_up.Goals as goal
 

@@ -1,4 +1,4 @@
-use Rattle.std.proofs.Common.{◌≡◌, rules}
+use Rattle.swift_workers.proofs.Prelude.{◌≡◌, rules}
 use Rattle.swift_workers.proofs.PoolCalls.{halt_out, told_out}
 use Rattle.swift_workers.proofs.shared_pool.SharedPool.into_halt.Goals as goal
 

@@ -1,4 +1,4 @@
-use Rattle.std.proofs.Common.{◌≡◌, rules}
+use Rattle.swift_workers.proofs.Prelude.{◌≡◌, rules}
 use Rattle.swift_workers.proofs.PoolCalls.{new_starts}
 use Rattle.swift_workers.proofs.shared_pool.SharedPool.new.Goals as goal
 

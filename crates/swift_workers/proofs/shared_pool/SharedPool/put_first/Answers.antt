@@ -1,4 +1,4 @@
-use Rattle.std.proofs.Common.{refl}
+use Rattle.swift_workers.proofs.Prelude.{refl}
 use Rattle.swift_workers.proofs.PoolCalls.{end_called, put_first_gives}
 use Rattle.swift_workers.proofs.shared_pool.SharedPool.put_first.Goals as goal
 

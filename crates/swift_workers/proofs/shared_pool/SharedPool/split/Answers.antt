@@ -1,4 +1,4 @@
-use Rattle.std.proofs.Common.{refl}
+use Rattle.swift_workers.proofs.Prelude.{refl}
 use Rattle.swift_workers.proofs.PoolCalls.{may_split}
 use Rattle.swift_workers.proofs.shared_pool.SharedPool.split.Goals as goal
 

@@ -1,4 +1,4 @@
-use Rattle.std.proofs.Common.{refl}
+use Rattle.swift_workers.proofs.Prelude.{refl}
 use Rattle.swift_workers.proofs.PoolCalls.{end_called, refused_stops, room_after, turn_over_gives}
 use Rattle.swift_workers.proofs.shared_pool.SharedPool.turn_over.Goals as goal
 

@@ -1,10 +1,5 @@
-use Rattle.std.proofs.Common.{ℤ, List, ap, ◌∙◌}
-use Rattle.std.specs.Global.{Vec}
-use Rattle.script_code.specs.Seen.{rows_of}
-use Rattle.script_code.specs.Tree.{terms_of}
+use Rattle.run_pictures.proofs.Prelude.{ℤ, List, ap, ◌∙◌, Vec, rows_of, terms_of, owned_view, outcome_of, played_turn}
 use Rattle.swift_interpreter.specs.TurnStates.{exit_view}
-use Rattle.swift_journal.specs.Records.{owned_view}
-use Rattle.run_pictures.specs.Values.{outcome_of, played_turn}
 use Rattle.run_pictures.proofs.Keeping.{after_turn}
 use Rattle.run_pictures.proofs.values.player.Player.play.Goals as goal
 

@@ -1,6 +1,4 @@
-use Rattle.std.proofs.Common.{ap, arith, length}
-use Rattle.script_names.specs.Scope.{ScopeView}
-use Rattle.script_compiler.specs.declared.lowering.counts.PlaceCounts.{PlaceCounts}
+use Rattle.script_compiler.proofs.Prelude.{ap, arith, length, ScopeView, PlaceCounts}
 use Rattle.script_compiler.proofs.Counting.{here_is}
 use Rattle.script_compiler.proofs.Room.{counts_fit}
 use Rattle.script_compiler.proofs.lowering.standing.StandingNames.add.Goals as goal

@@ -1,6 +1,4 @@
-use Rattle.std.proofs.Common.{ap, ◌∙◌}
-use Rattle.script_names.specs.Scope.{ScopeView}
-use Rattle.script_compiler.specs.Counts.{counts_of}
+use Rattle.script_compiler.proofs.Prelude.{ap, ◌∙◌, ScopeView, counts_of}
 use Rattle.script_compiler.proofs.Counting.{here_is}
 use Rattle.script_compiler.proofs.lowering.standing.StandingNames.counts.Goals as goal
 

@@ -1,4 +1,4 @@
-use Rattle.std.proofs.Common.{rules}
+use Rattle.script_compiler.proofs.Prelude.{rules}
 use Rattle.script_compiler.proofs.Chains.{empty}
 use Rattle.script_compiler.proofs.waits.lists.MethodLists.new.Goals as goal
 

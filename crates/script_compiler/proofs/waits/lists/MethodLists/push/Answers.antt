@@ -1,6 +1,4 @@
-use Rattle.std.proofs.Common.{◌≡◌, ℕ, None, Some, ◌++◌, ◌∷◌, [], Option, ap, ◌∙◌, arith, length, set}
-use Rattle.std.proofs.lemmas.List.{get_or_read}
-use Rattle.script_compiler.specs.ListsInside.{last_of}
+use Rattle.script_compiler.proofs.Prelude.{◌≡◌, ℕ, None, Some, ◌++◌, ◌∷◌, [], Option, ap, ◌∙◌, arith, length, set, get_or_read, last_of}
 use Rattle.script_compiler.proofs.Chains.{pushes}
 use Rattle.script_compiler.proofs.waits.lists.MethodLists.push.Goals as goal
 

@@ -1,5 +1,4 @@
-use Rattle.std.proofs.Common.{false, refl, sym, ◌∙◌}
-use Rattle.std.proofs.lemmas.List.{get_or_read}
+use Rattle.script_compiler.proofs.Prelude.{false, refl, sym, ◌∙◌, get_or_read}
 use Rattle.script_compiler.proofs.MarkOne.{mark_one}
 use Rattle.script_compiler.proofs.waits.marks.Marks.mark.Goals as goal
 

@@ -1,7 +1,5 @@
-use Rattle.std.proofs.Common.{◌≡◌, suc, List, ◌≤◌, Some, length, arith, refl}
+use Rattle.script_compiler.proofs.Prelude.{◌≡◌, suc, List, ◌≤◌, Some, length, arith, refl, slice_get_read, ListEntry}
 use Rattle.std.specs.List.{slice_get}
-use Rattle.std.proofs.lemmas.Option.{slice_get_read}
-use Rattle.script_compiler.specs.declared.waits.lists.ListEntry.{ListEntry}
 use Rattle.script_compiler.proofs.Walk.{walk_goes_on, walk_has}
 use Rattle.script_compiler.proofs.waits.marks.Marks.mark_list.Goals as goal
 use Rattle.script_compiler.proofs.waits.marks.Marks.mark_list.Goals.{After-index-entry}

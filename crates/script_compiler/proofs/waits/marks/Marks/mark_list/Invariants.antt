@@ -1,4 +1,4 @@
-use Rattle.script_compiler.specs.ListsInside.{end_of}
+use Rattle.script_compiler.proofs.Prelude.{end_of}
 use Rattle.script_compiler.proofs.Walk.{IsWalk}
 use Rattle.script_compiler.proofs.waits.marks.Marks.mark_list.Given as goal
 

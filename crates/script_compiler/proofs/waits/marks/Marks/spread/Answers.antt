@@ -1,5 +1,4 @@
-use Rattle.std.proofs.Common.{arith, refl}
-use Rattle.script_compiler.specs.declared.waits.marks.Marks.{Marks}
+use Rattle.script_compiler.proofs.Prelude.{arith, refl, Marks}
 use Rattle.script_compiler.proofs.Spread.{spreading_begins, spreading_goes_on, taken_within}
 use Rattle.script_compiler.proofs.waits.marks.Marks.spread.Goals as goal
 

@@ -1,4 +1,4 @@
-use Rattle.script_compiler.specs.MarksInside.{left_of}
+use Rattle.script_compiler.proofs.Prelude.{left_of}
 use Rattle.script_compiler.proofs.Spread.{IsSpreading}
 use Rattle.script_compiler.proofs.waits.marks.Marks.spread.Given as goal
 

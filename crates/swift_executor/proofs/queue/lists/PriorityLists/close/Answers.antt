@@ -1,7 +1,4 @@
-use Rattle.std.proofs.Common.{Global, length, ap, lit<, arith}
-use Rattle.std.specs.VecDeque.{deque_items}
-use Rattle.swift_executor.specs.QueueInside.PriorityLists.{PriorityListsView}
-use Rattle.swift_executor.specs.declared.queue.waiting.Waiting.{Waiting}
+use Rattle.swift_executor.proofs.Prelude.{Global, length, ap, lit<, arith, deque_items, PriorityListsView, Waiting}
 use Rattle.swift_executor.proofs.OneListOfAll.{list_short}
 use Rattle.swift_executor.proofs.queue.lists.PriorityLists.close.Goals as goal
 

@@ -1,6 +1,4 @@
-use Rattle.std.proofs.Common.{◌≡◌, Bool, ◌↔◌, false, is_some, sym, subst}
-use Rattle.swift_executor.specs.QueueInside.PriorityLists.{PriorityListsView}
-use Rattle.swift_executor.specs.Queue.{IsWithout}
+use Rattle.swift_executor.proofs.Prelude.{◌≡◌, Bool, ◌↔◌, false, is_some, sym, subst, PriorityListsView, IsWithout}
 use Rattle.swift_executor.proofs.RaiseChangesOne.{found_or_without}
 use Rattle.swift_executor.proofs.queue.lists.PriorityLists.holds.Goals as goal
 

@@ -1,8 +1,4 @@
-use Rattle.std.proofs.Common.{List, ap}
-use Rattle.std.proofs.lemmas.List.{nil_from_length}
-use Rattle.swift_executor.specs.declared.queue.waiting.Waiting.{Waiting}
-use Rattle.swift_executor.specs.QueueInside.Lists.{jobs_of}
-use Rattle.swift_executor.specs.QueueInside.PriorityLists.{PriorityListsView}
+use Rattle.swift_executor.proofs.Prelude.{List, ap, nil_from_length, Waiting, jobs_of, PriorityListsView}
 use Rattle.swift_executor.proofs.FirstIsPicked.{empty_none}
 use Rattle.swift_executor.proofs.queue.lists.PriorityLists.of.Goals as goal
 

@@ -1,12 +1,5 @@
-use Rattle.std.proofs.Common.{ℕ, ◌<◌, List, [], ◌∷◌, ◌++◌, All, Global, length, set, get_or, sym, subst, ◌∙◌, arith, length-set}
-use Rattle.std.proofs.lemmas.List.Sorted.{IsPermutation-to_front, IsPermutation-sym}
-use Rattle.std.specs.List.Sorted.{IsPermutation}
-use Rattle.std.specs.VecDeque.{deque_items}
-use Rattle.std.specs.declared.collections.VecDeque.{VecDeque}
-use Rattle.swift_executor.specs.QueueInside.PriorityLists.{PriorityListsView}
-use Rattle.swift_executor.specs.declared.queue.waiting.Waiting.{Waiting}
-use Rattle.swift_executor.specs.QueueInside.List.{IsList}
-use Rattle.swift_executor.specs.QueueInside.Lists.{jobs_of}
+use Rattle.swift_executor.proofs.Prelude.{ℕ, ◌<◌, List, [], ◌∷◌, ◌++◌, Global, length, set, get_or, sym, subst, ◌∙◌, arith, length-set, IsPermutation-to_front, IsPermutation-sym, IsPermutation, deque_items, VecDeque, PriorityListsView, Waiting, IsList, jobs_of}
+use Rattle.std.proofs.Common.{All}
 use Rattle.swift_executor.proofs.OneListOfAll.{all_list, exchange}
 use Rattle.swift_executor.proofs.EditedListIsList.{each_set, push_list, rank_few}
 use Rattle.swift_executor.proofs.queue.lists.PriorityLists.push.Goals as goal

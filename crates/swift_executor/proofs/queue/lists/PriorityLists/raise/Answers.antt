@@ -1,13 +1,5 @@
-use Rattle.std.proofs.Common.{◌≢◌, ℕ, ◌≤◌, List, ◌∷◌, All, length, map, sym, subst, lit<, arith}
-use Rattle.std.proofs.lemmas.List.Sorted.{IsPermutation-refl, length_permutation}
-use Rattle.std.specs.List.{AllPairs}
-use Rattle.std.specs.List.Sorted.{IsPermutation}
-use Rattle.swift_types.specs.declared.id.TaskId.{TaskId}
-use Rattle.swift_executor.specs.QueueInside.PriorityLists.{PriorityListsView}
-use Rattle.swift_executor.specs.declared.queue.waiting.Waiting.{Waiting}
-use Rattle.swift_executor.specs.QueueInside.Lists.{AreWithout, jobs_of}
-use Rattle.swift_executor.specs.Picks.{raised}
-use Rattle.swift_executor.specs.Queue.{IsWithout}
+use Rattle.swift_executor.proofs.Prelude.{◌≢◌, ℕ, ◌≤◌, List, ◌∷◌, length, map, sym, subst, lit<, arith, IsPermutation-refl, length_permutation, AllPairs, IsPermutation, TaskId, PriorityListsView, Waiting, AreWithout, jobs_of, raised, IsWithout}
+use Rattle.std.proofs.Common.{All}
 use Rattle.swift_executor.proofs.EditedListIsList.{rank_few}
 use Rattle.swift_executor.proofs.PairsInAnyOrder.{pairs_first}
 use Rattle.swift_executor.proofs.RaiseChangesOne.{raise_none, raise_one, raised_low, stands}

@@ -1,6 +1,5 @@
-use Rattle.std.proofs.Common.{◌<◌, All, length, ap, refl, subst, arith}
-use Rattle.swift_executor.specs.QueueInside.PriorityLists.{PriorityListsView}
-use Rattle.swift_executor.specs.Picks.{IsOlder}
+use Rattle.swift_executor.proofs.Prelude.{◌<◌, length, ap, refl, subst, arith, PriorityListsView, IsOlder}
+use Rattle.std.proofs.Common.{All}
 use Rattle.swift_executor.proofs.FirstIsPicked.{empty_none, filled_some, oldest_first}
 use Rattle.swift_executor.proofs.queue.lists.PriorityLists.take_oldest.Goals as goal
 

@@ -1,5 +1,4 @@
-use Rattle.std.proofs.Common.{ap, arith, length, rules}
-use Rattle.std.proofs.lemmas.Result.{IfOk-from_err}
+use Rattle.swift_executor.proofs.Prelude.{ap, arith, length, rules, IfOk-from_err}
 use Rattle.swift_executor.proofs.ListsJustMade.{new_lists, new_lists_empty}
 use Rattle.swift_executor.proofs.queue.lists.PriorityLists.with_room.Goals as goal
 

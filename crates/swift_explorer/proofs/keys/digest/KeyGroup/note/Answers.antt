@@ -1,6 +1,4 @@
-use Rattle.std.proofs.Common.{rules}
-use Rattle.swift_explorer.specs.Numbers.{task_numbers}
-use Rattle.swift_explorer.specs.DigestNumbers.{ended_numbers}
+use Rattle.swift_explorer.proofs.Prelude.{rules, task_numbers, ended_numbers}
 use Rattle.swift_explorer.proofs.Past.{count_stays, flag_stays, items_stay, numbers_stay, stays_unless}
 use Rattle.swift_explorer.proofs.keys.digest.KeyGroup.note.Goals as goal
 

@@ -1,5 +1,4 @@
-use Rattle.std.proofs.Common.{ap, ◌∙◌}
-use Rattle.swift_shared_book.specs.LockSeat.{BadgeView}
+use Rattle.swift_shared_book.proofs.Prelude.{ap, ◌∙◌, BadgeView}
 use Rattle.swift_shared_book.proofs.LockCalls.{one_view}
 use Rattle.swift_shared_book.proofs.lock.badge.Badge.into_seat.Goals as goal
 

@@ -1,5 +1,4 @@
-use Rattle.std.proofs.Common.{rules, subst, sym, ap, ◌∙◌}
-use Rattle.swift_shared_book.specs.LockSeat.{LockSeatView, MayJoin}
+use Rattle.swift_shared_book.proofs.Prelude.{rules, subst, sym, ap, ◌∙◌, LockSeatView, MayJoin}
 use Rattle.swift_shared_book.proofs.LockSteps.{joins}
 use Rattle.swift_shared_book.proofs.lock.seat.LockSeat.join.Goals as goal
 

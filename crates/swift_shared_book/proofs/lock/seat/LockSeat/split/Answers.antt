@@ -1,5 +1,4 @@
-use Rattle.std.proofs.Common.{rules, subst, sym}
-use Rattle.swift_shared_book.specs.LockSeat.{LockSeatView, MaySplit}
+use Rattle.swift_shared_book.proofs.Prelude.{rules, subst, sym, LockSeatView, MaySplit}
 use Rattle.swift_shared_book.proofs.LockSteps.{splits}
 use Rattle.swift_shared_book.proofs.lock.seat.LockSeat.split.Goals as goal
 

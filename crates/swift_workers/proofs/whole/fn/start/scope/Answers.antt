@@ -1,7 +1,5 @@
-use Rattle.std.proofs.Common.{subst, List}
+use Rattle.swift_workers.proofs.Prelude.{subst, List, Hand, AreHandsOf}
 use denote.Param.Send.{sendable}
-use Rattle.swift_workers.specs.declared.crew.Hand.{Hand}
-use Rattle.swift_workers.specs.CrewInside.{AreHandsOf}
 use Rattle.swift_workers.proofs.CrossesThreads.{crew_send, hand_send, pool_seat_send}
 use Rattle.swift_workers.proofs.Desks.{last_hand}
 use Rattle.swift_workers.proofs.PoolCalls.{own_seat}

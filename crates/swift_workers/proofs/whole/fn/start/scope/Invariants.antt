@@ -1,6 +1,4 @@
-use Rattle.std.proofs.Common.{◌≡◌, ◌<◌, vec_len}
-use Rattle.swift_workers.specs.CrewInside.{AreHandsOf}
-use Rattle.swift_workers.specs.PoolCallsInside.{IsPoolSeatOf}
+use Rattle.swift_workers.proofs.Prelude.{◌≡◌, ◌<◌, vec_len, AreHandsOf, IsPoolSeatOf}
 use Rattle.swift_workers.proofs.whole.fn.start.scope.Given as goal
 
 abbrev pub invariant-loop-hand : goal.invariant-loop-hand
