@@ -30,7 +30,7 @@ NAMES = ("account.actors", "fifo.actors", "priorities.actors", "nuchapay/explore
 SIZES = ("1280,1100", "700,900")
 # What the table says of an outcome in Swift, and what stands above it of those that are none.
 IN_SWIFT = {"outcome": "", "ends": "ends the process", "spins": "may spin"}
-SAID = {"ends": "The process ends before", "spins": "A task may spin in"}
+SAID = {"ends": "No outcome of Swift:", "spins": "A task may spin in"}
 # Of how many outcomes the turns are compared with `run`.
 COMPARED = 5
 SHOWN = 100

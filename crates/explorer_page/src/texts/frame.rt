@@ -5,7 +5,7 @@ pub(crate) static HEAD: &str = "<!doctype html>
 <html lang=\"en\">
 <head>
 <meta charset=\"utf-8\">
-<meta http-equiv=\"Content-Security-Policy\" content=\"default-src 'none'; style-src 'sha256-tNtsAbIgZ/g99N4szxYKXFee7ckWG4SN5tjiU4RBT8A='; script-src 'sha256-54z3J1Y73shWbLlxXCoXzDsSeBZjfVc2E6uea9KvTfE='\">
+<meta http-equiv=\"Content-Security-Policy\" content=\"default-src 'none'; style-src 'sha256-tNtsAbIgZ/g99N4szxYKXFee7ckWG4SN5tjiU4RBT8A='; script-src 'sha256-x/nXcXFzkVe42BP3kA+USYNqdBoEaryXJXoFfYpospU='\">
 <meta name=\"viewport\" content=\"width=device-width, initial-scale=1\">
 <title>Outcomes</title>
 <style>";
@@ -31,7 +31,7 @@ pub(crate) static BODY: &str = "</style>
 <div id=\"swift\"></div>
 <section id=\"outcomes\">
 <h2>How it can end</h2>
-<p class=\"note\">Each line is an outcome: how each task ends, and what the fields hold then. Some order of turns leads to it. Choose one to see that order.</p>
+<p class=\"note\">Each line says how all tasks end, and what the fields hold then. Some order of turns leads to it. Choose one to see that order.</p>
 <div class=\"wide\"><table id=\"table\"></table></div>
 <p class=\"note\" id=\"constant\"></p>
 </section>

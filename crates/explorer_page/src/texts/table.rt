@@ -31,14 +31,16 @@ function showSummary() {
     const many = askedOutcomes.length === 0 ? \"No outcome was found\" : `${counted(askedOutcomes.length, \"outcome was\", \"outcomes were\")} found`;
     const end = made(\"span\", { class: answer.search === \"complete\" ? null : \"bad\" }, ENDS[answer.search]);
     const left = \"to_go\" in answer ? `, ${answer.to_go} of them still to go` : \"\";
-    at(\"summary\").append(`${many}. `, end, ` It has seen ${counted(answer.states, \"state\")}${left}.`);
+    const none = outcomes.length - askedOutcomes.length;
+    const beside = none === 0 ? \"\" : `, and ${counted(none, \"end that is\", \"ends that are\")} none, in red`;
+    at(\"summary\").append(`${many}${beside}. `, end, ` It has seen ${counted(answer.states, \"state\")}${left}.`);
     if (isSwift) showSwift();
 }
 
 // What an outcome is in Swift, where it is none, and what is said of those that are so.
 const IN_SWIFT = { outcome: \"\", ends: \"ends the process\", spins: \"may spin\" };
 const SAID = {
-    ends: [\"The process ends before \", \": in Swift an invariant or precondition fails there, or a value is out of its range.\"],
+    ends: [\"No outcome of Swift: \", \", as before it an invariant or precondition fails, or a value is out of its range.\"],
     spins: [\"A task may spin in \", \": there the script met a limit that Swift does not have.\"],
 };
 
@@ -76,7 +78,7 @@ function showAsked() {
         return;
     }
     const with_ = outcomes.filter(({ undone }) => undone.length > 0);
-    const what = isSwift ? \"An invariant or precondition fails, and the process ends, \" : \"A turn is undone by an invariant \";
+    const what = isSwift ? \"An invariant or precondition fails \" : \"A turn is undone by an invariant \";
     at(\"undone\").append(made(\"b\", { class: \"bad\" }, what), \"in this order: \");
     at(\"undone\").append(...undoneSteps.map((step, place) => cell(step, place === undoneSteps.length - 1 ? \"undone\" : \"\")));
     at(\"undone\").append(...lossOf(undoneSteps));
