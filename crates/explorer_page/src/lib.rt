@@ -2,10 +2,6 @@
 //! same for all searches, what was found as JSON, and an end that is the same too.
 #![tactic(auto)]
 
-// Texts.
-mod append;
-// JSON that can't be markup.
-mod escape;
 // What stands beside the answer.
 mod more;
 // The whole page.

@@ -1,11 +1,12 @@
 //! What stands beside the answer.
 
 ghost use Rattle.std.specs.Prelude.{◌≡◌, ◌++◌, OnOk, codes};
+ghost use Rattle.swift_tool.specs.ReportJson.{comma};
 ghost use Rattle.explorer_page.specs.Pages.{heading_json, more_json, run_json, runs_json};
 
-use crate::append::{comma, say};
 use explorer_json::put_string;
 use nuchapay_runs::report_with_values;
+use run_page::say;
 use std::alloc::{AllocError, Global};
 use swift_report::Report;
 use swift_script::Script;
@@ -39,6 +40,14 @@ fn put_heading(out: &mut Vec<u8>, heading: SearchHeading<'_>) -> Result<(), Allo
     say(out, b",\n\"runs\":[")
 }
 
+// Appends a comma, unless the element at this place is the first of its list.
+fn put_comma(out: &mut Vec<u8>, place: usize) -> Result<(), AllocError>
+    ensures { OnOk result (out.new.items ≡ out.old.items ++ comma 0 place) }
+{
+    let text: &[u8] = if place == 0 { b"" } else { b"," };
+    say(out, text)
+}
+
 // The run at a place, as `run --values` prints it.
 fn put_run(
     alloc: Global,
@@ -50,7 +59,7 @@ fn put_run(
     ensures { OnOk result (out.new.items ≡ out.old.items ++ run_json script.now place run.now) }
 {
     let text = report_with_values(alloc, script, run)?;
-    comma(out, place)?;
+    put_comma(out, place)?;
     say(out, b"\n")?;
     put_string(out, &text)
 }

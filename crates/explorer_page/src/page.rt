@@ -5,13 +5,12 @@ ghost use Rattle.std.specs.Arc.{arc_value};
 ghost use Rattle.run_page.specs.Escapes.{escaped};
 ghost use Rattle.explorer_page.specs.Pages.{IsPage, more_json, page_bytes, said_json};
 
-use crate::append::say_text;
-use crate::escape::escape;
 use crate::more::{SearchHeading, SearchedFile, put_more};
 use crate::runs::{PageError, runs_of, shown};
 use crate::texts::{MIDDLE, back, front};
 use expectations::Expectation;
 use explorer_json::{answer_json, swift_answer_json};
+use run_page::{escape, say_text};
 use std::alloc::{AllocError, Global};
 use std::sync::Arc;
 use swift_explorer::FoundOutcomes;

@@ -18,12 +18,12 @@ mod turns;
 ghost use Rattle.std.specs.Prelude.{◌≡◌, ◌++◌, OnOk};
 ghost use Rattle.explorer_page.specs.Pages.{back_text, front_text, script_text};
 
-use crate::append::say_text;
 use found::FOUND;
 pub(crate) use frame::MIDDLE;
 use frame::{BELOW, BODY, END, HEAD};
 use orders::ORDERS;
 use reader::READER;
+use run_page::say_text;
 use std::alloc::AllocError;
 use style::STYLE;
 use table::TABLE;

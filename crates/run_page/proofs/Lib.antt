@@ -3,5 +3,5 @@ mod Applied
 mod Events
 mod Executors
 mod Explained
-mod Joined
-mod Plain
+pub mod Joined
+pub mod Plain

@@ -6,15 +6,19 @@ ghost use Rattle.run_page.specs.RunJson.{comma};
 use itoa::{Buffer, Integer};
 use std::alloc::AllocError;
 
-/// Appends a text.
-pub(crate) fn say(out: &mut Vec<u8>, text: &[u8]) -> Result<(), AllocError>
+/// Appends a text (our own). Linear in it.
+///
+/// # Errors
+///
+/// Memory ran out.
+pub fn say(out: &mut Vec<u8>, text: &[u8]) -> Result<(), AllocError>
     ensures { OnOk result (out.new.items ≡ out.old.items ++ text.now) }
 {
     out.extend_from_slice(text)
 }
 
-/// Appends a text that is UTF-8.
-pub(crate) fn say_text(out: &mut Vec<u8>, text: &str) -> Result<(), AllocError>
+/// Appends a text that is UTF-8 (our own), as [`say`] does.
+pub fn say_text(out: &mut Vec<u8>, text: &str) -> Result<(), AllocError>
     ensures { OnOk result (out.new.items ≡ out.old.items ++ text.now) }
 {
     say(out, text.as_bytes())

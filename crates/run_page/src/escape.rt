@@ -21,8 +21,12 @@ fn escape_byte(out: &mut Vec<u8>, byte: u8) -> Result<(), AllocError>
     }
 }
 
-/// Appends JSON with each byte that could begin or end markup spelled as JSON's escape: the same JSON. Linear in it.
-pub(crate) fn escape(out: &mut Vec<u8>, json: &[u8]) -> Result<(), AllocError>
+/// Appends JSON with each byte that could begin or end markup spelled as JSON's escape: the same JSON (our own). Linear in it.
+///
+/// # Errors
+///
+/// Memory ran out.
+pub fn escape(out: &mut Vec<u8>, json: &[u8]) -> Result<(), AllocError>
     ensures { OnOk result (out.new.items ≡ out.old.items ++ escaped json.now) }
 {
     for byte in json {

@@ -21,5 +21,7 @@ mod texts;
 // What turns did to the fields.
 mod values;
 
+pub use append::{say, say_text};
+pub use escape::escape;
 pub use more::Heading;
 pub use page::page_text;

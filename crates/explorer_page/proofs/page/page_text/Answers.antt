@@ -6,7 +6,7 @@ use Rattle.swift_explorer.specs.declared.outcome.RunOutcome.{RunOutcome}
 use Rattle.explorer_page.specs.Pages.{more_json, page_bytes, said_json}
 use Rattle.explorer_page.specs.Runs.{AreRuns}
 use Rattle.explorer_page.specs.declared.runs.TheConstants.{SHOWN}
-use Rattle.explorer_page.proofs.Plain.{plain}
+use Rattle.run_page.proofs.Plain.{plain}
 use Rattle.explorer_page.proofs.page.page_text.Goals as goal
 
 pub returns : goal.returns

@@ -2,7 +2,7 @@ use Rattle.std.proofs.Common.{ℕ, List, ◌++◌}
 use Rattle.run_page.specs.Escapes.{escaped}
 use Rattle.explorer_page.specs.Pages.{back_text, front_text, more_json, said_json}
 use Rattle.explorer_page.specs.declared.texts.frame.TheConstants.{MIDDLE}
-use Rattle.explorer_page.proofs.Joined.{onto, onto_last}
+use Rattle.run_page.proofs.Joined.{onto, onto_last}
 use Rattle.explorer_page.proofs.page.parts.Goals as goal
 
 pub returns : goal.returns

@@ -1,7 +1,7 @@
 use Rattle.std.proofs.Common.{◌++◌}
 use Rattle.explorer_page.specs.Pages.{script_text}
 use Rattle.explorer_page.specs.declared.texts.frame.TheConstants.{BELOW, END}
-use Rattle.explorer_page.proofs.Joined.{onto, onto_last}
+use Rattle.run_page.proofs.Joined.{onto, onto_last}
 use Rattle.explorer_page.proofs.texts.back.Goals as goal
 
 pub returns : goal.returns

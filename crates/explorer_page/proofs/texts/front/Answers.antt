@@ -1,7 +1,7 @@
 use Rattle.std.proofs.Common.{◌++◌}
 use Rattle.explorer_page.specs.declared.texts.frame.TheConstants.{BODY, HEAD}
 use Rattle.explorer_page.specs.declared.texts.style.TheConstants.{STYLE}
-use Rattle.explorer_page.proofs.Joined.{onto, onto_last}
+use Rattle.run_page.proofs.Joined.{onto, onto_last}
 use Rattle.explorer_page.proofs.texts.front.Goals as goal
 
 pub returns : goal.returns

@@ -4,7 +4,7 @@ use Rattle.explorer_page.specs.declared.texts.orders.TheConstants.{ORDERS}
 use Rattle.explorer_page.specs.declared.texts.reader.TheConstants.{READER}
 use Rattle.explorer_page.specs.declared.texts.table.TheConstants.{TABLE}
 use Rattle.explorer_page.specs.declared.texts.turns.TheConstants.{TURNS}
-use Rattle.explorer_page.proofs.Joined.{onto, onto_last}
+use Rattle.run_page.proofs.Joined.{onto, onto_last}
 use Rattle.explorer_page.proofs.texts.script.Goals as goal
 
 pub returns : goal.returns

@@ -1,6 +1,0 @@
-use Rattle.std.proofs.Common.{◌≡◌, ◌++◌, drop}
-use Rattle.run_page.specs.Escapes.{escaped}
-use Rattle.explorer_page.proofs.escape.escape.Given as goal
-
-abbrev pub invariant-loop-byte : goal.invariant-loop-byte
-invariant-loop-byte l = l.out.items ++ escaped (drop l.byte-index l.json) ≡ l.initial.out.items ++ escaped l.json
