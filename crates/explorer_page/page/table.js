@@ -28,7 +28,7 @@ function showSummary() {
     const end = made("span", { class: answer.search === "complete" ? null : "bad" }, ENDS[answer.search]);
     const left = "to_go" in answer ? `, ${answer.to_go} of them still to go` : "";
     const none = outcomes.length - askedOutcomes.length;
-    const beside = none === 0 ? "" : `, and ${counted(none, "end that is", "ends that are")} none, in red`;
+    const beside = none === 0 ? "" : `, and ${counted(none, "other end")}, in red`;
     at("summary").append(`${many}${beside}. `, end, ` It has seen ${counted(answer.states, "state")}${left}.`);
     if (isSwift) showSwift();
 }

@@ -5,7 +5,7 @@ pub(crate) static HEAD: &str = "<!doctype html>
 <html lang=\"en\">
 <head>
 <meta charset=\"utf-8\">
-<meta http-equiv=\"Content-Security-Policy\" content=\"default-src 'none'; style-src 'sha256-tNtsAbIgZ/g99N4szxYKXFee7ckWG4SN5tjiU4RBT8A='; script-src 'sha256-x/nXcXFzkVe42BP3kA+USYNqdBoEaryXJXoFfYpospU='\">
+<meta http-equiv=\"Content-Security-Policy\" content=\"default-src 'none'; style-src 'sha256-tNtsAbIgZ/g99N4szxYKXFee7ckWG4SN5tjiU4RBT8A='; script-src 'sha256-t6fqhqoACu8UyAIuVgvPXjDpYgy7wLv+nrS3TrjnUyA='\">
 <meta name=\"viewport\" content=\"width=device-width, initial-scale=1\">
 <title>Outcomes</title>
 <style>";
