@@ -112,6 +112,28 @@ is_root_of w (Roots r) = bytes_eq r.name w
 abbrev pub is_root : PlaceTree → List ℕ → Bool
 is_root p w = list_any (is_root_of w) p.decls
 
+-- whether an expression is a number, perhaps with `-` before it
+abbrev pub is_numeral : ExprTree → Bool
+is_numeral (Number n) = true
+is_numeral (Named w) = false
+is_numeral (Local w) = false
+is_numeral OwnPriority = false
+is_numeral IsCancelled = false
+is_numeral (Negated a) = is_numeral a
+is_numeral (Inverted a) = false
+is_numeral (Both o a b) = false
+
+-- whether an expression is a number with `-` before it
+abbrev pub is_negative : ExprTree → Bool
+is_negative (Number n) = false
+is_negative (Named w) = false
+is_negative (Local w) = false
+is_negative OwnPriority = false
+is_negative IsCancelled = false
+is_negative (Negated a) = is_numeral a
+is_negative (Inverted a) = false
+is_negative (Both o a b) = false
+
 -- the first form of an expression that is wanted as a number
 abbrev pub number_form : ExprTree → Option Form
 number_form (Number n) = None
@@ -119,7 +141,7 @@ number_form (Named w) = None
 number_form (Local w) = Some form.TaskLocal
 number_form OwnPriority = Some form.Priority
 number_form IsCancelled = Some form.TestAsNumber
-number_form (Negated a) = number_form a
+number_form (Negated a) = earlier (unless (not (is_negative a)) form.MinusTwice) (number_form a)
 number_form (Inverted a) = Some form.TestAsNumber
 number_form (Both op.Or a b) = Some form.TestAsNumber
 number_form (Both op.And a b) = Some form.TestAsNumber
@@ -140,7 +162,7 @@ test_form (Named w) = None
 test_form (Local w) = Some form.TaskLocal
 test_form OwnPriority = Some form.Priority
 test_form IsCancelled = None
-test_form (Negated a) = number_form a
+test_form (Negated a) = number_form (Negated a)
 test_form (Inverted a) = test_form a
 test_form (Both op.Or a b) = earlier (test_form a) (earlier (unless (not (asks b)) form.CancelledRight) (test_form b))
 test_form (Both op.And a b) = earlier (test_form a) (earlier (unless (not (asks b)) form.CancelledRight) (test_form b))

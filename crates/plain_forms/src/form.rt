@@ -11,6 +11,8 @@ pub enum Form {
     Assume,
     /// `priority` as a number.
     Priority,
+    /// `-` before a number that has a `-` itself.
+    MinusTwice,
     /// A comparison, `!`, `&&`, `||` or `cancelled` where a number is wanted.
     TestAsNumber,
     /// `cancelled` on the right of `&&` or `||`.
@@ -55,6 +57,8 @@ impl Form {
                 "a task local has no plain Swift here: give its value as an argument",
             Form::Assume => "`assume` has no plain Swift: call a method of that actor",
             Form::Priority => "a priority as a number has no plain Swift",
+            Form::MinusTwice =>
+                "Swift does not know of which type a number with two `-` is: leave both out",
             Form::TestAsNumber => "a test as a number has no plain Swift: write an `if`",
             Form::CancelledRight =>
                 "`cancelled` on the right of `&&` or `||` has no plain Swift: put it on the left, or into an `if` of its own",

@@ -53,6 +53,27 @@ fn asks(expr: &Expr) -> bool
     }
 }
 
+// Whether an expression is a number, perhaps with `-` before it.
+fn is_numeral(expr: &Expr) -> bool
+    ensures { result ≡ forms.is_numeral (view expr.now) }
+{
+    match expr {
+        Expr::Number(_) => true,
+        Expr::Negate(operand) => is_numeral(operand),
+        _ => false,
+    }
+}
+
+// Whether an expression is a number with `-` before it.
+fn is_negative(expr: &Expr) -> bool
+    ensures { result ≡ forms.is_negative (view expr.now) }
+{
+    match expr {
+        Expr::Negate(operand) => is_numeral(operand),
+        _ => false,
+    }
+}
+
 fn is_failure(value: &Expr) -> bool
     ensures { result ≡ forms.is_failure (view value.now) }
 {
@@ -149,7 +170,10 @@ impl Walk {
     {
         match expr {
             Expr::Number(_) | Expr::Name(_) => self.pass(1),
-            Expr::Negate(operand) => self.number(operand),
+            Expr::Negate(operand) => {
+                self.want(!is_negative(operand), Form::MinusTwice);
+                self.number(operand)
+            }
             Expr::Binary(Operator::Plus | Operator::Minus | Operator::Times, left, right) => {
                 self.number(left);
                 self.number(right)

@@ -5,7 +5,7 @@ use crate::reader::Reader;
 use crate::rule::Rule;
 use crate::sign::Sign;
 use crate::token::TokenKind;
-use crate::tree::{ExprForm, Receiver};
+use crate::tree::{ExprForm, Receiver, Tree};
 use crate::word::Word;
 use swift_types::Operator;
 
@@ -146,12 +146,36 @@ fn take_prefix(reader: &mut Reader<'_>) -> usize {
     place
 }
 
+// Whether a part is a number, perhaps with prefixes, or chooses between two of these: Swift then does not know of which type `-` is.
+fn is_numeral(tree: &Tree, place: usize, depth: u32) -> bool {
+    if depth == 0 {
+        return true;
+    }
+    match tree.expr(place).form {
+        ExprForm::Number(_) => true,
+        ExprForm::Negate(inner) => is_numeral(tree, inner, depth - 1),
+        ExprForm::Choice(_, held, failed) => {
+            is_numeral(tree, held, depth - 1) && is_numeral(tree, failed, depth - 1)
+        }
+        _ => false,
+    }
+}
+
+// Refuses a `-` at a place before a number in parentheses.
+fn refuse_numeral(reader: &mut Reader<'_>, is_covered: bool, operand: usize, place: usize) {
+    if is_covered && is_numeral(&reader.tree, operand, DEPTH) {
+        reader.refuse(Rule::NotYet, place);
+    }
+}
+
 // An operand with at most one prefix.
 #[cycle(expression)]
 fn prefixed(reader: &mut Reader<'_>, depth: u32) -> usize {
     if reader.is_sign(Sign::Minus) {
         let place = take_prefix(reader);
+        let is_covered = reader.is_sign(Sign::Open);
         let operand = atom(reader, depth);
+        refuse_numeral(reader, is_covered, operand, place);
         return reader.expr(ExprForm::Negate(operand), place);
     }
     if reader.is_sign(Sign::Bang) {
