@@ -4,12 +4,12 @@
 
 // Texts, numbers and commas.
 mod append;
-// JSON that can't be markup.
-mod escape;
 // What is said of each turn.
 mod explanations;
 // The log.
 mod log;
+// JSON that can't be markup.
+mod markup;
 // What stands beside the report.
 mod more;
 // The whole page.
@@ -22,6 +22,6 @@ mod texts;
 mod values;
 
 pub use append::{say, say_text};
-pub use escape::escape;
+pub use markup::escape;
 pub use more::Heading;
 pub use page::page_text;

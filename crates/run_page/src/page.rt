@@ -7,7 +7,7 @@ ghost use Rattle.run_page.specs.Pages.{IsPage, page_bytes};
 ghost use Rattle.run_page.specs.RunJson.{AppendsTold, IsToldOfRun, more_json};
 
 use crate::append::say_text;
-use crate::escape::escape;
+use crate::markup::escape;
 use crate::more::{Heading, more};
 use crate::texts::{MIDDLE, back, front};
 use std::alloc::{AllocError, Global};
