@@ -1,5 +1,8 @@
 //! Calls of methods.
 
+ghost use Rattle.std.specs.Prelude.{◌≡◌, IsNone, IsTrue};
+ghost use Rattle.swift_expressions.specs.Instructions.{IsHoisted};
+
 use crate::code::{Instruction, Kind, NONE, Target, UnitKind, Value, Wait};
 use crate::lowering::{Fallback, Lowering};
 use crate::naming::{
@@ -213,7 +216,10 @@ fn call_own(
     declared: MethodDecl,
     given: Operands,
     token: usize,
-) -> Typed {
+) -> Typed
+    // A function that is `async` runs outside of the actor that calls it, so other turns come in there.
+    ensures hops { IsTrue declared.is_async → declared.actor ≡ NONE → IsNone lowering.new.refused → IsHoisted lowering.old lowering.new (Wait.Own place given.first) result }
+{
     let kind = kind_of(declared.result);
     if declared.is_async {
         want_await(lowering, token);
@@ -224,7 +230,6 @@ fn call_own(
         }
         return wait(lowering, Wait::Own(place, given.first), kind);
     }
-    // A function that is `async` runs outside of the actor that calls it.
     if declared.is_async && declared.actor == NONE {
         return wait(lowering, Wait::Own(place, given.first), kind);
     }

@@ -1,5 +1,8 @@
 //! A lowering under way.
 
+ghost use Rattle.std.specs.Prelude.{◌≡◌, ◌++◌, ◌∷◌, [], IsTrue, IsNone, IsSome};
+ghost use Rattle.swift_expressions.specs.Instructions.{IsPlaced, IsVariableOf, KeepsRefusal, Puts, value_at};
+
 use crate::code::{Code, Instruction, Kind, NONE, Operand, Unit, UnitKind, Value, Variable};
 use crate::lines::{Lines, Spot};
 use crate::scope::Binding;
@@ -139,7 +142,12 @@ impl<'a> Lowering<'a> {
     }
 
     /// Notes that a token breaks a rule, unless a refusal was noted before.
-    pub fn refuse(&mut self, rule: Rule, place: usize) {
+    pub fn refuse(&mut self, rule: Rule, place: usize)
+        ensures code { self.new.code ≡ self.old.code }
+        ensures scope { self.new.scope ≡ self.old.scope }
+        ensures noted { IsSome self.new.refused }
+        ensures refused { KeepsRefusal self.old self.new }
+    {
         if self.refused.is_none() {
             self.refused = Some(Breach { rule, token: place });
         }
@@ -157,7 +165,12 @@ impl<'a> Lowering<'a> {
         }
     }
 
-    fn note(&mut self, is_grown: bool) {
+    fn note(&mut self, is_grown: bool)
+        ensures code { self.new.code ≡ self.old.code }
+        ensures scope { self.new.scope ≡ self.old.scope }
+        ensures refused { KeepsRefusal self.old self.new }
+        ensures grown { IsNone self.new.refused → IsTrue is_grown }
+    {
         if !is_grown {
             self.refuse(Rule::Memory, 0);
         }
@@ -190,7 +203,13 @@ impl<'a> Lowering<'a> {
     }
 
     /// Puts a value into its table. Its place.
-    pub fn value(&mut self, value: Value) -> usize {
+    #[tactic(auto, using(std::proofs::lemmas::List::get_or_push))]
+    pub fn value(&mut self, value: Value) -> usize
+        ensures put { IsNone self.new.refused → IsPlaced self.old.code self.new.code value result }
+        ensures instructions { self.new.code.instructions ≡ self.old.code.instructions }
+        ensures scope { self.new.scope ≡ self.old.scope }
+        ensures refused { KeepsRefusal self.old self.new }
+    {
         let place = self.code.values.len();
         let is_grown = self.code.values.push(value).is_ok();
         self.note(is_grown);
@@ -198,7 +217,9 @@ impl<'a> Lowering<'a> {
     }
 
     /// The value at a place.
-    pub fn value_at(&self, place: usize) -> Value {
+    pub fn value_at(&self, place: usize) -> Value
+        ensures { result ≡ value_at self.now.code place }
+    {
         match self.code.values.get(place) {
             Some(value) => *value,
             None => Value::Number(0),
@@ -206,12 +227,19 @@ impl<'a> Lowering<'a> {
     }
 
     /// Puts a number into the table of values. Its place.
-    pub fn number(&mut self, number: i64) -> usize {
+    pub fn number(&mut self, number: i64) -> usize
+        ensures put { IsNone self.new.refused → IsPlaced self.old.code self.new.code (Value.Number number) result }
+        ensures instructions { self.new.code.instructions ≡ self.old.code.instructions }
+        ensures refused { KeepsRefusal self.old self.new }
+    {
         self.value(Value::Number(number))
     }
 
     /// Takes what stands for the value of the next wait where that ends with a fault, or `NONE`.
-    pub fn take_fault(&mut self) -> usize {
+    pub fn take_fault(&mut self) -> usize
+        ensures code { self.new.code ≡ self.old.code }
+        ensures refused { KeepsRefusal self.old self.new }
+    {
         let found = self.setting.fallback;
         self.setting.fallback = Fallback::None;
         match found {
@@ -225,7 +253,11 @@ impl<'a> Lowering<'a> {
     }
 
     /// Puts an instruction after the others.
-    pub fn put(&mut self, instruction: Instruction) {
+    pub fn put(&mut self, instruction: Instruction)
+        ensures put { Puts self.old self.new instruction }
+        ensures values { self.new.code.values ≡ self.old.code.values }
+        ensures refused { KeepsRefusal self.old self.new }
+    {
         let is_grown = self.code.instructions.push(instruction).is_ok();
         self.note(is_grown);
     }
@@ -281,7 +313,13 @@ impl<'a> Lowering<'a> {
     }
 
     /// A variable of the unit, with the name of a token, or without one where that is 0. Its place.
-    pub fn variable(&mut self, token: usize, is_param: bool) -> usize {
+    pub fn variable(&mut self, token: usize, is_param: bool) -> usize
+        ensures made { IsNone self.new.refused → IsVariableOf self.new.code result self.old.setting.unit is_param }
+        ensures instructions { self.new.code.instructions ≡ self.old.code.instructions }
+        ensures values { self.new.code.values ≡ self.old.code.values }
+        ensures scope { self.new.scope ≡ self.old.scope }
+        ensures refused { KeepsRefusal self.old self.new }
+    {
         let place = self.code.variables.len();
         let duplicate = if token == 0 {
             0
@@ -304,12 +342,20 @@ impl<'a> Lowering<'a> {
     }
 
     /// A variable without a name.
-    pub fn temporary(&mut self) -> usize {
+    pub fn temporary(&mut self) -> usize
+        ensures instructions { self.new.code.instructions ≡ self.old.code.instructions }
+        ensures values { self.new.code.values ≡ self.old.code.values }
+        ensures refused { KeepsRefusal self.old self.new }
+    {
         self.variable(0, false)
     }
 
     /// Puts a variable into scope.
-    pub fn bind(&mut self, binding: Binding) {
+    pub fn bind(&mut self, binding: Binding)
+        ensures bound { IsNone self.new.refused → self.new.scope.items ≡ self.old.scope.items ++ binding ∷ [] }
+        ensures code { self.new.code ≡ self.old.code }
+        ensures refused { KeepsRefusal self.old self.new }
+    {
         let is_grown = self.scope.push(binding).is_ok();
         self.note(is_grown);
     }

@@ -1,5 +1,8 @@
 //! What names stand for, as values.
 
+ghost use Rattle.std.specs.Prelude.{◌≡◌, IsNone};
+ghost use Rattle.swift_expressions.specs.Instructions.{KeepsRefusal};
+
 use crate::code::{Kind, Value};
 use crate::lowering::Lowering;
 use crate::naming::{
@@ -12,7 +15,10 @@ use swift_syntax::{FieldStart, Rule};
 use swift_types::Priority;
 
 /// The type of a field of an actor.
-pub fn field_kind(lowering: &mut Lowering<'_>, field: usize) -> Kind {
+pub fn field_kind(lowering: &mut Lowering<'_>, field: usize) -> Kind
+    ensures code { IsNone lowering.new.refused → lowering.new.code ≡ lowering.old.code }
+    ensures refused { KeepsRefusal lowering.old lowering.new }
+{
     let Some(declared) = field_at(lowering, field) else {
         return Kind::Int;
     };

@@ -1,5 +1,8 @@
 //! What stands in scope.
 
+ghost use Rattle.std.specs.Prelude.{◌≡◌, IsNone};
+ghost use Rattle.swift_expressions.specs.Instructions.{IsBound, KeepsRefusal};
+
 use crate::code::Kind;
 use crate::lowering::Lowering;
 use crate::naming::is_kept;
@@ -101,13 +104,11 @@ pub fn leave(lowering: &mut Lowering<'_>, from: usize) {
 }
 
 /// A value in scope, with the name of a token.
-pub fn declare(
-    lowering: &mut Lowering<'_>,
-    token: usize,
-    variable: usize,
-    kind: Kind,
-    is_var: bool,
-) {
+pub fn declare(lowering: &mut Lowering<'_>, token: usize, variable: usize, kind: Kind, is_var: bool)
+    ensures bound { IsNone lowering.new.refused → IsBound lowering.old lowering.new token variable }
+    ensures code { lowering.new.code ≡ lowering.old.code }
+    ensures refused { KeepsRefusal lowering.old lowering.new }
+{
     let standing = if is_var {
         Standing::Variable
     } else {
@@ -125,7 +126,11 @@ pub fn declare_as(
     kind: Kind,
     is_throwing: bool,
     count: usize,
-) {
+)
+    ensures bound { IsNone lowering.new.refused → IsBound lowering.old lowering.new token variable }
+    ensures code { lowering.new.code ≡ lowering.old.code }
+    ensures refused { KeepsRefusal lowering.old lowering.new }
+{
     let loops = lowering.setting.loops;
     if is_kept(lowering, token) {
         lowering.refuse(Rule::NameTwice, token);

@@ -1,5 +1,8 @@
 //! Values with their types.
 
+ghost use Rattle.std.specs.Prelude.{◌≡◌, IsNone, IsSome};
+ghost use Rattle.swift_expressions.specs.Instructions.{IsKept, IsPlaced, KeepsRefusal};
+
 use crate::code::{Instruction, Kind, Value};
 use crate::lowering::Lowering;
 use swift_syntax::{ExprForm, Rule, ValueType};
@@ -23,7 +26,9 @@ pub struct Typed {
 }
 
 /// What stands for a value where a refusal was noted.
-pub fn refused(lowering: &mut Lowering<'_>, rule: Rule, token: usize) -> Typed {
+pub fn refused(lowering: &mut Lowering<'_>, rule: Rule, token: usize) -> Typed
+    ensures noted { IsSome lowering.new.refused }
+{
     lowering.refuse(rule, token);
     let value = lowering.number(0);
     Typed {
@@ -33,20 +38,31 @@ pub fn refused(lowering: &mut Lowering<'_>, rule: Rule, token: usize) -> Typed {
 }
 
 /// A value of a kind.
-pub fn with_kind(lowering: &mut Lowering<'_>, value: Value, kind: Kind) -> Typed {
+pub fn with_kind(lowering: &mut Lowering<'_>, value: Value, kind: Kind) -> Typed
+    ensures put { IsNone lowering.new.refused → IsPlaced lowering.old.code lowering.new.code value result.value }
+    ensures kind { result.kind ≡ kind }
+    ensures instructions { lowering.new.code.instructions ≡ lowering.old.code.instructions }
+    ensures refused { KeepsRefusal lowering.old lowering.new }
+{
     let value = lowering.value(value);
     Typed { value, kind }
 }
 
 /// Refuses a value of another kind than is wanted.
-pub fn want(lowering: &mut Lowering<'_>, found: Typed, kind: Kind, token: usize) {
+pub fn want(lowering: &mut Lowering<'_>, found: Typed, kind: Kind, token: usize)
+    ensures code { lowering.new.code ≡ lowering.old.code }
+    ensures refused { KeepsRefusal lowering.old lowering.new }
+{
     if found.kind != kind {
         lowering.refuse(Rule::WrongType, token);
     }
 }
 
 /// The value of a literal.
-pub fn literal(lowering: &mut Lowering<'_>, place: usize) -> (i64, Kind) {
+pub fn literal(lowering: &mut Lowering<'_>, place: usize) -> (i64, Kind)
+    ensures code { lowering.new.code ≡ lowering.old.code }
+    ensures refused { KeepsRefusal lowering.old lowering.new }
+{
     let expr = lowering.tree.expr(place);
     match expr.form {
         ExprForm::Number(number) => (number, Kind::Int),
@@ -63,7 +79,11 @@ pub fn literal(lowering: &mut Lowering<'_>, place: usize) -> (i64, Kind) {
 }
 
 /// Keeps a value in a variable, unless nothing can change it.
-pub fn keep(lowering: &mut Lowering<'_>, found: Typed) -> Typed {
+pub fn keep(lowering: &mut Lowering<'_>, found: Typed) -> Typed
+    ensures kept { IsNone lowering.new.refused → IsKept lowering.old lowering.new found result }
+    ensures kind { result.kind ≡ found.kind }
+    ensures refused { KeepsRefusal lowering.old lowering.new }
+{
     match lowering.value_at(found.value) {
         Value::Number(_) | Value::Variable(_) => found,
         _ => {

@@ -1,5 +1,8 @@
 //! What is waited for.
 
+ghost use Rattle.std.specs.Prelude.{◌≡◌, IsNone};
+ghost use Rattle.swift_expressions.specs.Instructions.{IsHoisted, KeepsRefusal};
+
 use crate::code::{Instruction, Kind, NONE, Target, Value, Wait};
 use crate::lowering::{Fallback, Lowering};
 use crate::name::field_kind;
@@ -10,7 +13,10 @@ use swift_syntax::{Access, FieldStart, Rule};
 use swift_types::Operator;
 
 /// Refuses what is not covered by `await`.
-pub(crate) fn want_await(lowering: &mut Lowering<'_>, token: usize) {
+pub(crate) fn want_await(lowering: &mut Lowering<'_>, token: usize)
+    ensures code { lowering.new.code ≡ lowering.old.code }
+    ensures refused { KeepsRefusal lowering.old lowering.new }
+{
     if !lowering.setting.is_awaited {
         lowering.refuse(Rule::Await, token);
     }
@@ -28,7 +34,11 @@ pub(crate) fn want_try(lowering: &mut Lowering<'_>, token: usize) {
 }
 
 /// Waits, and gives what comes of it.
-pub(crate) fn wait(lowering: &mut Lowering<'_>, what: Wait, kind: Kind) -> Typed {
+pub(crate) fn wait(lowering: &mut Lowering<'_>, what: Wait, kind: Kind) -> Typed
+    ensures hoisted { IsNone lowering.new.refused → IsHoisted lowering.old lowering.new what result }
+    ensures kind { result.kind ≡ kind }
+    ensures refused { KeepsRefusal lowering.old lowering.new }
+{
     let otherwise = lowering.take_fault();
     if kind == Kind::Void {
         lowering.put(Instruction::Wait(Target::Nothing, what, otherwise));
@@ -138,7 +148,10 @@ fn count_by(lowering: &mut Lowering<'_>, count: usize, operator: Operator) {
 }
 
 /// Whether a group's count says that a child is left.
-pub fn has_child(lowering: &mut Lowering<'_>, count: usize) -> usize {
+pub fn has_child(lowering: &mut Lowering<'_>, count: usize) -> usize
+    ensures instructions { lowering.new.code.instructions ≡ lowering.old.code.instructions }
+    ensures refused { KeepsRefusal lowering.old lowering.new }
+{
     let many = lowering.value(Value::Variable(count));
     let none = lowering.number(0);
     lowering.value(Value::Binary(Operator::Greater, many, none))

@@ -1,8 +1,10 @@
 //! What stands at the front of a text.
 
-ghost use Rattle.std.specs.Prelude.{◌≤◌, ◌<◌, length, IfSome};
+ghost use Rattle.std.specs.Prelude.{◌≡◌, ◌≤◌, ◌<◌, false, length};
+ghost use Rattle.swift_syntax.specs.Fronts.{block_comment_at, front_of, line_comment_at, number_before, number_of, other_at, pair_of, quoted_at, short_at, sign_as, sign_at, single_of, slashed_at, triple_of, word_as};
+ghost use Rattle.swift_syntax.specs.Words.{word_of};
 
-use crate::class::{blanks_len, digit, digits_len, letter, line_len, name_len};
+use crate::class::{blanks_len, digit, digits_len, letter, line_len, name_len, space};
 use crate::sign::Sign;
 use crate::token::TokenKind;
 use crate::word::word_of;
@@ -18,23 +20,27 @@ pub(crate) enum Piece {
     Token(TokenKind),
 }
 
-fn sign(sign: Sign) -> Piece {
+fn sign(sign: Sign) -> Piece
+    ensures { result ≡ Piece.Token (TokenKind.Sign sign) }
+{
     Piece::Token(TokenKind::Sign(sign))
 }
 
-// A sign of three bytes.
-fn triple(bytes: &[u8]) -> Option<(Piece, &[u8])>
-    ensures { IfSome result (λ r. length r.1.now < length bytes.now) }
+// The sign of three bytes.
+fn triple(first: u8, second: u8, third: u8) -> Option<Sign>
+    ensures { result ≡ triple_of first second third }
 {
-    match bytes {
-        [b'.', b'.', b'<', rest @ ..] => Some((sign(Sign::Below), rest)),
-        [b'.', b'.', b'.', rest @ ..] => Some((sign(Sign::Through), rest)),
+    match (first, second, third) {
+        (b'.', b'.', b'<') => Some(Sign::Below),
+        (b'.', b'.', b'.') => Some(Sign::Through),
         _ => None,
     }
 }
 
 // The sign of two bytes.
-fn pair(first: u8, second: u8) -> Option<Sign> {
+fn pair(first: u8, second: u8) -> Option<Sign>
+    ensures { result ≡ pair_of first second }
+{
     match (first, second) {
         (b'=', b'=') => Some(Sign::Equal),
         (b'!', b'=') => Some(Sign::Unequal),
@@ -56,7 +62,9 @@ fn pair(first: u8, second: u8) -> Option<Sign> {
 }
 
 // The sign of one byte.
-fn single(byte: u8) -> Option<Sign> {
+fn single(byte: u8) -> Option<Sign>
+    ensures { result ≡ single_of byte }
+{
     match byte {
         b'(' => Some(Sign::Open),
         b')' => Some(Sign::Close),
@@ -83,46 +91,62 @@ fn single(byte: u8) -> Option<Sign> {
     }
 }
 
-// A sign of one or two bytes, or a byte that begins nothing.
-fn short_sign(first: u8, rest: &[u8]) -> (Piece, &[u8])
-    ensures { length result.1.now ≤ length rest.now }
+// The sign of one byte, or a byte that begins nothing.
+fn lone(byte: u8) -> Piece
+    ensures { result ≡ sign_as (single_of byte) }
 {
-    if let [second, behind @ ..] = rest {
-        if let Some(found) = pair(first, *second) {
-            return (sign(found), behind);
-        }
-    }
-    match single(first) {
-        Some(found) => (sign(found), rest),
-        None => (Piece::Token(TokenKind::Stray), rest),
+    match single(byte) {
+        Some(found) => sign(found),
+        None => Piece::Token(TokenKind::Stray),
     }
 }
 
-// What a comment says that begins so, after its two slashes and blanks: a marker, or nothing.
-fn marker<'a>(bytes: &'a [u8], word: &[u8], kind: TokenKind) -> Option<(Piece, &'a [u8])>
-    ensures { IfSome result (λ r. length r.1.now ≤ length bytes.now) }
+// A sign of one or two bytes, or a byte that begins nothing.
+fn short_sign(first: u8, rest: &[u8]) -> (Piece, &[u8])
+    ensures front { (result.0, result.1.now) ≡ short_at first rest.now }
+    ensures shorter { length result.1.now ≤ length rest.now }
 {
-    if bytes.starts_with(word) {
-        let (_, after) = bytes.split_at(word.len());
-        Some((Piece::Token(kind), after))
-    } else {
-        None
+    match rest {
+        [] => (lone(first), rest),
+        [second, behind @ ..] => match pair(first, *second) {
+            Some(found) => (sign(found), behind),
+            None => (lone(first), rest),
+        },
+    }
+}
+
+// The longest sign at the front, or a byte that begins nothing.
+#[tactic(auto, unfolding(crate::specs::Fronts::sign_at))]
+fn any_sign(first: u8, rest: &[u8]) -> (Piece, &[u8])
+    ensures front { (result.0, result.1.now) ≡ sign_at first rest.now }
+    ensures shorter { length result.1.now ≤ length rest.now }
+{
+    match rest {
+        [second, third, behind @ ..] => match triple(first, *second, *third) {
+            Some(found) => (sign(found), behind),
+            None => short_sign(first, rest),
+        },
+        _ => short_sign(first, rest),
     }
 }
 
 // A comment up to the end of its line, after its two slashes.
 fn line_comment(bytes: &[u8]) -> (Piece, &[u8])
-    ensures { length result.1.now ≤ length bytes.now }
+    ensures front { (result.0, result.1.now) ≡ line_comment_at bytes.now }
+    ensures shorter { length result.1.now ≤ length bytes.now }
 {
     let (_, said) = bytes.split_at(blanks_len(bytes));
-    if let Some(found) = marker(said, b"invariant:", TokenKind::Invariant) {
-        return found;
+    if said.starts_with(b"invariant:") {
+        let (_, after) = said.split_at(10);
+        return (Piece::Token(TokenKind::Invariant), after);
     }
-    if let Some(found) = marker(said, b"executor:", TokenKind::Executor) {
-        return found;
+    if said.starts_with(b"executor:") {
+        let (_, after) = said.split_at(9);
+        return (Piece::Token(TokenKind::Executor), after);
     }
-    if let Some(found) = marker(said, b"expect:", TokenKind::Expect) {
-        return found;
+    if said.starts_with(b"expect:") {
+        let (_, after) = said.split_at(7);
+        return (Piece::Token(TokenKind::Expect), after);
     }
     let (_, after) = bytes.split_at(line_len(bytes));
     (Piece::Space, after)
@@ -130,54 +154,63 @@ fn line_comment(bytes: &[u8]) -> (Piece, &[u8])
 
 // A comment between `/*` and `*/`, after its first two bytes. A further `/*` in it is not taken.
 fn block_comment(bytes: &[u8]) -> (Piece, &[u8])
-    ensures { length result.1.now ≤ length bytes.now }
+    ensures front { (result.0, result.1.now) ≡ block_comment_at bytes.now }
+    ensures shorter { length result.1.now ≤ length bytes.now }
 {
     let mut rest = bytes;
-    for _ in 0..bytes.len() {
-        match rest {
-            [b'*', b'/', after @ ..] => return (Piece::Space, after),
-            [b'/', b'*', after @ ..] => return (Piece::Token(TokenKind::Stray), after),
-            [_, after @ ..] => rest = after,
-            [] => return (Piece::Token(TokenKind::Stray), rest),
+    while let [first, second, after @ ..] = rest {
+        if *first == b'*' && *second == b'/' {
+            return (Piece::Space, after);
         }
+        if *first == b'/' && *second == b'*' {
+            return (Piece::Token(TokenKind::Stray), after);
+        }
+        let (_, behind) = rest.split_at(1);
+        rest = behind;
     }
-    (Piece::Token(TokenKind::Stray), rest)
+    let (_, end) = rest.split_at(rest.len());
+    (Piece::Token(TokenKind::Stray), end)
 }
 
 // A string, after its first quotation mark.
 fn quoted(bytes: &[u8]) -> (Piece, &[u8])
-    ensures { length result.1.now ≤ length bytes.now }
+    ensures front { (result.0, result.1.now) ≡ quoted_at bytes.now false TokenKind.Text }
+    ensures shorter { length result.1.now ≤ length bytes.now }
 {
     let mut rest = bytes;
     let mut kind = TokenKind::Text;
-    for _ in 0..bytes.len() {
-        match rest {
-            [b'"', after @ ..] => return (Piece::Token(kind), after),
-            [b'\n', ..] => return (Piece::Token(TokenKind::Stray), rest),
-            [b'\\', b'(', after @ ..] => {
+    let mut is_escaped = false;
+    while let [byte, after @ ..] = rest {
+        if is_escaped {
+            is_escaped = false;
+            if *byte == b'(' {
                 kind = TokenKind::Interpolated;
-                rest = after;
             }
-            [b'\\', _, after @ ..] => rest = after,
-            [_, after @ ..] => rest = after,
-            [] => return (Piece::Token(TokenKind::Stray), rest),
+        } else if *byte == b'"' {
+            return (Piece::Token(kind), after);
+        } else if *byte == b'\n' {
+            return (Piece::Token(TokenKind::Stray), rest);
+        } else {
+            is_escaped = *byte == b'\\';
         }
+        rest = after;
     }
     (Piece::Token(TokenKind::Stray), rest)
 }
 
 // The value of a number that these digits spell.
-fn number(digits: &[u8]) -> TokenKind {
+fn number(digits: &[u8]) -> TokenKind
+    ensures { result ≡ number_of digits.now }
+{
     let mut value: u64 = 0;
     for d in digits {
-        if *d == b'_' {
-            continue;
+        if *d != b'_' {
+            // A tenth of the greatest `Int`: with one more digit it would be too large.
+            if value > 922337203685477580 {
+                return TokenKind::Huge;
+            }
+            value = value * 10 + u64::from(d.saturating_sub(b'0'));
         }
-        // A tenth of the greatest `Int`: with one more digit it would be too large.
-        if value > 922337203685477580 {
-            return TokenKind::Huge;
-        }
-        value = value * 10 + u64::from(d.saturating_sub(b'0').min(9));
     }
     if value > 9223372036854775807 {
         TokenKind::Huge
@@ -186,83 +219,82 @@ fn number(digits: &[u8]) -> TokenKind {
     }
 }
 
-// A number with a letter behind its digits, as `0x10`, is none.
-fn number_piece(bytes: &[u8]) -> (Piece, &[u8])
-    requires { 0 < length bytes.now }
-    ensures { length result.1.now < length bytes.now }
+// Digits are no number where a letter stands right behind them, as in `0x10`.
+fn number_piece(digits: &[u8], after: &[u8]) -> TokenKind
+    ensures { result ≡ number_before digits.now after.now }
 {
-    let (digits, after) = bytes.split_at(digits_len(bytes));
-    if digits.is_empty() {
-        return stray(bytes);
-    }
     match after {
         [byte, ..] => {
             if letter(*byte) {
-                return (Piece::Token(TokenKind::Stray), after);
+                TokenKind::Stray
+            } else {
+                number(digits)
             }
-            (Piece::Token(number(digits)), after)
         }
-        [] => (Piece::Token(number(digits)), after),
+        [] => number(digits),
     }
 }
 
-fn name_piece(bytes: &[u8]) -> (Piece, &[u8])
-    requires { 0 < length bytes.now }
-    ensures { length result.1.now < length bytes.now }
+fn word_kind(name: &[u8]) -> TokenKind
+    ensures { result ≡ word_as (word_of name.now) }
 {
-    let (name, after) = bytes.split_at(name_len(bytes));
-    if name.is_empty() {
-        return stray(bytes);
-    }
     match word_of(name) {
-        Some(word) => (Piece::Token(TokenKind::Key(word)), after),
-        None => (Piece::Token(TokenKind::Name), after),
+        Some(word) => TokenKind::Key(word),
+        None => TokenKind::Name,
     }
 }
 
-// One byte that begins nothing.
-fn stray(bytes: &[u8]) -> (Piece, &[u8])
-    requires { 0 < length bytes.now }
-    ensures { length result.1.now < length bytes.now }
+// What a slash begins: a comment, or a sign.
+#[tactic(auto, unfolding(crate::specs::Fronts::slashed_at))]
+fn slashed(first: u8, rest: &[u8]) -> (Piece, &[u8])
+    ensures front { (result.0, result.1.now) ≡ slashed_at first rest.now }
+    ensures shorter { length result.1.now ≤ length rest.now }
 {
-    match bytes {
-        [_, rest @ ..] => (Piece::Token(TokenKind::Stray), rest),
-        [] => (Piece::Space, bytes),
+    if let [second, behind @ ..] = rest {
+        if first == b'/' && *second == b'/' {
+            return line_comment(behind);
+        }
+        if first == b'/' && *second == b'*' {
+            return block_comment(behind);
+        }
     }
+    any_sign(first, rest)
 }
 
-fn other_piece(bytes: &[u8]) -> (Piece, &[u8])
-    requires { 0 < length bytes.now }
-    ensures { length result.1.now < length bytes.now }
+// What a byte begins that is no letter or digit.
+fn other_piece(first: u8, rest: &[u8]) -> (Piece, &[u8])
+    ensures front { (result.0, result.1.now) ≡ other_at first rest.now }
+    ensures shorter { length result.1.now ≤ length rest.now }
 {
-    match bytes {
-        [b'\n', rest @ ..] => (Piece::Line, rest),
-        [b' ' | b'\t' | b'\r', rest @ ..] => (Piece::Space, rest),
-        [b'/', b'/', rest @ ..] => line_comment(rest),
-        [b'/', b'*', rest @ ..] => block_comment(rest),
-        [b'"', rest @ ..] => quoted(rest),
-        [first, rest @ ..] => match triple(bytes) {
-            Some(found) => found,
-            None => short_sign(*first, rest),
-        },
-        [] => (Piece::Space, bytes),
+    if first == b'\n' {
+        (Piece::Line, rest)
+    } else if space(first) {
+        (Piece::Space, rest)
+    } else if first == b'"' {
+        quoted(rest)
+    } else {
+        slashed(first, rest)
     }
 }
 
 /// What stands at the front, and what is after it.
+#[tactic(auto, unfolding(crate::specs::Fronts::front_at))]
 pub(crate) fn front(bytes: &[u8]) -> (Piece, &[u8])
     requires { 0 < length bytes.now }
-    ensures { length result.1.now < length bytes.now }
+    ensures front { (result.0, result.1.now) ≡ front_of bytes.now }
+    ensures shorter { length result.1.now < length bytes.now }
 {
     match bytes {
         [] => (Piece::Space, bytes),
-        [first, ..] => {
+        [first, rest @ ..] => {
             if digit(*first) {
-                number_piece(bytes)
+                let (digits, after) = bytes.split_at(digits_len(bytes));
+                (Piece::Token(number_piece(digits, after)), after)
             } else if letter(*first) {
-                name_piece(bytes)
+                let (name, after) = bytes.split_at(name_len(bytes));
+                (Piece::Token(word_kind(name)), after)
             } else {
-                other_piece(bytes)
+                other_piece(*first, rest)
             }
         }
     }

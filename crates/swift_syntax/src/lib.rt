@@ -13,6 +13,8 @@ mod declaration;
 mod expression;
 // What stands at the front of a text.
 mod front;
+// What holds of the definitions.
+mod laws;
 // How deep a file may nest.
 mod limits;
 // The tokens of a text.
@@ -34,6 +36,7 @@ mod tree;
 // Words that are no names.
 mod word;
 
+pub use laws::one_reading;
 pub use list::tokens;
 pub use reading::{ReadFile, read_file};
 pub use rule::{Breach, Refusal, Rule};

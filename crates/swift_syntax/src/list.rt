@@ -1,6 +1,7 @@
 //! The tokens of a text.
 
 ghost use Rattle.std.specs.Prelude.{IfOk, All};
+ghost use Rattle.swift_syntax.specs.Lexes.{AreTokensOf};
 ghost use Rattle.swift_syntax.specs.Places.{IsTokenOf};
 
 use crate::front::{Piece, front};
@@ -10,7 +11,9 @@ use std::alloc::{AllocError, Global};
 /// The tokens of a text, which may be of any length. It never refuses: what begins no token is a token of its own. `Err` says that there
 /// was no memory. Linear in the bytes.
 pub fn tokens(alloc: Global, text: &[u8]) -> Result<Vec<Token>, AllocError>
-    ensures { IfOk result (λ found. All (IsTokenOf text.now) found.items) }
+    // The text consists of these tokens, and of no others (`one_reading`).
+    ensures tokens { IfOk result (λ found. AreTokensOf text.now found.items) }
+    ensures within { IfOk result (λ found. All (IsTokenOf text.now) found.items) }
 {
     let mut found = Vec::new(alloc);
     let mut rest = text;

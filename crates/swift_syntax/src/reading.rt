@@ -2,6 +2,7 @@
 
 ghost use Rattle.std.specs.Prelude.{◌≡◌, ◌<◌, All, IfOk, IfSome, length};
 ghost use Rattle.std.specs.Option.{option_map};
+ghost use Rattle.swift_syntax.specs.Lexes.{AreTokensOf};
 ghost use Rattle.swift_syntax.specs.Places.{IsBlamedIn, IsTokenOf, IsTooLarge};
 
 use crate::declaration::declaration;
@@ -49,6 +50,8 @@ fn declarations(reader: &mut Reader<'_>) {
 ///
 /// `AllocError` where there is no memory for the tokens. Where there is none for the tree, the file is refused.
 pub fn read_file(alloc: Global, text: &[u8]) -> Result<ReadFile, AllocError>
+    // The text consists of these tokens, and of no others (`one_reading`).
+    ensures lexed { IfOk result (λ file. AreTokensOf text.now file.tokens.items) }
     ensures tokens { IfOk result (λ file. All (IsTokenOf text.now) file.tokens.items) }
     ensures blamed { IfOk result (λ file. IfSome file.refused (IsBlamedIn text.now)) }
     ensures large { IfOk result (λ file. BYTES < length text.now → IsTooLarge (option_map (λ r. r.rule) file.refused)) }

@@ -1,5 +1,9 @@
 //! Words that are no names.
 
+ghost use Rattle.std.specs.Prelude.{◌≡◌, bytes_eq, position};
+ghost use Rattle.std.specs.List.{list_any, slice_get};
+ghost use Rattle.swift_syntax.specs.Words as words;
+
 /// A word that is no name in the subset.
 #[derive(Clone, Copy, PartialEq, Eq)]
 pub enum Word {
@@ -75,248 +79,142 @@ pub enum Word {
     Foreign,
 }
 
-struct SpelledWord {
-    spelling: &'static str,
-    word: Word,
-}
+// How the keywords are spelled.
+static SPELLINGS: [&[u8]; 34] = [
+    b"actor",
+    b"async",
+    b"await",
+    b"case",
+    b"catch",
+    b"class",
+    b"do",
+    b"else",
+    b"enum",
+    b"false",
+    b"fileprivate",
+    b"final",
+    b"for",
+    b"func",
+    b"guard",
+    b"if",
+    b"import",
+    b"in",
+    b"init",
+    b"internal",
+    b"let",
+    b"nonisolated",
+    b"private",
+    b"public",
+    b"return",
+    b"self",
+    b"static",
+    b"struct",
+    b"throw",
+    b"throws",
+    b"true",
+    b"try",
+    b"var",
+    b"while",
+];
 
-static WORDS: [SpelledWord; 57] = [
-    SpelledWord {
-        spelling: "actor",
-        word: Word::Actor,
-    },
-    SpelledWord {
-        spelling: "as",
-        word: Word::Foreign,
-    },
-    SpelledWord {
-        spelling: "associatedtype",
-        word: Word::Foreign,
-    },
-    SpelledWord {
-        spelling: "async",
-        word: Word::Async,
-    },
-    SpelledWord {
-        spelling: "await",
-        word: Word::Await,
-    },
-    SpelledWord {
-        spelling: "break",
-        word: Word::Foreign,
-    },
-    SpelledWord {
-        spelling: "case",
-        word: Word::Case,
-    },
-    SpelledWord {
-        spelling: "catch",
-        word: Word::Catch,
-    },
-    SpelledWord {
-        spelling: "class",
-        word: Word::Class,
-    },
-    SpelledWord {
-        spelling: "continue",
-        word: Word::Foreign,
-    },
-    SpelledWord {
-        spelling: "default",
-        word: Word::Foreign,
-    },
-    SpelledWord {
-        spelling: "defer",
-        word: Word::Foreign,
-    },
-    SpelledWord {
-        spelling: "deinit",
-        word: Word::Foreign,
-    },
-    SpelledWord {
-        spelling: "do",
-        word: Word::Do,
-    },
-    SpelledWord {
-        spelling: "else",
-        word: Word::Else,
-    },
-    SpelledWord {
-        spelling: "enum",
-        word: Word::Enum,
-    },
-    SpelledWord {
-        spelling: "extension",
-        word: Word::Foreign,
-    },
-    SpelledWord {
-        spelling: "fallthrough",
-        word: Word::Foreign,
-    },
-    SpelledWord {
-        spelling: "false",
-        word: Word::False,
-    },
-    SpelledWord {
-        spelling: "fileprivate",
-        word: Word::Fileprivate,
-    },
-    SpelledWord {
-        spelling: "final",
-        word: Word::Final,
-    },
-    SpelledWord {
-        spelling: "for",
-        word: Word::For,
-    },
-    SpelledWord {
-        spelling: "func",
-        word: Word::Func,
-    },
-    SpelledWord {
-        spelling: "guard",
-        word: Word::Guard,
-    },
-    SpelledWord {
-        spelling: "if",
-        word: Word::If,
-    },
-    SpelledWord {
-        spelling: "import",
-        word: Word::Import,
-    },
-    SpelledWord {
-        spelling: "in",
-        word: Word::In,
-    },
-    SpelledWord {
-        spelling: "init",
-        word: Word::Init,
-    },
-    SpelledWord {
-        spelling: "inout",
-        word: Word::Foreign,
-    },
-    SpelledWord {
-        spelling: "internal",
-        word: Word::Internal,
-    },
-    SpelledWord {
-        spelling: "is",
-        word: Word::Foreign,
-    },
-    SpelledWord {
-        spelling: "let",
-        word: Word::Let,
-    },
-    SpelledWord {
-        spelling: "nil",
-        word: Word::Foreign,
-    },
-    SpelledWord {
-        spelling: "nonisolated",
-        word: Word::Nonisolated,
-    },
-    SpelledWord {
-        spelling: "operator",
-        word: Word::Foreign,
-    },
-    SpelledWord {
-        spelling: "private",
-        word: Word::Private,
-    },
-    SpelledWord {
-        spelling: "protocol",
-        word: Word::Foreign,
-    },
-    SpelledWord {
-        spelling: "public",
-        word: Word::Public,
-    },
-    SpelledWord {
-        spelling: "repeat",
-        word: Word::Foreign,
-    },
-    SpelledWord {
-        spelling: "rethrows",
-        word: Word::Foreign,
-    },
-    SpelledWord {
-        spelling: "return",
-        word: Word::Return,
-    },
-    SpelledWord {
-        spelling: "self",
-        word: Word::Own,
-    },
-    SpelledWord {
-        spelling: "Self",
-        word: Word::Foreign,
-    },
-    SpelledWord {
-        spelling: "some",
-        word: Word::Foreign,
-    },
-    SpelledWord {
-        spelling: "static",
-        word: Word::Static,
-    },
-    SpelledWord {
-        spelling: "struct",
-        word: Word::Struct,
-    },
-    SpelledWord {
-        spelling: "subscript",
-        word: Word::Foreign,
-    },
-    SpelledWord {
-        spelling: "super",
-        word: Word::Foreign,
-    },
-    SpelledWord {
-        spelling: "switch",
-        word: Word::Foreign,
-    },
-    SpelledWord {
-        spelling: "throw",
-        word: Word::Throw,
-    },
-    SpelledWord {
-        spelling: "throws",
-        word: Word::Throws,
-    },
-    SpelledWord {
-        spelling: "true",
-        word: Word::True,
-    },
-    SpelledWord {
-        spelling: "try",
-        word: Word::Try,
-    },
-    SpelledWord {
-        spelling: "typealias",
-        word: Word::Foreign,
-    },
-    SpelledWord {
-        spelling: "var",
-        word: Word::Var,
-    },
-    SpelledWord {
-        spelling: "where",
-        word: Word::Foreign,
-    },
-    SpelledWord {
-        spelling: "while",
-        word: Word::While,
-    },
+// What they are, in the same order.
+static WORDS: [Word; 34] = [
+    Word::Actor,
+    Word::Async,
+    Word::Await,
+    Word::Case,
+    Word::Catch,
+    Word::Class,
+    Word::Do,
+    Word::Else,
+    Word::Enum,
+    Word::False,
+    Word::Fileprivate,
+    Word::Final,
+    Word::For,
+    Word::Func,
+    Word::Guard,
+    Word::If,
+    Word::Import,
+    Word::In,
+    Word::Init,
+    Word::Internal,
+    Word::Let,
+    Word::Nonisolated,
+    Word::Private,
+    Word::Public,
+    Word::Return,
+    Word::Own,
+    Word::Static,
+    Word::Struct,
+    Word::Throw,
+    Word::Throws,
+    Word::True,
+    Word::Try,
+    Word::Var,
+    Word::While,
+];
+
+// Keywords of Swift that begin nothing in the subset.
+static FOREIGN: [&[u8]; 23] = [
+    b"as",
+    b"associatedtype",
+    b"break",
+    b"continue",
+    b"default",
+    b"defer",
+    b"deinit",
+    b"extension",
+    b"fallthrough",
+    b"inout",
+    b"is",
+    b"nil",
+    b"operator",
+    b"protocol",
+    b"repeat",
+    b"rethrows",
+    b"Self",
+    b"some",
+    b"subscript",
+    b"super",
+    b"switch",
+    b"typealias",
+    b"where",
 ];
 
 /// The word that these bytes spell, if they are no name.
-pub(crate) fn word_of(name: &[u8]) -> Option<Word> {
-    for spelled in WORDS.iter() {
-        if spelled.spelling.as_bytes() == name {
-            return Some(spelled.word);
+pub(crate) fn word_of(name: &[u8]) -> Option<Word>
+    ensures { result ≡ words.word_of name.now }
+{
+    match place_of(&SPELLINGS, name) {
+        Some(place) => word_at(&WORDS, place),
+        None => {
+            if is_among(&FOREIGN, name) {
+                Some(Word::Foreign)
+            } else {
+                None
+            }
         }
     }
-    None
+}
+
+fn word_at(words: &[Word], place: usize) -> Option<Word>
+    ensures { result ≡ slice_get words.now place }
+{
+    match words.get(place) {
+        Some(word) => Some(*word),
+        None => None,
+    }
+}
+
+fn place_of(words: &[&[u8]], name: &[u8]) -> Option<usize>
+    ensures { result ≡ position (λ word. bytes_eq word.now name.now) words.now }
+{
+    words.iter().position(|word| *word == name)
+}
+
+fn is_among(words: &[&[u8]], name: &[u8]) -> bool
+    ensures { result ≡ list_any (λ word. bytes_eq word.now name.now) words.now }
+{
+    words.iter().any(|word| *word == name)
 }

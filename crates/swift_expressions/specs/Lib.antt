@@ -1,0 +1,2 @@
+-- What is put among the instructions of a file.
+pub mod Instructions
