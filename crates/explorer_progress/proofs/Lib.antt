@@ -1,1 +1,4 @@
+mod Lists
+pub mod Places
 pub mod Prefixes
+mod Rounds

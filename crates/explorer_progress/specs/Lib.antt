@@ -1,3 +1,4 @@
 pub mod Hints
 pub mod HintsInside
 pub mod HintText
+pub mod Rounds

@@ -1,9 +1,11 @@
 //! From a search to a hint.
 
-ghost use Rattle.std.specs.Prelude.{◌≡◌, IfOk, IfSome, length, min, take};
+ghost use Rattle.std.specs.Prelude.{◌≡◌, ◌+◌, ◌<◌, ◌≤◌, List, [], IfOk, IfSome, OnOk, length, min, take};
 ghost use Rattle.std.specs.Arc.{arc_value};
+ghost use Rattle.swift_journal.specs.Records.{RecordView};
 ghost use Rattle.explorer_progress.specs.Hints.{IsHint, IsReportOf};
-ghost use Rattle.explorer_progress.specs.HintsInside.{Begins, IsIn, IsOf};
+ghost use Rattle.explorer_progress.specs.HintsInside.{AreRecords, AreRepeated, AreTurns, Begins, IsIn, IsLimit, IsOf, IsPlayed};
+ghost use Rattle.explorer_progress.specs.Rounds.{is_told, tasks_of, told, with_task};
 
 use crate::again::{PlayedReport, played};
 use crate::repeated::{Repeated, leaves_frames, repeated_before};
@@ -29,8 +31,7 @@ pub struct RepeatedTask {
     pub method: MethodId,
 }
 
-/// Tasks that repeat their turns, where no other task is ready (our own): the states after each round are one, but for the numbers of
-/// turns.
+/// Tasks that repeat their turns (our own): as a run goes on after the schedule, each turn does what the one a round before it did.
 #[derive(Drop)]
 pub struct NoProgress {
     /// A schedule that ends with the first round.
@@ -64,7 +65,9 @@ fn first_at_limit(outcomes: &[RunOutcome]) -> Option<&RunOutcome> {
 }
 
 // The place of the first turn that begins with the fault of a task that has had all its turns.
-fn limit_in(run: &PlayedReport, turns: &[TurnAt]) -> Option<usize> {
+fn limit_in(run: &PlayedReport, turns: &[TurnAt]) -> Option<usize>
+    ensures { IfSome result (IsLimit run.now.report turns.now) }
+{
     for place in 0..turns.len() {
         if run.is_at_limit(turns[place]) {
             return Some(place);
@@ -99,7 +102,8 @@ fn first_steps(alloc: Global, schedule: &[Move], many: usize) -> Result<Vec<Move
 
 // The steps up to the one at a place.
 fn steps_to(alloc: Global, schedule: &[Move], step: usize) -> Result<Vec<Move>, AllocError>
-    ensures { IfOk result (λ steps. Begins steps.items schedule.now) }
+    ensures begins { IfOk result (λ steps. Begins steps.items schedule.now) }
+    ensures upto { IfOk result (λ steps. step < length schedule.now → steps.items ≡ take (step + 1) schedule.now) }
 {
     let steps = first_steps(alloc, schedule, step.saturating_add(1))?;
     Ok(steps)
@@ -128,7 +132,9 @@ fn run_of(
     script: &Arc<Script>,
     schedule: &[Move],
 ) -> Result<Option<(PlayedReport, Vec<TurnAt>)>, AllocError>
-    ensures { IfOk result (λ o. IfSome o (λ run. IsReportOf (arc_value script.now) schedule.now run.0.report)) }
+    ensures report { IfOk result (λ o. IfSome o (λ run. IsReportOf (arc_value script.now) schedule.now run.0.report)) }
+    ensures turns { IfOk result (λ o. IfSome o (λ run. AreTurns run.0.report schedule.now run.1.items)) }
+    ensures values { IfOk result (λ o. IfSome o (λ run. IsPlayed (arc_value script.now) run.0)) }
 {
     let Some(report) = legal_report(alloc, script, schedule)? else {
         return Ok(None);
@@ -165,7 +171,9 @@ fn before_spinning(
     }
 }
 
-fn is_among(tasks: &[RepeatedTask], task: TaskId) -> bool {
+fn is_among(tasks: &[RepeatedTask], task: TaskId) -> bool
+    ensures { result ≡ is_told task.0 tasks.now }
+{
     for one in tasks {
         if one.task.0 == task.0 {
             return true;
@@ -174,28 +182,69 @@ fn is_among(tasks: &[RepeatedTask], task: TaskId) -> bool {
     false
 }
 
-// The tasks of these turns.
+// Adds the task of a turn to those that are told, where it is not among them.
+fn add_task(tasks: &mut Vec<RepeatedTask>, one: RepeatedTask) -> Result<(), AllocError>
+    ensures { OnOk result ((r : RecordView) → one ≡ told r → tasks.new.items ≡ with_task tasks.old.items r) }
+{
+    if is_among(tasks, one.task) {
+        return Ok(());
+    }
+    tasks.push(one)?;
+    Ok(())
+}
+
+// The tasks of these turns, each once. Nothing where a turn is not there.
 fn tasks_of(
     alloc: Global,
     run: &PlayedReport,
     turns: &[TurnAt],
-) -> Result<Vec<RepeatedTask>, AllocError> {
+) -> Result<Option<Vec<RepeatedTask>>, AllocError>
+    ensures { IfOk result (λ o. IfSome o (λ tasks. (round : List RecordView) × AreRecords run.now.report turns.now round × (tasks.items ≡ tasks_of [] round))) }
+{
     let mut tasks = Vec::new(alloc);
-    for turn in turns {
-        if !is_among(&tasks, turn.task)
-            && let Some(method) = run.method(*turn)
-        {
-            tasks.push(RepeatedTask {
-                task: turn.task,
-                method,
-            })?;
-        }
+    for place in 0..turns.len() {
+        let Some(one) = run.task(turns[place]) else {
+            return Ok(None);
+        };
+        add_task(&mut tasks, one)?;
     }
-    Ok(tasks)
+    Ok(Some(tasks))
 }
 
-// What is said of turns that repeat up to the turn at a place, where all tasks that are ready are among them: each of these has had a turn
-// in the time of a round and of one turn of each task.
+// What is said of turns that repeat up to the turn at a place, of which the first round ends before this one.
+fn hint_at(
+    alloc: Global,
+    run: &PlayedReport,
+    turns: &[TurnAt],
+    schedule: &[Move],
+    end: usize,
+    repeated: Repeated,
+    round: usize,
+) -> Result<Option<NoProgress>, AllocError>
+    requires turns { AreTurns run.now.report schedule.now turns.now }
+    requires limit { IsLimit run.now.report turns.now end }
+    requires repeated { AreRepeated run.now turns.now end repeated }
+    requires round { round ≡ repeated.from + repeated.period }
+    requires within { round ≤ length turns.now }
+    requires long { round + length run.now.report.endings.items ≤ end }
+    ensures { IfOk result (λ o. IfSome o (IsOf run.now schedule.now)) }
+{
+    let Some(tasks) = tasks_of(alloc, run, &turns[repeated.from..round])? else {
+        return Ok(None);
+    };
+    match turns.get(round.saturating_sub(1)) {
+        Some(last) => Ok(Some(NoProgress {
+            schedule: steps_to(alloc, schedule, last.step)?,
+            turns: repeated.period,
+            tasks,
+            endings: Vec::from_slice(alloc, &run.report.endings)?,
+        })),
+        None => Ok(None),
+    }
+}
+
+// The same, where all tasks that are ready are among those of the turns: each has had a turn in the time of a round and of one turn of
+// each task.
 fn hint_of(
     alloc: Global,
     run: &PlayedReport,
@@ -204,28 +253,22 @@ fn hint_of(
     end: usize,
     repeated: Repeated,
 ) -> Result<Option<NoProgress>, AllocError>
-    ensures { IfOk result (λ o. IfSome o (IsOf run.now.report schedule.now)) }
+    requires turns { AreTurns run.now.report schedule.now turns.now }
+    requires limit { IsLimit run.now.report turns.now end }
+    requires repeated { AreRepeated run.now turns.now end repeated }
+    ensures { IfOk result (λ o. IfSome o (IsOf run.now schedule.now)) }
 {
-    let Repeated { from, period } = repeated;
-    let round = from.saturating_add(period);
-    if round > turns.len() || from > round {
+    let Some(round) = repeated.from.checked_add(repeated.period) else {
+        return Ok(None);
+    };
+    let Some(long) = round.checked_add(run.report.endings.len()) else {
+        return Ok(None);
+    };
+    if round > turns.len() || end < long || !leaves_frames(run, &turns[repeated.from..round]) {
         return Ok(None);
     }
-    let long = period.saturating_add(run.report.endings.len());
-    let first = &turns[from..round];
-    if end.saturating_sub(from) < long || !leaves_frames(run, first) {
-        return Ok(None);
-    }
-    let tasks = tasks_of(alloc, run, first)?;
-    match turns.get(round.saturating_sub(1)) {
-        Some(last) => Ok(Some(NoProgress {
-            schedule: steps_to(alloc, schedule, last.step)?,
-            turns: period,
-            tasks,
-            endings: Vec::from_slice(alloc, &run.report.endings)?,
-        })),
-        None => Ok(None),
-    }
+    let found = hint_at(alloc, run, turns, schedule, end, repeated, round)?;
+    Ok(found)
 }
 
 // What is said of a whole schedule.
@@ -271,8 +314,10 @@ fn hint_after(
 /// schedule is led on, each time with the next task's turn; where that comes to a task that has had all its turns, and the turns before
 /// that repeat and change nothing else, it is said which.
 ///
-/// It is a hint: that the schedule can be done and where its tasks come from is promised, and that its last turns repeat is tested. It
-/// costs a run of up to 1,000 turns of each task, followed thrice.
+/// It is a hint. Promised is that the schedule can be done, and that its last turns are those of the tasks that are told; that in a run
+/// which goes on after it they repeat, one after the other, for as many turns more, at least, as the run has tasks, and until some task has
+/// had all its turns; and where the tasks of that run come from. So nobody else has a turn meanwhile, though each task that is ready would;
+/// this, that no other task is ready, is tested. It costs a run of up to 1,000 turns of each task, followed thrice.
 ///
 /// # Errors
 ///

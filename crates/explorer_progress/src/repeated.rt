@@ -1,5 +1,8 @@
 //! Turns that repeat at the end of a run.
 
+ghost use Rattle.std.specs.Prelude.{◌≤◌, IfOk, IfSome, IsTrue};
+ghost use Rattle.explorer_progress.specs.HintsInside.{AllRepeat, AreRepeated, RepeatsAt};
+
 use crate::again::PlayedReport;
 use crate::turns::TurnAt;
 use std::alloc::{AllocError, Global};
@@ -23,7 +26,9 @@ fn repeats_at(
     scratch: &mut Journal,
     later: usize,
     period: usize,
-) -> Result<bool, AllocError> {
+) -> Result<bool, AllocError>
+    ensures { IfOk result (λ yes. IsTrue yes → RepeatsAt run.now turns.now period later) }
+{
     if later >= turns.len() || later < period {
         return Ok(false);
     }
@@ -56,7 +61,9 @@ fn period_before(
     turns: &[TurnAt],
     scratch: &mut Journal,
     end: usize,
-) -> Result<Option<usize>, AllocError> {
+) -> Result<Option<usize>, AllocError>
+    ensures { IfOk result (λ o. IfSome o (λ period. 1 ≤ period)) }
+{
     for fewer in 0..LONGEST {
         let period = fewer + 1;
         if period > end / 2 {
@@ -77,7 +84,9 @@ fn first_repeated(
     scratch: &mut Journal,
     end: usize,
     period: usize,
-) -> Result<usize, AllocError> {
+) -> Result<usize, AllocError>
+    ensures { IfOk result (λ from. AllRepeat run.now turns.now period from end) }
+{
     let mut from = end;
     for _ in 0..end {
         let later = from.saturating_sub(1);
@@ -95,7 +104,9 @@ pub(crate) fn repeated_before(
     run: &PlayedReport,
     turns: &[TurnAt],
     end: usize,
-) -> Result<Option<Repeated>, AllocError> {
+) -> Result<Option<Repeated>, AllocError>
+    ensures { IfOk result (λ o. IfSome o (AreRepeated run.now turns.now end)) }
+{
     let mut scratch = Journal::new(alloc);
     let Some(period) = period_before(alloc, run, turns, &mut scratch, end)? else {
         return Ok(None);
