@@ -3,6 +3,7 @@ pub mod Answered
 mod Blocks
 mod Breaks
 mod Celled
+mod Drawing
 pub mod Keeping
 mod More
 pub mod Past

@@ -1,8 +1,10 @@
 pub mod Boxes
 pub mod Breaking
 pub mod Cells
+pub mod Drawn
 pub mod GivingWay
 pub mod KeepingInside
 pub mod LastTurns
+pub mod SaysInside
 pub mod UndoneInside
 pub mod Values

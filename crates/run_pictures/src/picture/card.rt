@@ -1,9 +1,17 @@
 //! The box of a turn, with what stands in it and below it.
 
+ghost use Rattle.std.specs.Prelude.{◌≡◌, ◌/◌, List};
+ghost use Rattle.swift_events.specs.declared.life.Origin.{Origin};
+ghost use Rattle.swift_script.specs.Scripts.{ScriptView};
+ghost use Rattle.swift_types.specs.declared.outcome.Ending.{Ending};
+ghost use Rattle.task_names.specs.Names.{task_name};
+ghost use Rattle.run_pictures.specs.Drawn.{IsBox, box_text, class_text, does_text, outline_text, place_text, title_text, who_text};
+ghost use Rattle.run_pictures.specs.SaysInside.{AreNames, Says, SaysSome, box_top};
+
 use crate::TurnValues;
 use crate::picture::below::{write_below, write_beside};
 use crate::picture::boxes::TurnBox;
-use crate::picture::layout::{LEFT, Layout, MARGIN, TALL, WIDE, colour};
+use crate::picture::layout::{COLUMNS, LEFT, Layout, MARGIN, TALL, WIDE, colour, left_of};
 use crate::picture::picture_text::PictureText;
 use crate::picture::pieces::TextPiece;
 use crate::picture::placed::PlacedTurn;
@@ -23,63 +31,91 @@ const CHARACTER: usize = 662;
 // How many characters of a name are shown at least.
 const LEAST_NAME: usize = 4;
 
-// The title of a box: the line of its turn, and what it did.
-fn write_title(
-    out: &mut PictureText,
-    view: View<'_>,
-    turn: &TurnBox,
-    is_undone: bool,
-    lines: &[u8],
-) {
-    let script = view.script;
-    out.say(b"<title>");
+// Which turn it is, what its task is called, and its worker.
+fn write_who(out: &mut PictureText, view: View<'_>, turn: &TurnBox)
+    ensures { (es : List (Origin × Ending)) → AreNames view.entry.script.now es view.entry.names.now → Says out.old out.new (who_text view.entry.script.now es turn.now) }
+{
     out.turn(turn);
-    out.put(&[
-        TextPiece::Text(" ("),
-        TextPiece::Name(view.name(turn.task.0 as usize)),
-        TextPiece::Text(") w"),
-        TextPiece::Number(turn.worker as usize),
-        TextPiece::Text(" "),
-    ]);
+    out.say(b" (");
+    out.say(view.name(turn.task.0 as usize));
+    out.say(b") w");
+    out.number(turn.worker)
+}
+
+// Its method, what it was given and began with, and how it ended.
+fn write_does(out: &mut PictureText, script: &Script, turn: &TurnBox)
+    ensures { Says out.old out.new (does_text script.now turn.now) }
+{
     out.method(script, turn.method);
     out.say(b" ");
     out.env(turn);
     out.say(b" ");
     out.resume(turn.resume);
     out.say(b" -> ");
-    out.exit(script, turn.exit);
+    out.exit(script, turn.exit)
+}
+
+// The line of a turn.
+fn write_title(out: &mut PictureText, view: View<'_>, turn: &TurnBox)
+    ensures { (es : List (Origin × Ending)) → AreNames view.entry.script.now es view.entry.names.now → Says out.old out.new (title_text view.entry.script.now es turn.now) }
+{
+    write_who(out, view, turn);
+    out.say(b" ");
+    write_does(out, view.script, turn)
+}
+
+// What the title says after that: whether the turn was undone, and what it did.
+fn write_more(out: &mut PictureText, is_undone: bool, lines: &[u8]) {
     if is_undone {
         out.say(b" (undone)");
     }
-    write_beside(out, lines);
-    out.say(b"</title>\n")
+    write_beside(out, lines)
 }
 
-// The outline of a box; one of a turn that was undone is crossed.
+// The class of an outline.
+fn write_class(out: &mut PictureText, turn: &TurnBox, is_undone: bool)
+    ensures { Says out.old out.new (class_text turn.now is_undone) }
+{
+    if is_undone {
+        out.say(b"x")
+    } else {
+        out.say(b"c");
+        out.number(colour(turn.task))
+    }
+}
+
+// Where an outline stands.
+fn write_place(out: &mut PictureText, left: usize, top: usize, width: usize)
+    ensures { Says out.old out.new (place_text left top width) }
+{
+    out.say(b"\" x=\"");
+    out.number(left);
+    out.say(b"\" y=\"");
+    out.number(top);
+    out.say(b"\" width=\"");
+    out.number(width)
+}
+
+// The outline of a box.
 fn write_outline(
     out: &mut PictureText,
     turn: &TurnBox,
     is_undone: bool,
     at: (usize, usize),
     width: usize,
-) {
+)
+    ensures { Says out.old out.new (outline_text turn.now is_undone at.0 at.1 width) }
+{
     out.say(b"<rect class=\"");
-    if is_undone {
-        out.say(b"x");
-    } else {
-        out.put(&[TextPiece::Text("c"), TextPiece::Number(colour(turn.task))]);
-    }
-    out.put(&[
-        TextPiece::Text("\" x=\""),
-        TextPiece::Number(at.0),
-        TextPiece::Text("\" y=\""),
-        TextPiece::Number(at.1),
-        TextPiece::Text("\" width=\""),
-        TextPiece::Number(width),
-        TextPiece::Text("\" height=\""),
-        TextPiece::Number(TALL),
-        TextPiece::Text("\" rx=\"6\"/>\n"),
-    ]);
+    write_class(out, turn, is_undone);
+    write_place(out, at.0, at.1, width);
+    out.say(b"\" height=\"");
+    out.number(TALL);
+    out.say(b"\" rx=\"6\"/>\n")
+}
+
+// The cross over the box of a turn that was undone.
+fn write_cross(out: &mut PictureText, is_undone: bool, at: (usize, usize), width: usize) {
     if !is_undone {
         return;
     }
@@ -257,7 +293,9 @@ pub(crate) struct View<'a> {
 
 impl<'a> View<'a> {
     /// What a task is called.
-    pub fn name(&self, task: usize) -> &'a [u8] {
+    pub fn name(&self, task: usize) -> &'a [u8]
+        ensures { (script : ScriptView) (es : List (Origin × Ending)) → AreNames script es self.now.names.now → result.now ≡ task_name script es task }
+    {
         match self.names.get(task) {
             Some(name) => name,
             None => &[],
@@ -288,7 +326,9 @@ fn write_rest(out: &mut PictureText, view: View<'_>, turn: &TurnBox, placed: &Pl
             layout.width.saturating_sub(MARGIN)
         };
         let at = (left, layout.box_top(row, turn.executor));
-        write_outline(out, turn, placed.is_undone, at, right.saturating_sub(left));
+        let width = right.saturating_sub(left);
+        write_outline(out, turn, placed.is_undone, at, width);
+        write_cross(out, placed.is_undone, at, width);
         begin_text(out, "g", LEFT, at.1.saturating_add(17));
         out.turn(turn);
         out.say(b" goes on");
@@ -296,23 +336,25 @@ fn write_rest(out: &mut PictureText, view: View<'_>, turn: &TurnBox, placed: &Pl
     }
 }
 
-/// The box of a turn, with its title and these lines below it. `line` is written on.
-pub(crate) fn write_card(
+/// What is written on, again and again: the lines below a box, a line in it, and all that comes after its outline.
+#[derive(Drop)]
+pub(crate) struct Scratch {
+    pub below: PictureText,
+    pub line: PictureText,
+    pub rest: PictureText,
+}
+
+// What stands in a box after its outline, and below it.
+fn write_inside(
     out: &mut PictureText,
     view: View<'_>,
     turn: &TurnBox,
     placed: &PlacedTurn,
+    at: (usize, usize),
     lines: &[u8],
     line: &mut PictureText,
 ) {
-    let left = view.layout.left(placed);
-    let top = view.layout.box_top(view.layout.row(placed), turn.executor);
-    let at = (left, top);
-    let width = view.layout.first_right(placed).saturating_sub(left);
     let is_undone = placed.is_undone;
-    out.say(b"<g>");
-    write_title(out, view, turn, is_undone, lines);
-    write_outline(out, turn, is_undone, at, width);
     let raised = was_raised(view.picture, turn, placed);
     write_first_line(out, turn, raised, is_undone, at);
     write_name_in(out, view, turn, raised, is_undone, at, line);
@@ -320,5 +362,69 @@ pub(crate) fn write_card(
     write_rest(out, view, turn, placed);
     out.say(b"</g>\n");
     let class = if is_undone { "u m" } else { "g m" };
-    write_below(out, lines, class, left, at.1.saturating_add(TALL))
+    write_below(out, lines, class, at.0, at.1.saturating_add(TALL))
+}
+
+// The box of a turn at a place, so wide. After its title says so much more; after its outline stands the rest.
+fn write_parts(
+    out: &mut PictureText,
+    view: View<'_>,
+    turn: &TurnBox,
+    is_undone: bool,
+    more: &[u8],
+    at: (usize, usize),
+    width: usize,
+    rest: &[u8],
+)
+    ensures { (es : List (Origin × Ending)) → AreNames view.entry.script.now es view.entry.names.now → Says out.old out.new (box_text view.entry.script.now es turn.now is_undone more.now at.0 at.1 width rest.now) }
+{
+    out.say(b"<g><title>");
+    write_title(out, view, turn);
+    out.say(more);
+    out.say(b"</title>\n");
+    write_outline(out, turn, is_undone, at, width);
+    out.say(rest)
+}
+
+/// The box of a turn whose cell has this place, with the lines that are in `scratch` below it.
+pub(crate) fn write_card(
+    out: &mut PictureText,
+    view: View<'_>,
+    turn: &TurnBox,
+    placed: &PlacedTurn,
+    slot: usize,
+    scratch: &mut Scratch,
+)
+    ensures { (es : List (Origin × Ending)) → AreNames view.entry.script.now es view.entry.names.now → SaysSome (IsBox view.entry.script.now es (box_top view.entry.layout.now) turn.now placed.now.is_undone slot) out.old out.new }
+{
+    let at = (
+        left_of(slot),
+        view.layout.box_top(slot / COLUMNS, turn.executor),
+    );
+    let width = view.layout.first_right(placed).saturating_sub(at.0);
+    let lines = scratch.below.bytes();
+    scratch.rest.clear();
+    write_cross(&mut scratch.rest, placed.is_undone, at, width);
+    write_inside(
+        &mut scratch.rest,
+        view,
+        turn,
+        placed,
+        at,
+        lines,
+        &mut scratch.line,
+    );
+    scratch.line.clear();
+    write_more(&mut scratch.line, placed.is_undone, lines);
+    let more = scratch.line.bytes();
+    write_parts(
+        out,
+        view,
+        turn,
+        placed.is_undone,
+        more,
+        at,
+        width,
+        scratch.rest.bytes(),
+    )
 }

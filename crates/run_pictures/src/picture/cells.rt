@@ -1,6 +1,6 @@
 //! The cells of a picture: one for each turn, and one for turns in a row that only give way.
 
-ghost use Rattle.std.specs.Prelude.{◌≡◌, ◌+◌, ◌-◌, ◌<◌, ◌≤◌, ◌^◌, ◌∷◌, ◌++◌, All, Bool, List, length, IfOk, OnOk};
+ghost use Rattle.std.specs.Prelude.{◌≡◌, ◌+◌, ◌-◌, ◌<◌, ◌≤◌, ◌^◌, ◌∷◌, ◌++◌, All, Bool, List, length, nat_lt, IfOk, OnOk};
 ghost use Rattle.run_pictures.specs.Cells.{AreOf, IsQuiet, cells_from, cells_of, run_cells, single_cells};
 
 use std::alloc::{AllocError, Global};
@@ -16,7 +16,9 @@ pub struct Cell {
 
 impl Cell {
     /// Whether its turns are folded: it has several.
-    pub(crate) fn is_fold(&self) -> bool {
+    pub(crate) fn is_fold(&self) -> bool
+        ensures { result ≡ nat_lt 1 self.now.turns }
+    {
         self.turns > 1
     }
 }

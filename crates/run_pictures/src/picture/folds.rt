@@ -1,5 +1,9 @@
 //! Turns that only give way, folded.
 
+ghost use Rattle.std.specs.Prelude.{nat_lt, IfOk};
+ghost use Rattle.run_pictures.specs.Drawn.{AreFolds, IsFoldOf, fold_text};
+ghost use Rattle.run_pictures.specs.SaysInside.{Says, SaysSome};
+
 use crate::picture::Picture;
 use crate::picture::boxes::TurnBox;
 use crate::picture::cells::Cell;
@@ -36,13 +40,22 @@ fn write_turn_at(out: &mut PictureText, picture: &Picture, by_column: &[usize], 
     }
 }
 
-// Begins the group of a fold, with a title that says how many turns it has, and which.
-fn begin_fold(out: &mut PictureText, picture: &Picture, by_column: &[usize], cell: &Cell) {
-    out.put(&[
-        TextPiece::Text("<g><title>"),
-        TextPiece::Number(cell.turns),
-        TextPiece::Text(" turns in a row that only give way: "),
-    ]);
+// Begins the group of a fold, with a title that says how many turns it has.
+fn begin_fold(out: &mut PictureText, cell: &Cell)
+    ensures { Says out.old out.new (fold_text cell.now.turns) }
+{
+    out.say(b"<g><title>");
+    out.number(cell.turns);
+    out.say(b" turns in a row that only give way: ")
+}
+
+// What its title says after that: which turns they are.
+fn write_first_and_last(
+    out: &mut PictureText,
+    picture: &Picture,
+    by_column: &[usize],
+    cell: &Cell,
+) {
     write_turn_at(out, picture, by_column, cell.first);
     out.say(b" to ");
     let last = cell.first.saturating_add(cell.turns).saturating_sub(1);
@@ -90,31 +103,88 @@ fn count_turns(counts: &mut [usize], picture: &Picture, by_column: &[usize], cel
     }
 }
 
-/// The folds that are shown, each in the lanes of its turns. In time linear in the turns, and for each fold in the executors. An `Err` says
-/// that a growth was refused.
-pub(crate) fn write_folds(
-    alloc: Global,
-    out: &mut PictureText,
+// What is known of the turns of folds, and what is written on again and again.
+#[derive(Drop)]
+struct FoldScratch {
+    by_column: Vec<usize>,
+    counts: Vec<usize>,
+    rest: PictureText,
+}
+
+// What stands of a fold after the beginning of its title, in the lanes of its turns.
+fn write_lanes(
+    scratch: &mut FoldScratch,
     picture: &Picture,
     layout: &Layout,
-) -> Result<(), AllocError> {
-    if !layout.has_folds() {
-        return Ok(());
-    }
-    let by_column = boxes_by_column(alloc, picture)?;
-    let mut counts = vec![in alloc; 0_usize; layout.lanes.len()]?;
-    for (slot, cell) in layout.cells.iter().enumerate() {
-        if cell.is_fold() {
-            count_turns(&mut counts, picture, &by_column, cell);
-            begin_fold(out, picture, &by_column, cell);
-            for (executor, count) in counts.iter().enumerate() {
-                if *count > 0 {
-                    let top = layout.box_top(slot / COLUMNS, executor);
-                    write_folded(out, *count, (left_of(slot), top));
-                }
-            }
-            out.say(b"</g>\n");
+    slot: usize,
+    cell: &Cell,
+) {
+    count_turns(&mut scratch.counts, picture, &scratch.by_column, cell);
+    scratch.rest.clear();
+    write_first_and_last(&mut scratch.rest, picture, &scratch.by_column, cell);
+    for (executor, count) in scratch.counts.iter().enumerate() {
+        if *count > 0 {
+            let top = layout.box_top(slot / COLUMNS, executor);
+            write_folded(&mut scratch.rest, *count, (left_of(slot), top));
         }
     }
-    Ok(())
+    scratch.rest.say(b"</g>\n")
+}
+
+// The fold of a cell, if it is one.
+fn write_fold(
+    out: &mut PictureText,
+    scratch: &mut FoldScratch,
+    picture: &Picture,
+    layout: &Layout,
+    slot: usize,
+    cell: &Cell,
+)
+    ensures { SaysSome (IsFoldOf cell.now (nat_lt 1 cell.now.turns)) out.old out.new }
+{
+    if !cell.is_fold() {
+        return;
+    }
+    write_lanes(scratch, picture, layout, slot, cell);
+    begin_fold(out, cell);
+    out.say(scratch.rest.bytes())
+}
+
+// What is known of the turns of folds.
+fn fold_scratch(
+    alloc: Global,
+    picture: &Picture,
+    layout: &Layout,
+) -> Result<FoldScratch, AllocError> {
+    Ok(FoldScratch {
+        by_column: boxes_by_column(alloc, picture)?,
+        counts: vec![in alloc; 0_usize; layout.lanes.len()]?,
+        rest: PictureText::new(alloc),
+    })
+}
+
+// The folds of all cells.
+fn write_all(out: &mut PictureText, scratch: &mut FoldScratch, picture: &Picture, layout: &Layout)
+    ensures { SaysSome (AreFolds layout.now.cells.items) out.old out.new }
+{
+    for slot in 0..layout.cells.len() {
+        write_fold(out, scratch, picture, layout, slot, &layout.cells[slot]);
+    }
+}
+
+/// The folds that are shown, each in the lanes of its turns. In time linear in the turns, and for each fold in the executors. An `Err` says
+/// that a growth was refused.
+pub(crate) fn folds_text(
+    alloc: Global,
+    picture: &Picture,
+    layout: &Layout,
+) -> Result<Vec<u8>, AllocError>
+    ensures { IfOk result (λ text. AreFolds layout.now.cells.items text.items) }
+{
+    let mut scratch = fold_scratch(alloc, picture, layout)?;
+    let mut out = PictureText::new(alloc);
+    write_all(&mut out, &mut scratch, picture, layout);
+    scratch.rest.whole()?;
+    let text = out.into_bytes()?;
+    Ok(text)
 }

@@ -1,5 +1,9 @@
 //! Where things stand in a picture. Lengths are in pixels, from the left and from the top.
 
+ghost use Rattle.std.specs.Prelude.{◌≡◌, ◌%◌, Bool, List, ◌++◌, IfOk, OnOk, length, replicate};
+ghost use Rattle.run_pictures.specs.Drawn.{first_of, last_cells, left_of, own_slot, shown_slot, slots_from};
+ghost use Rattle.run_pictures.specs.SaysInside.{IsOfLayout, box_top, top_of};
+
 use crate::TurnValues;
 use crate::picture::Picture;
 use crate::picture::cells::{Cell, cells_of};
@@ -132,32 +136,72 @@ fn sum_of(counts: &[usize]) -> usize {
     sum
 }
 
-// The cells of a picture, the last ones of which are shown. Where all turns find room in a row, none is folded.
+// Which turns only give way. Where all find room in a row, it is said of none, so that none is folded.
+fn quiet_of(
+    alloc: Global,
+    picture: &Picture,
+    values: &[Vec<TurnValues>],
+    log: &EventLog,
+) -> Result<Vec<bool>, AllocError>
+    ensures { IfOk result (λ quiet. length quiet.items ≡ length picture.now.boxes.items) }
+{
+    if picture.boxes.len() <= COLUMNS {
+        return vec![in alloc; false; picture.boxes.len()];
+    }
+    quiet_turns(alloc, picture, values, log)
+}
+
+// The last cells of turns, of which these flags say whether they only give way.
+fn last_cells(alloc: Global, quiet: &[bool]) -> Result<Vec<Cell>, AllocError>
+    ensures { IfOk result (λ cells. cells.items ≡ last_cells quiet.now) }
+{
+    let all = cells_of(alloc, quiet)?;
+    let (_, shown) = all.split_at(all.len().saturating_sub(SHOWN));
+    Vec::from_slice(alloc, shown)
+}
+
+// The cells of a picture, the last ones of which are shown.
 fn shown_cells(
     alloc: Global,
     picture: &Picture,
     values: &[Vec<TurnValues>],
     log: &EventLog,
-) -> Result<Vec<Cell>, AllocError> {
-    let quiet = if picture.boxes.len() <= COLUMNS {
-        vec![in alloc; false; picture.boxes.len()]?
-    } else {
-        quiet_turns(alloc, picture, values, log)?
-    };
-    let all = cells_of(alloc, &quiet)?;
-    let (_, shown) = all.split_at(all.len().saturating_sub(SHOWN));
-    Vec::from_slice(alloc, shown)
+) -> Result<Vec<Cell>, AllocError>
+    ensures { IfOk result (λ cells. (quiet : List Bool) × (length quiet ≡ length picture.now.boxes.items) × (cells.items ≡ last_cells quiet)) }
+{
+    let quiet = quiet_of(alloc, picture, values, log)?;
+    last_cells(alloc, &quiet)
+}
+
+// Adds the place of a cell for each of so many turns.
+fn add_slots(slots: &mut Vec<usize>, slot: usize, turns: usize) -> Result<(), AllocError>
+    ensures { OnOk result (slots.new.items ≡ slots.old.items ++ replicate turns slot) }
+{
+    for _turn in 0..turns {
+        slots.push(slot)?;
+    }
+    Ok(())
 }
 
 // The place of the cell of each column, from the first that is shown on.
-fn slots_of(alloc: Global, cells: &[Cell]) -> Result<Vec<usize>, AllocError> {
+fn slots_of(alloc: Global, cells: &[Cell]) -> Result<Vec<usize>, AllocError>
+    ensures { IfOk result (λ slots. slots.items ≡ slots_from 0 cells.now) }
+{
     let mut slots = Vec::new(alloc);
-    for (slot, cell) in cells.iter().enumerate() {
-        for _ in 0..cell.turns {
-            slots.push(slot)?;
-        }
+    for slot in 0..cells.len() {
+        add_slots(&mut slots, slot, cells[slot].turns)?;
     }
     Ok(slots)
+}
+
+// The column of the first of these cells; where there are none, how many columns there are.
+fn first_of(cells: &[Cell], columns: usize) -> usize
+    ensures { result ≡ first_of cells.now columns }
+{
+    match cells {
+        [first, ..] => first.first,
+        [] => columns,
+    }
 }
 
 // How wide a picture of so many cells is.
@@ -176,12 +220,11 @@ impl Layout {
         values: &[Vec<TurnValues>],
         log: &EventLog,
         tasks: usize,
-    ) -> Result<Layout, AllocError> {
+    ) -> Result<Layout, AllocError>
+        ensures { IfOk result (IsOfLayout (length picture.now.boxes.items)) }
+    {
         let cells = shown_cells(alloc, picture, values, log)?;
-        let first_column = match cells.first() {
-            Some(cell) => cell.first,
-            None => picture.boxes.len(),
-        };
+        let first_column = first_of(&cells, picture.boxes.len());
         let mut layout = Layout {
             rows: Vec::new(alloc),
             lanes: counted_lanes(alloc, picture, first_column)?,
@@ -199,7 +242,11 @@ impl Layout {
     }
 
     // Puts the lanes of each row one below the other.
-    fn lay(&mut self, alloc: Global, picture: &Picture, tasks: usize) -> Result<(), AllocError> {
+    fn lay(&mut self, alloc: Global, picture: &Picture, tasks: usize) -> Result<(), AllocError>
+        ensures cells { OnOk result (self.new.cells ≡ self.old.cells) }
+        ensures slots { OnOk result (self.new.slots ≡ self.old.slots) }
+        ensures first { OnOk result (self.new.first_column ≡ self.old.first_column) }
+    {
         let legend = legend_height(self, tasks);
         let used = used_lanes(alloc, self, picture)?;
         let over = if self.is_wrapped() {
@@ -222,6 +269,27 @@ impl Layout {
         self.rows = laid.rows;
         self.tops = laid.tops;
         Ok(())
+    }
+
+    // The place of the cell of a column, where that is shown.
+    fn shown_slot(&self, column: usize) -> Option<usize>
+        ensures { result ≡ shown_slot self.now.slots.items self.now.first_column column }
+    {
+        if column < self.first_column {
+            return None;
+        }
+        self.slots.get(column - self.first_column).copied()
+    }
+
+    /// The place of the cell that a turn has for itself, where that is shown.
+    pub fn own_slot(&self, placed: &PlacedTurn) -> Option<usize>
+        ensures { result ≡ own_slot self.now.cells.items self.now.slots.items self.now.first_column placed.now.moment.column }
+    {
+        let slot = self.shown_slot(placed.moment.column)?;
+        match self.cells.get(slot) {
+            Some(cell) if cell.is_fold() => None,
+            _ => Some(slot),
+        }
     }
 
     /// Whether the turn of a box is shown, by itself or folded.
@@ -288,7 +356,9 @@ impl Layout {
     }
 
     /// Where the lane of an executor begins in a row, if that row has it.
-    pub fn top(&self, row: usize, executor: usize) -> Option<usize> {
+    pub fn top(&self, row: usize, executor: usize) -> Option<usize>
+        ensures { result ≡ top_of self.now row executor }
+    {
         let first = row.saturating_mul(self.lanes.len());
         match self.tops.get(first.saturating_add(executor)) {
             Some(top) => *top,
@@ -297,7 +367,9 @@ impl Layout {
     }
 
     /// Where the boxes of an executor begin in a row.
-    pub fn box_top(&self, row: usize, executor: usize) -> usize {
+    pub fn box_top(&self, row: usize, executor: usize) -> usize
+        ensures { result ≡ box_top self.now row executor }
+    {
         match self.top(row, executor) {
             Some(top) => top.saturating_add(OVER),
             None => HEAD,
@@ -316,12 +388,16 @@ impl Layout {
 }
 
 /// Where a cell begins, by its place.
-pub(crate) fn left_of(slot: usize) -> usize {
-    (slot % COLUMNS).saturating_mul(PITCH).saturating_add(LEFT)
+pub(crate) fn left_of(slot: usize) -> usize
+    ensures { result ≡ left_of slot }
+{
+    slot % COLUMNS * PITCH + LEFT
 }
 
 /// The colour of a task, by its number in the palette.
-pub(crate) fn colour(task: TaskId) -> usize {
+pub(crate) fn colour(task: TaskId) -> usize
+    ensures { result ≡ task.0 % 12 }
+{
     task.0 as usize % 12
 }
 

@@ -1,5 +1,10 @@
 //! Texts that are being written.
 
+ghost use Rattle.std.specs.Prelude.{◌≡◌, [], false, IfOk};
+ghost use Rattle.swift_report.specs.Text.{exit_text, method_text, resume_text};
+ghost use Rattle.run_pictures.specs.Drawn.{cancelled_text, env_text, turn_text};
+ghost use Rattle.run_pictures.specs.SaysInside.{Says};
+
 use crate::picture::boxes::TurnBox;
 use crate::picture::pieces::{TextPiece, number, say};
 use crate::picture::word;
@@ -12,8 +17,8 @@ use swift_types::{Ending, MethodId, Resume, RootId};
 
 /// A text that is being written. Where memory runs out it ends there, and `whole` says so: who writes it asks at the end alone.
 pub(crate) struct PictureText {
-    bytes: Vec<u8>,
-    is_cut: bool,
+    pub bytes: Vec<u8>,
+    pub is_cut: bool,
 }
 
 impl Drop for PictureText {
@@ -25,7 +30,9 @@ impl Drop for PictureText {
 
 impl PictureText {
     /// A text that goes on after these bytes.
-    pub(crate) fn after(bytes: Vec<u8>) -> PictureText {
+    pub(crate) fn after(bytes: Vec<u8>) -> PictureText
+        ensures { result.bytes.items ≡ bytes.items }
+    {
         PictureText {
             bytes,
             is_cut: false,
@@ -33,18 +40,25 @@ impl PictureText {
     }
 
     /// Nothing.
-    pub(crate) fn new(alloc: Global) -> PictureText {
+    pub(crate) fn new(alloc: Global) -> PictureText
+        ensures { result.bytes.items ≡ [] }
+    {
         PictureText::after(Vec::new(alloc))
     }
 
     /// The text, if there was memory for all of it.
-    pub(crate) fn into_bytes(self) -> Result<Vec<u8>, AllocError> {
+    pub(crate) fn into_bytes(self) -> Result<Vec<u8>, AllocError>
+        ensures whole { IfOk result (λ bytes. self.is_cut ≡ false) }
+        ensures bytes { IfOk result (λ bytes. bytes.items ≡ self.bytes.items) }
+    {
         let PictureText { bytes, is_cut } = self;
         if is_cut { Err(AllocError) } else { Ok(bytes) }
     }
 
     /// What is written so far.
-    pub(crate) fn bytes(&self) -> &[u8] {
+    pub(crate) fn bytes(&self) -> &[u8]
+        ensures { result.now ≡ self.now.bytes.items }
+    {
         &self.bytes
     }
 
@@ -66,18 +80,20 @@ impl PictureText {
     }
 
     /// Goes on with these bytes.
-    pub(crate) fn say(&mut self, words: &[u8]) {
+    pub(crate) fn say(&mut self, words: &[u8])
+        ensures { Says self.old self.new words.now }
+    {
         if !self.is_cut {
-            let done = say(&mut self.bytes, words);
-            self.need(done);
+            self.is_cut = say(&mut self.bytes, words).is_err();
         }
     }
 
     /// Goes on with a number in decimal.
-    pub(crate) fn number<I: Integer>(&mut self, value: I) {
+    pub(crate) fn number<I: Integer>(&mut self, value: I)
+        ensures { Says self.old self.new (I.text value) }
+    {
         if !self.is_cut {
-            let done = number(&mut self.bytes, value);
-            self.need(done);
+            self.is_cut = number(&mut self.bytes, value).is_err();
         }
     }
 
@@ -126,18 +142,20 @@ impl PictureText {
     }
 
     /// Goes on with what a turn began with.
-    pub(crate) fn resume(&mut self, resume: Resume) {
+    pub(crate) fn resume(&mut self, resume: Resume)
+        ensures { Says self.old self.new (resume_text resume) }
+    {
         if !self.is_cut {
-            let done = word::resume(&mut self.bytes, resume);
-            self.need(done);
+            self.is_cut = word::resume(&mut self.bytes, resume).is_err();
         }
     }
 
     /// Goes on with how a turn ended.
-    pub(crate) fn exit(&mut self, script: &Script, exit: BriefExit) {
+    pub(crate) fn exit(&mut self, script: &Script, exit: BriefExit)
+        ensures { Says self.old self.new (exit_text script.now exit) }
+    {
         if !self.is_cut {
-            let done = word::exit(&mut self.bytes, script, exit);
-            self.need(done);
+            self.is_cut = word::exit(&mut self.bytes, script, exit).is_err();
         }
     }
 
@@ -150,10 +168,11 @@ impl PictureText {
     }
 
     /// Goes on with a method by its names, that of its actor first.
-    pub(crate) fn method(&mut self, script: &Script, method: MethodId) {
+    pub(crate) fn method(&mut self, script: &Script, method: MethodId)
+        ensures { Says self.old self.new (method_text script.now method.0) }
+    {
         if !self.is_cut {
-            let done = word::method(&mut self.bytes, script, method);
-            self.need(done);
+            self.is_cut = word::method(&mut self.bytes, script, method).is_err();
         }
     }
 
@@ -183,23 +202,31 @@ impl PictureText {
     }
 
     /// Goes on with a turn, by its task and its number there.
-    pub(crate) fn turn(&mut self, turn: &TurnBox) {
-        self.put(&[
-            TextPiece::Text("t"),
-            TextPiece::Number(turn.task.0 as usize),
-            TextPiece::Text("."),
-            TextPiece::Number(turn.number as usize),
-        ])
+    pub(crate) fn turn(&mut self, turn: &TurnBox)
+        ensures { Says self.old self.new (turn_text turn.now) }
+    {
+        self.say(b"t");
+        self.number(turn.task.0);
+        self.say(b".");
+        self.number(turn.number)
+    }
+
+    // Goes on with a word where a task was cancelled.
+    fn cancelled(&mut self, cancelled: bool)
+        ensures { Says self.old self.new (cancelled_text cancelled) }
+    {
+        if cancelled {
+            self.say(b" c1")
+        }
     }
 
     /// Goes on with what a turn was given: its task's priority, and whether the task was cancelled, where it was.
-    pub(crate) fn env(&mut self, turn: &TurnBox) {
-        let cancelled = if turn.env.cancelled { " c1" } else { "" };
-        self.put(&[
-            TextPiece::Text("p"),
-            TextPiece::Number(turn.env.priority.number() as usize),
-            TextPiece::Text(cancelled),
-        ])
+    pub(crate) fn env(&mut self, turn: &TurnBox)
+        ensures { Says self.old self.new (env_text turn.now.env) }
+    {
+        self.say(b"p");
+        self.number(turn.env.priority.number());
+        self.cancelled(turn.env.cancelled)
     }
 }
 

@@ -1,6 +1,6 @@
 //! Which turns only give way.
 
-ghost use Rattle.std.specs.Prelude.{◌≡◌, ◌+◌, drop};
+ghost use Rattle.std.specs.Prelude.{◌≡◌, ◌+◌, drop, length, IfOk};
 ghost use Rattle.run_pictures.specs.GivingWay.{gives_way, goes_on, has_none, is_go, is_same_env, is_yield, only_goes_on};
 
 use crate::picture::Picture;
@@ -149,7 +149,9 @@ pub(crate) fn quiet_turns(
     picture: &Picture,
     values: &[Vec<TurnValues>],
     log: &EventLog,
-) -> Result<Vec<bool>, AllocError> {
+) -> Result<Vec<bool>, AllocError>
+    ensures { IfOk result (λ quiet. length quiet.items ≡ length picture.now.boxes.items) }
+{
     let mut quiet = vec![in alloc; false; picture.boxes.len()]?;
     let mut executor = 0_usize;
     let mut first = 0_usize;
@@ -158,8 +160,14 @@ pub(crate) fn quiet_turns(
             executor = turn.executor;
             first = place;
         }
-        if let Some(flag) = quiet.get_mut(placed.moment.column) {
-            *flag = is_quiet(picture, values, log, place, place.saturating_sub(first));
+        if placed.moment.column < quiet.len() {
+            quiet[placed.moment.column] = is_quiet(
+                picture,
+                values,
+                log,
+                place,
+                place.saturating_sub(first),
+            );
         }
     }
     Ok(quiet)

@@ -1,9 +1,15 @@
 //! A picture as SVG.
 
+ghost use Rattle.std.specs.Prelude.{◌≡◌, List, ◌++◌, IfOk, OnOk, length};
+ghost use Rattle.swift_events.specs.declared.life.Origin.{Origin};
+ghost use Rattle.swift_types.specs.declared.outcome.Ending.{Ending};
+ghost use Rattle.run_pictures.specs.Drawn.{AreDrawn, IsDrawn, IsPicture};
+ghost use Rattle.run_pictures.specs.SaysInside.{AreNames, IsOfLayout, SaysSome, sheet_of};
+
 use crate::picture::boxes::TurnBox;
-use crate::picture::card::{View, write_card};
+use crate::picture::card::{Scratch, View, write_card};
 use crate::picture::fields::{write_broken, write_changes};
-use crate::picture::folds::write_folds;
+use crate::picture::folds::folds_text;
 use crate::picture::layout::{LEFT, Lane, Layout, OVER, TALL, left_of};
 use crate::picture::legend::write_legend;
 use crate::picture::lines::write_lines;
@@ -215,13 +221,6 @@ fn write_rows(out: &mut PictureText, view: View<'_>) {
     }
 }
 
-// What is written on, again and again: the lines below a box, and a line in it.
-#[derive(Drop)]
-struct Scratch {
-    below: PictureText,
-    line: PictureText,
-}
-
 // What stands below a box: what its turn did with groups, and to the fields.
 fn write_lines_below(
     out: &mut PictureText,
@@ -241,19 +240,22 @@ fn write_lines_below(
     }
 }
 
-// The boxes of an executor that are shown, and not folded.
-fn write_lane_boxes(out: &mut PictureText, view: View<'_>, lane: &Lane, scratch: &mut Scratch) {
-    for at in 0..lane.boxes {
-        let place = lane.first.saturating_add(at);
-        let Some((turn, placed)) = view.picture.at(place) else {
-            continue;
-        };
-        if view.layout.shows(placed) && !view.layout.is_folded(placed) {
-            write_lines_below(&mut scratch.below, view, turn, placed, at);
-            let lines = scratch.below.bytes();
-            write_card(out, view, turn, placed, lines, &mut scratch.line);
-        }
-    }
+// The box of a turn, which stands at place `at` of its executor's journal: nothing where it is not shown by itself.
+fn write_box(
+    out: &mut PictureText,
+    view: View<'_>,
+    turn: &TurnBox,
+    placed: &PlacedTurn,
+    at: usize,
+    scratch: &mut Scratch,
+)
+    ensures { (es : List (Origin × Ending)) → AreNames view.entry.script.now es view.entry.names.now → SaysSome (IsDrawn (sheet_of view.entry.script.now es view.entry.layout.now) turn.now placed.now) out.old out.new }
+{
+    let Some(slot) = view.layout.own_slot(placed) else {
+        return;
+    };
+    write_lines_below(&mut scratch.below, view, turn, placed, at);
+    write_card(out, view, turn, placed, slot, scratch)
 }
 
 // What the turns of an executor did to its fields; nothing where it has no journal.
@@ -294,7 +296,9 @@ fn names_of(
     alloc: Global,
     script: &Script,
     endings: &[(Origin, Ending)],
-) -> Result<Vec<Vec<u8>>, AllocError> {
+) -> Result<Vec<Vec<u8>>, AllocError>
+    ensures { IfOk result (λ names. AreNames script.now endings.now names.items) }
+{
     let mut names = Vec::with_capacity(alloc, endings.len())?;
     for place in 0..endings.len() {
         let Ok(number) = u32::try_from(place) else {
@@ -305,34 +309,100 @@ fn names_of(
     Ok(names)
 }
 
-fn write_boxes(out: &mut PictureText, view: View<'_>, scratch: &mut Scratch) {
-    for lane in &view.layout.lanes {
-        write_lane_boxes(out, view, lane, scratch);
+// The boxes of all turns, in order.
+fn write_boxes(out: &mut PictureText, view: View<'_>, scratch: &mut Scratch)
+    ensures { (es : List (Origin × Ending)) → AreNames view.entry.script.now es view.entry.names.now → SaysSome (AreDrawn (sheet_of view.entry.script.now es view.entry.layout.now) view.entry.picture.now.boxes.items view.entry.picture.now.placed.items) out.old out.new }
+{
+    let turns = &view.picture.boxes;
+    let placed = &view.picture.placed;
+    let mut executor = 0_usize;
+    let mut first = 0_usize;
+    for place in 0..turns.len().min(placed.len()) {
+        if turns[place].executor != executor {
+            executor = turns[place].executor;
+            first = place;
+        }
+        let at = place.saturating_sub(first);
+        write_box(out, view, &turns[place], &placed[place], at, scratch);
     }
 }
 
-// The whole text. Where memory ran out for what is written on, it did for the text too.
-fn write_svg(
+// The same as a text.
+fn boxes_text(alloc: Global, view: View<'_>, scratch: &mut Scratch) -> Result<Vec<u8>, AllocError>
+    ensures { IfOk result (λ text. (es : List (Origin × Ending)) → AreNames view.entry.script.now es view.entry.names.now → AreDrawn (sheet_of view.entry.script.now es view.entry.layout.now) view.entry.picture.now.boxes.items view.entry.picture.now.placed.items text.items) }
+{
+    let mut out = PictureText::new(alloc);
+    write_boxes(&mut out, view, scratch);
+    scratch.below.whole()?;
+    scratch.line.whole()?;
+    scratch.rest.whole()?;
+    let text = out.into_bytes()?;
+    Ok(text)
+}
+
+// What comes before the boxes.
+fn text_before(
     alloc: Global,
-    out: &mut PictureText,
     view: View<'_>,
-    report: &Report,
-    heading: (&str, u32),
-    scratch: &mut Scratch,
-) {
-    write_head(out, view.layout, heading.0, heading.1);
+    name: &str,
+    workers: u32,
+) -> Result<Vec<u8>, AllocError> {
+    let mut out = PictureText::new(alloc);
+    write_head(&mut out, view.layout, name, workers);
     if view.layout.is_wrapped() {
-        write_overview(out, view.script, view.picture, view.layout);
+        write_overview(&mut out, view.script, view.picture, view.layout);
     }
-    write_rows(out, view);
-    write_lines(out, view.layout, view.picture);
-    write_boxes(out, view, scratch);
-    let folds = write_folds(alloc, out, view.picture, view.layout);
-    out.need(folds);
-    write_legend(out, view, &report.endings, &mut scratch.line);
+    write_rows(&mut out, view);
+    write_lines(&mut out, view.layout, view.picture);
+    out.into_bytes()
+}
+
+// What comes after the folds. What is written on is written on again.
+fn text_after(
+    alloc: Global,
+    view: View<'_>,
+    endings: &[(Origin, Ending)],
+    scratch: &mut Scratch,
+) -> Result<Vec<u8>, AllocError> {
+    let mut out = PictureText::new(alloc);
+    write_legend(&mut out, view, endings, &mut scratch.line);
     out.say(b"</svg>\n");
-    out.need(scratch.below.whole());
-    out.need(scratch.line.whole())
+    scratch.line.whole()?;
+    out.into_bytes()
+}
+
+// Appends the boxes, the folds, and what comes after them.
+fn join(text: &mut Vec<u8>, boxes: &[u8], folds: &[u8], after: &[u8]) -> Result<(), AllocError>
+    ensures { OnOk result (text.new.items ≡ text.old.items ++ boxes.now ++ folds.now ++ after.now) }
+{
+    text.extend_from_slice(boxes)?;
+    text.extend_from_slice(folds)?;
+    text.extend_from_slice(after)
+}
+
+// The boxes and the folds, and what comes before and after them, as one text.
+fn whole_text(
+    alloc: Global,
+    view: View<'_>,
+    endings: &[(Origin, Ending)],
+    name: &str,
+    workers: u32,
+) -> Result<Vec<u8>, AllocError>
+    requires names { AreNames view.script.now endings.now view.names.now }
+    requires layout { IsOfLayout (length view.picture.now.boxes.items) view.layout.now }
+    ensures { IfOk result (λ text. IsPicture view.entry.script.now endings.now view.entry.picture.now text.items) }
+{
+    let mut scratch = Scratch {
+        below: PictureText::new(alloc),
+        line: PictureText::new(alloc),
+        rest: PictureText::new(alloc),
+    };
+    let mut text = text_before(alloc, view, name, workers)?;
+    let boxes = boxes_text(alloc, view, &mut scratch)?;
+    let folds = folds_text(alloc, view.picture, view.layout)?;
+    let after = text_after(alloc, view, endings, &mut scratch)?;
+    join(&mut text, &boxes, &folds, &after)?;
+    Ok(text)
 }
 
 /// What the turns of a run's journals did, by executors, in order.
@@ -351,6 +421,10 @@ pub struct PlayedTurns<'a> {
 /// stands below boxes is told by `played`. It is linear in the picture and the log, and takes for each row the executors, and what names of
 /// tasks cost (`task_name`).
 ///
+/// What it promises: the text has, one after the other, a box for each turn that is shown by itself, which begins with the turn's line and
+/// stands in the lane of its executor, and then for each cell of several turns how many they are. It says nothing of what stands before
+/// and after these, nor of what else is in them, nor in which order turns began, nor which were undone.
+///
 /// # Errors
 ///
 /// `AllocError` where no memory is left for the text.
@@ -362,7 +436,9 @@ pub fn svg_text(
     played: PlayedTurns<'_>,
     name: &str,
     workers: u32,
-) -> Result<Vec<u8>, AllocError> {
+) -> Result<Vec<u8>, AllocError>
+    ensures { IfOk result (λ text. IsPicture script.now report.now.endings.items picture.now text.items) }
+{
     let names = names_of(alloc, script, &report.endings)?;
     let tasks = report.endings.len();
     let layout = Layout::of(alloc, picture, played.values, &report.log, tasks)?;
@@ -375,11 +451,6 @@ pub fn svg_text(
         values: played.values,
         broken: played.broken,
     };
-    let mut scratch = Scratch {
-        below: PictureText::new(alloc),
-        line: PictureText::new(alloc),
-    };
-    let mut out = PictureText::new(alloc);
-    write_svg(alloc, &mut out, view, report, (name, workers), &mut scratch);
-    out.into_bytes()
+    let text = whole_text(alloc, view, &report.endings, name, workers)?;
+    Ok(text)
 }
