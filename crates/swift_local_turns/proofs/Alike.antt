@@ -15,7 +15,7 @@ alike_same a = record { told = refl; origin = λ t. refl; ending = λ t. refl; w
 -- they stay so
 
 -- what follows from a life and its next event
-pushed : {A : Type 0} (f : Life → A) (e : Event) → ((l m : Life) → f l ≡ f m → f (lived l e) ≡ f (lived m e)) → (a b : List Event) → ((t : ℕ) → f (life_of t a) ≡ f (life_of t b)) → (t : ℕ) → f (life_of t (a ++ e ∷ [])) ≡ f (life_of t (b ++ e ∷ []))
+pub pushed : {A : Type 0} (f : Life → A) (e : Event) → ((l m : Life) → f l ≡ f m → f (lived l e) ≡ f (lived m e)) → (a b : List Event) → ((t : ℕ) → f (life_of t a) ≡ f (life_of t b)) → (t : ℕ) → f (life_of t (a ++ e ∷ [])) ≡ f (life_of t (b ++ e ∷ []))
 pushed f e go a b h t = elim (cases_eq (task_of e) t) [
   | inl same ↦ ap f (life_of-push_same t a e same) ∙ go (life_of t a) (life_of t b) (h t) ∙ sym (ap f (life_of-push_same t b e same))
   | inr other ↦ ap f (life_of-push_other t a e other) ∙ h t ∙ sym (ap f (life_of-push_other t b e other))

@@ -13,3 +13,4 @@ pub mod Goers
 pub mod Open
 pub mod Changes
 pub mod Segments
+pub mod Committed

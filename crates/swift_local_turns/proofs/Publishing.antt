@@ -2,7 +2,7 @@
 use Rattle.swift_local_turns.proofs.Prelude.{◌≡◌, ◌≢◌, ℕ, ℤ, ◌+◌, List, [], ◌∷◌, ◌++◌, refl, sym, ◌∙◌, ap, subst, append_assoc, append-nil, Option, Some, None, ◌==◌, cond-false, ne_eqb, ScriptView, CheckpointView, Event, Begin, Apply, Give, Life, life_of, life_of-push_other, filter_map-push_none, is_current, JobFacts, task, Block, added, begun, ran, folded, Standing, at_first, with_jobs, taken, after_block, after_blocks, record_in, checkpoint_at, fields_of, Stands, AllStand}
 use Rattle.swift_journal.specs.Records.{RecordView}
 use Rattle.swift_journal.specs.Replay.{replay, IsLawfulRecord}
-use Rattle.swift_local_turns.specs.Publishing.{IsBeside, AllBeside, StillCounts, HoldersMayPublish}
+use Rattle.swift_local_turns.specs.Publishing.{IsBeside, AllBeside, StillCounts, HoldersMayPublish, AllLocal, RootsMayPublish}
 use Rattle.swift_local_turns.proofs.Alike.{Alike, alike_same}
 use Rattle.swift_local_turns.proofs.Ends.{ends_alike, fit_alike}
 use Rattle.swift_local_turns.proofs.Shared.{after_push, IsLocalStep, local_step, leaves}
@@ -87,3 +87,18 @@ module _ (script : ScriptView) (cps : List CheckpointView) (before : List Block)
 
 pub may_publish : HoldersMayPublish
 may_publish script cps before more e r stand beside stands = still_counts script cps before e r more stand beside stands
+
+module _ (script : ScriptView) (cps : List CheckpointView) (before : List Block) where
+  abbrev After : List Block → List Event
+  After bs = (after_blocks script (at_first script) bs).log
+
+  -- local blocks say nothing that the log before them does not
+  still_alike : (more bs : List Block) → AllStand script cps bs more → AllLocal script bs more → Alike (After bs) (After before) → Alike (After (bs ++ more)) (After before)
+  still_alike [] bs stand locals alike = subst (λ (xs : List Block). Alike (After xs) (After before)) (sym (append-nil bs)) alike
+  still_alike (b ∷ more) bs stand locals alike =
+      subst (λ (xs : List Block). Alike (After xs) (After before)) (append_assoc bs (b ∷ []) more)
+      (still_alike more (bs ++ b ∷ []) stand.1 locals.1
+      (subst (λ (z : Standing). Alike z.log (After before)) (sym (after_push script (at_first script) bs b)) (leaves script cps bs b (After before) stand.0 locals.0 alike)))
+
+pub roots_may_publish : RootsMayPublish
+roots_may_publish script cps before more r stand locals stands = (stands.0, (still_alike script cps before more before stand locals (alike_same _)).origin r ∙ stands.1)

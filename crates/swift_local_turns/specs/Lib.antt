@@ -6,3 +6,4 @@ pub mod Publishing
 pub mod Room
 pub mod Changes
 pub mod Segments
+pub mod Committed

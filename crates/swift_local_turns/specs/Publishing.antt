@@ -7,7 +7,7 @@ use Rattle.swift_turn.specs.Body.{Advanced}
 use Rattle.swift_journal.specs.Records.{RecordView}
 use Rattle.swift_journal.specs.Checkpoints.{CheckpointView}
 use Rattle.swift_history.specs.TurnEnds.{WaitingTaskView}
-use Rattle.swift_history.specs.Histories.{Block, begun, ran, Standing, at_first, after_blocks, Stands, AllStand}
+use Rattle.swift_history.specs.Histories.{Block, added, begun, ran, Standing, at_first, after_blocks, Stands, AllStand}
 use Rattle.swift_local_turns.specs.LocalTurns.{is_local_block}
 use Rattle.swift_local_turns.specs.Answers.{stage_of, EndsAlike}
 
@@ -37,3 +37,13 @@ pub record StillCounts (script : ScriptView) (checkpoints : List CheckpointView)
 abbrev pub HoldersMayPublish : Type 0
 HoldersMayPublish = (script : ScriptView) (checkpoints : List CheckpointView) (before more : List Block) (e : ℕ) (r : RecordView)
     → AllStand script checkpoints before more → AllBeside script r.task e before more → Stands script checkpoints before (ran e r) → StillCounts script checkpoints before more e r
+
+-- each of these blocks leaves the shared log as it is, after those before it
+abbrev pub AllLocal : ScriptView → List Block → List Block → Type 0
+AllLocal script before [] = Unit {0}
+AllLocal script before (b ∷ bs) = (is_local_block (after_blocks script (at_first script) before) b ≡ true) × AllLocal script (before ++ b ∷ []) bs
+
+-- A root may be added after such blocks as before them. What that writes and makes depends on no log.
+abbrev pub RootsMayPublish : Type 0
+RootsMayPublish = (script : ScriptView) (checkpoints : List CheckpointView) (before more : List Block) (r : ℕ)
+    → AllStand script checkpoints before more → AllLocal script before more → Stands script checkpoints before (added r) → Stands script checkpoints (before ++ more) (added r)

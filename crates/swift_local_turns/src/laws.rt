@@ -2,9 +2,10 @@
 
 ghost use Rattle.swift_local_turns.specs.Answers.{EnvsByShared, SharedLogsAnswer, TurnsEndAlike, TurnsFitAlike};
 ghost use Rattle.swift_local_turns.specs.Changes.{LevelsStay, TurnsBeginByCounts};
+ghost use Rattle.swift_local_turns.specs.Committed.{TurnsMayBeCommitted, WholeTurnsAreSilent};
 ghost use Rattle.swift_local_turns.specs.LocalTurns.{LocalTurnsEnd};
 ghost use Rattle.swift_local_turns.specs.Merges.{JobEventsMayLieAnywhere, MergesAreTheLog};
-ghost use Rattle.swift_local_turns.specs.Publishing.{HoldersMayPublish};
+ghost use Rattle.swift_local_turns.specs.Publishing.{HoldersMayPublish, RootsMayPublish};
 ghost use Rattle.swift_local_turns.specs.Room.{RoomHasToBeCounted, RoomIsCounted};
 ghost use Rattle.swift_local_turns.specs.Segments.{SegmentsAreTheLog, SegmentsKeepEach};
 ghost use Rattle.swift_local_turns.specs.Tickets.{GivenIsCurrent, GivenIsOpen};
@@ -59,6 +60,11 @@ pub fn holders_may_publish()
     ensures { HoldersMayPublish }
 {}
 
+/// Who has computed what a root adds may publish it after local steps of others (our own).
+pub fn roots_may_publish()
+    ensures { RootsMayPublish }
+{}
+
 /// What a begin and a local turn change of the room that is reserved is a number (our own).
 pub fn room_is_counted()
     ensures { RoomIsCounted }
@@ -87,4 +93,14 @@ pub fn segments_keep_each()
 /// The pieces of such segments, put in order of their stamps, are the log (our own).
 pub fn segments_are_the_log()
     ensures { SegmentsAreTheLog }
+{}
+
+/// The log of a history without its whole turns answers as the whole log does, and gives turns the same (our own).
+pub fn whole_turns_are_silent()
+    ensures { WholeTurnsAreSilent }
+{}
+
+/// A local turn that was played by what the log without whole turns gives may begin and be applied at once (our own).
+pub fn turns_may_be_committed()
+    ensures { TurnsMayBeCommitted }
 {}
