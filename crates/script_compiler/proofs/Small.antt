@@ -1,5 +1,5 @@
 -- Sizes, one thing after the other; and a script that is no larger than its text has few methods.
-use Rattle.script_compiler.proofs.Prelude.{◌≡◌, ◌≤◌, ◌<◌, ◌+◌, ℕ, suc, List, [], ◌∷◌, length, map, drop, get_or, ap, arith, length-append, AllZip, length-map, BYTES, Method, Actor, view_method, view_actor, DeclTree, Executes, Binds, Acts, Roots, method_size, methods_size, script_size, DirectoryView, ScriptView, script_in, IsChecked, PlanView, actors_size, Compiled, method_of, methods_from, compiled_by, IsCompiled}
+use Rattle.script_compiler.proofs.Prelude.{◌≡◌, ◌≤◌, ◌<◌, ◌+◌, ℕ, suc, List, [], ◌∷◌, length, map, drop, get_or, ap, arith, length-append, AllZip, length-map, BYTES, Method, Actor, view_method, view_actor, DeclTree, Executes, Binds, Acts, Roots, method_size, methods_size, script_size, script_in, PlanView, actors_size, Compiled, method_of, methods_from, compiled_by, IsCompiled}
 use Rattle.script_compiler.proofs.Room.{few_in}
 use Rattle.script_compiler.proofs.Steps.{front}
 
@@ -21,9 +21,6 @@ actors_small (Executes x ∷ xs) = omega (arith, actors_small xs)
 actors_small (Binds l ∷ xs) = omega (arith, actors_small xs)
 actors_small (Acts a ∷ xs) = omega (arith, actors_small xs)
 actors_small (Roots r ∷ xs) = omega (arith, actors_small xs)
-
-pub small_here : (s : ScriptView) (d : DirectoryView) → IsChecked s d → actors_size s.actors ≤ BYTES
-small_here s d c = omega (arith, actors_small c.decls, ap (λ (t : ScriptView). actors_size t.actors) c.is, c.size)
 
 -- two lists that agree are as long
 as_long : {A B : Type 0} (R : A → B → Type 0) (xs : List A) (ys : List B) → AllZip R xs ys → length xs ≡ length ys

@@ -1,9 +1,12 @@
 -- Statements with blocks of their own: how many names come up to each part, and what stands after them.
-use Rattle.script_names.proofs.Prelude.{rules, ◌≡◌, ◌≤◌, ℕ, List, [], ◌∷◌, ◌++◌, length, map, take, refl, sym, ap, ◌∙◌, arith, take-length, take-append_seam, Expr, Head, Stmt, Block, the_lemmas, HeadTree, StmtTree, block_tree, view, view_head, view_stmt, Outside, ScopeView, past, past_head, past_stmt, past_block, scope_after, scope_within}
+use Rattle.script_names.proofs.Prelude.{rules, ◌≡◌, ◌≤◌, ℕ, List, [], ◌∷◌, ◌++◌, length, map, take, refl, sym, ap, ◌∙◌, arith, take-length, take-append_seam, HeadTree, StmtTree, block_tree, view, view_head, view_stmt, ScopeView, past, past_head, past_stmt, past_block, scope_after, scope_within}
 use Rattle.std.specs.Global.{Vec}
-use Rattle.script_grammar.specs.declared.statement.Stmt.{IfElse}
+use Rattle.script_grammar.specs.declared.expression.Expr.{Expr}
+use Rattle.script_grammar.specs.declared.statement.Head.{Head}
+use Rattle.script_grammar.specs.declared.statement.Stmt.{Stmt, Block, IfElse, the_lemmas}
 use Rattle.script_grammar.specs.Tree as tree
 use Rattle.script_names.specs.declared.scope.NameKind.TheVariants as kind
+use Rattle.script_names.specs.declared.scope.Outside.{Outside}
 use Rattle.script_names.proofs.Grows.{block_grows}
 
 view-Block : (h : Head) (b : Vec Stmt) → view_stmt (Block h b) ≡ tree.Headed (view_head h) (block_tree (map view_stmt b.items))

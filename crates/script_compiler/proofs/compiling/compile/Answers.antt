@@ -1,25 +1,12 @@
-use Rattle.script_compiler.proofs.Prelude.{ap, subst, sym, ◌∙◌, length, arith, IfOk, length-map, view_actor, DirectoryView, PlanView, tree_from, IsChecked, compiled_by, IsCompiled}
-use Rattle.script_compiler.proofs.ByKinds.{plan_made}
-use Rattle.script_compiler.proofs.InOrder.{few_here, few_declared}
+use Rattle.script_compiler.proofs.Prelude.{map, sym, subst, view_decl, HasFewNames}
 use Rattle.script_compiler.proofs.Room.{few_names}
 use Rattle.script_compiler.proofs.compiling.compile.Goals as goal
 
-pub of-requires : goal.of-requires
-of-requires c =
-    let tree = tree_from c.args.executors.now c.args.locals.now c.args.actors.now c.args.roots.now in
-    let few = few_here tree c.args.declared c.requires in
-    record {
-      names = few_names c.args.declared c.requires.decls c.requires.declared c.requires.names c.requires.size;
-      executors = few_declared tree c.args.declared c.requires;
-      actors = omega (arith, few, length-map c.args.actors.now view_actor);
-    }
+pub of-plan-requires : goal.of-plan-requires
+of-plan-requires c = subst HasFewNames (sym c.in_ok-declared.ensures) (few_names (map view_decl c.args.decls.now) c.requires.size)
 
-pub by_plan-requires : goal.by_plan-requires
-by_plan-requires c =
-    let tree = tree_from c.args.executors.now c.args.locals.now c.args.actors.now c.args.roots.now in
-    subst (IsChecked tree) (sym (ap (λ (p : PlanView). p.directory) c.in_ok-plan.ensures)) c.requires
-
-pub returns : goal.returns
-returns c =
-    let tree = tree_from c.args.executors.now c.args.locals.now c.args.actors.now c.args.roots.now in
-    subst (λ (p : PlanView). IfOk c.by_plan.result (λ m. IsCompiled m (compiled_by p tree))) (c.in_ok-plan.ensures ∙ plan_made tree c.args.declared c.requires) c.by_plan.ensures
+-- missing, by names that the check will print:
+-- `finds`: an error of `declarations` is that of names_error, since the plan's directory is directory_of (script_fails), and where it gives
+--   parts there is none (the same by subst);
+-- what compile_executors asks for: length actors ≤ ACTORS, by few_actors and as_many (as it was in by_plan);
+-- `compiled`: the record of by_plan (by_actors, same_invariants, and the clauses of `declarations`), over plan_made.
