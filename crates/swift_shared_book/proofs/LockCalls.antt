@@ -1,10 +1,11 @@
 -- What the calls of a lock know of their seats before and after the steps.
-use Rattle.swift_shared_book.proofs.Prelude.{◌≡◌, ℕ, ◌==◌, ◌<◌, ◌≤◌, true, List, [], ◌∷◌, Option, Some, None, IsSome, IfSome, MatchBool, refl, sym, ap, ◌∙◌, subst, arith, nat_tests, Step, Allows, Final, Seen, at_map, LockKnown, MayLearn, MayUnlock, TableOf, known_in, IsWordFor, IsUnlocked, IsKeptBy, LockInvariant, SeatOf, Takes, Unlocks, CarriesFor}
-use mathlib.Core.Option.{some, some-injective}
+use Rattle.swift_shared_book.proofs.Prelude.{◌≡◌, ℕ, ◌==◌, ◌<◌, ◌≤◌, true, List, [], ◌∷◌, Option, Some, None, IsSome, IfSome, MatchBool, refl, sym, ap, ◌∙◌, subst, arith, nat_tests, Step, Allows, Final, Seen, step, at_map, LockKnown, MayLearn, MayPublish, MayUnlock, TableOf, known_in, IsWordFor, IsUnlocked, IsKeptBy, LockInvariant, SeatOf, Publishes, Takes, Unlocks, CarriesFor}
+use mathlib.Core.Option.{none, some, some-injective}
+use prog.Atomic.{either}
 use lib.ListN.{get_elem?}
-use Rattle.swift_shared_book.proofs.LockSteps.{Rule, unlocks}
+use Rattle.swift_shared_book.proofs.LockSteps.{Rule, publishes, unlocks}
 
-module _ {T I V : Type 0} (image_of : T → I) (holds : I → List V → Type 0) where
+module _ {T I V : Type 0} (image_of : T → I) (holds : ℕ → I → List V → Type 0) where
   some_of : (h : Option I) → IsSome h → (x : I) × (h ≡ Some x)
   some_of (Some x) is = (x, refl)
   some_of None is = cc
@@ -19,6 +20,13 @@ module _ {T I V : Type 0} (image_of : T → I) (holds : I → List V → Type 0)
       subst (λ o. IfSome o (λ taken. MayUnlock holds me.0.known taken (image_of value) (then me.0.known taken (image_of value)))) h.1 may in
       subst (λ (m : SeatOf T I V). Allows (Rule image_of holds) slots id m 0 (λ n. 0) (Unlocks image_of then st m)) (sym is)
       (unlocks image_of holds slots id (me.0, (0, Some value) ∷ []) then st h.0 value h.1 refl may')
+
+  -- the seat of a caller that holds, at a step on the clock
+  pub publishes_held : (slots id : ℕ) (me : SeatOf T I V) (old new : ℕ) (put : I) (then : V → V → Type 0) → IsSome me.0.held
+      → IfSome me.0.held (λ taken. MayPublish holds me.0.known old new taken put (then me.0.known)) → Allows (Rule image_of holds) slots id me 1 (λ n. either (n == old) new n) (Publishes put then (step slots 1 old new none) me)
+  publishes_held slots id me old new put then holding may =
+      let h = some_of me.0.held holding in
+      publishes image_of holds slots id me old new h.0 put then h.1 (subst (λ o. IfSome o (λ taken. MayPublish holds me.0.known old new taken put (then me.0.known))) h.1 may)
 
   -- what a lock took where the word was 0
   pub locked_with : (fact : V → I → Type 0) (me new : SeatOf T I V) (n : ℕ) → MatchBool (n == 0) (Takes image_of fact me new) (new ≡ me) → n ≡ 0 → Takes image_of fact me new
@@ -45,7 +53,7 @@ module _ {T I V : Type 0} (image_of : T → I) (holds : I → List V → Type 0)
       let there = last.4 0 (Some home.value) (ap (λ l. get_elem? l 0) home.home) in
       let is : Some home.value ≡ slot = some-injective (Some home.value) slot (sym there ∙ at_slot) in
       let known : get_elem? (known_in s.views) id ≡ some v.known = at_map (λ (x : LockKnown I V). x.known) s.views id v last.1.1 in
-      subst (λ x. IfSome x (λ t. fact v.known (image_of t))) is (subst (fact v.known) (sym home.named) (may k.image (known_in s.views) id k.kept known))
+      subst (λ x. IfSome x (λ t. fact v.known (image_of t))) is (subst (fact v.known) (sym home.named) (may k.clock k.image (known_in s.views) id k.kept known))
 
 -- a list with one entry of what is known is a list with one view
 pub one_view : {I V : Type 0} (views : List (LockKnown I V)) (known : V) → known_in views ≡ known ∷ [] → (v : LockKnown I V) × (views ≡ v ∷ [])

@@ -1,5 +1,5 @@
 -- Each kind of step keeps the rule of a lock, and tells what it says.
-use Rattle.swift_shared_book.proofs.Prelude.{◌≡◌, ◌≢◌, ℕ, zero, suc, ◌==◌, ◌<◌, ◌≤◌, List, [], ◌∷◌, ◌++◌, set, Option, Some, None, IsSome, IfSome, MatchBool, false, refl, sym, ap, ◌∙◌, subst, ⊎_elim, arith, nat_tests, Step, Act, keeps, takes, gives, stepped, Valid, carried_after, Allows, Splits, Joins, put_back, at_set, at_snoc, at_map, at_longer, set_else, set_again, exchanged, LockKnown, MayLearn, MayUnlock, MaySplit, MayJoin, TableOf, known_in, IsWordFor, IsHolder, HolderHolds, IsUnlocked, IsKeptBy, LockInvariant, free, with_known, SeatOf, given, Takes, Locks, Unlocks}
+use Rattle.swift_shared_book.proofs.Prelude.{◌≡◌, ◌≢◌, ℕ, Bool, true, zero, suc, ◌==◌, ◌<◌, ◌≤◌, List, [], ◌∷◌, ◌++◌, set, Option, Some, None, IsSome, IfSome, MatchBool, false, refl, sym, ap, ◌∙◌, subst, ⊎_elim, arith, nat_tests, Step, Act, keeps, takes, gives, step, stepped, Valid, carried_after, Allows, Splits, Joins, put_back, at_set, at_snoc, at_map, at_longer, set_else, set_again, exchanged, LockKnown, MayLearn, MayPublish, MayTick, MayUnlock, MaySplit, MayJoin, TableOf, known_in, IsWordFor, IsHolder, HolderHolds, IsUnlocked, IsKeptBy, LockInvariant, free, with_known, SeatOf, given, Takes, Locks, Publishes, Ticks, Unlocks}
 use mathlib.Core.Option.{none, some, some-injective, some-ne-none}
 use mathlib.Core.Logic.{dite}
 use native.Mathlib.Decide.{ℕ_discrete}
@@ -54,7 +54,7 @@ module _ {I V : Type 0} where
   holds_push None views w is = tt
   holds_push (Some x) views w is = (is.0, at_longer views (w ∷ []) x is.0 is.1, is.2)
 
-module _ {T I V : Type 0} (image_of : T → I) (holds : I → List V → Type 0) where
+module _ {T I V : Type 0} (image_of : T → I) (holds : ℕ → I → List V → Type 0) where
   abbrev pub Rule : TableOf T I V → Type 0
   Rule = LockInvariant image_of holds
 
@@ -62,13 +62,14 @@ module _ {T I V : Type 0} (image_of : T → I) (holds : I → List V → Type 0)
   moved : (s : TableOf T I V) (k : Rule s) (id : ℕ) (w : LockKnown I V) (n : ℕ) (h : Option ℕ) (image : I) (homes : List (mathlib.Core.Option.Option (Option T)))
       → IsWordFor h n → IsKeptBy image_of holds h image homes → IsHolder h image id w.held
       → ((seat : ℕ) (u : LockKnown I V) → seat ≢ id → get_elem? s.views seat ≡ some u → IsHolder h image seat u.held)
-      → HolderHolds h (set s.views id w) → holds image (set (known_in s.views) id w.known)
+      → HolderHolds h (set s.views id w) → holds k.clock image (set (known_in s.views) id w.known)
       → Rule (record { words = set s.words 0 n; homes = homes; views = set s.views id w })
   moved s k id w n h image homes tells home mine others there kept =
       record {
         image = image;
         holder = h;
         number = n;
+        clock = k.clock;
         word = ap (λ l. set l 0 n) k.word;
         tells = tells;
         home = home;
@@ -77,7 +78,7 @@ module _ {T I V : Type 0} (image_of : T → I) (holds : I → List V → Type 0)
             (λ x. others seat u x.0 x.1)
             (at_set s.views id seat w u e));
         holder_holds = there;
-        kept = subst (holds image) (sym (known_set s.views id w)) kept;
+        kept = subst (holds k.clock image) (sym (known_set s.views id w)) kept;
       }
 
   -- the word that is found
@@ -102,14 +103,14 @@ module _ {T I V : Type 0} (image_of : T → I) (holds : I → List V → Type 0)
       let home : IsUnlocked image_of holds k.image s.homes = subst (λ h. IsKeptBy image_of holds h k.image s.homes) e k.home in
       let w : LockKnown I V = record me.0 { held = Some (image_of home.value) } in
       let known : get_elem? (known_in s.views) id ≡ some me.0.known = at_map (λ (v : LockKnown I V). v.known) s.views id me.0 at in
-      let told : fact me.0.known (image_of home.value) = subst (fact me.0.known) (sym home.named) (may k.image (known_in s.views) id k.kept known) in (
+      let told : fact me.0.known (image_of home.value) = subst (fact me.0.known) (sym home.named) (may k.clock k.image (known_in s.views) id k.kept known) in (
         w,
         takes 0 (Some home.value),
         ap (λ l. get_elem? l 0) home.home,
         moved s k id w (f n) (Some id) k.image (set s.homes 0 none) (fits n (omega arith)) (ap (λ l. set l 0 none) home.home) (refl, home.named)
             (λ seat u apart there. none_holds (Some id) k.image k.image seat u.held (subst (λ h. IsHolder h k.image seat u.held) e (k.held seat u there)))
             (w, set_at s.views id me.0 w at, refl)
-            (subst (holds k.image) (sym (set_again (known_in s.views) id me.0.known known)) k.kept),
+            (subst (holds k.clock k.image) (sym (set_again (known_in s.views) id me.0.known known)) k.kept),
         (let new : SeatOf T I V = (w, (0, Some home.value) ∷ me.1) in
             subst (λ (m : ℕ). MatchBool (m == 0) (Takes image_of fact me new) (new ≡ me)) (sym zero') (home.value, refl, told)),
       )
@@ -122,7 +123,7 @@ module _ {T I V : Type 0} (image_of : T → I) (holds : I → List V → Type 0)
         tt,
         moved s k id me.0 (f n) k.holder k.image s.homes (subst (λ h. IsWordFor h (f n)) (sym e) (fits n held_word.1)) k.home (k.held id me.0 at) (λ seat u apart there. k.held seat u there)
             (subst (HolderHolds k.holder) (sym (set_again s.views id me.0 at)) k.holder_holds)
-            (subst (holds k.image) (sym (set_again (known_in s.views) id me.0.known known)) k.kept),
+            (subst (holds k.clock k.image) (sym (set_again (known_in s.views) id me.0.known known)) k.kept),
         (let same : SeatOf T I V = (me.0, me.1) in busy n held_word.0 (Takes image_of fact me same)),
       )
     where
@@ -139,7 +140,7 @@ module _ {T I V : Type 0} (image_of : T → I) (holds : I → List V → Type 0)
   unlocks slots id me then st taken value holding in_hand may s k len at below =
       let mine : (k.holder ≡ Some id) × (taken ≡ k.image) = subst (IsHolder k.holder k.image id) holding (k.held id me.0 at) in
       let known : get_elem? (known_in s.views) id ≡ some me.0.known = at_map (λ (v : LockKnown I V). v.known) s.views id me.0 at in
-      let m = may (known_in s.views) id (subst (λ x. holds x (known_in s.views)) (sym mine.1) k.kept) known in
+      let m = may k.clock (known_in s.views) id (subst (λ x. holds k.clock x (known_in s.views)) (sym mine.1) k.kept) known in
       let out : s.homes ≡ none ∷ [] = subst (λ h. IsKeptBy image_of holds h k.image s.homes) mine.0 k.home in
       let homes : put_back s.homes me.1 ≡ some (Some value) ∷ [] = ap (λ c. put_back s.homes c) in_hand ∙ ap (λ l. set l 0 (some (Some value))) out in (
         free m.0,
@@ -159,9 +160,9 @@ module _ {T I V : Type 0} (image_of : T → I) (holds : I → List V → Type 0)
 
   -- only the views change
   viewed : (s : TableOf T I V) (k : Rule s) (views : List (LockKnown I V)) → ((seat : ℕ) (u : LockKnown I V) → get_elem? views seat ≡ some u → IsHolder k.holder k.image seat u.held)
-      → HolderHolds k.holder views → holds k.image (known_in views) → Rule (record { words = s.words; homes = s.homes; views = views })
+      → HolderHolds k.holder views → holds k.clock k.image (known_in views) → Rule (record { words = s.words; homes = s.homes; views = views })
   viewed s k views held there kept =
-      record { image = k.image; holder = k.holder; number = k.number; word = k.word; tells = k.tells; home = k.home; held = held; holder_holds = there; kept = kept }
+      record { image = k.image; holder = k.holder; number = k.number; clock = k.clock; word = k.word; tells = k.tells; home = k.home; held = held; holder_holds = there; kept = kept }
 
   held_set : (h : Option ℕ) (image : I) (views : List (LockKnown I V)) (id : ℕ) (w : LockKnown I V) → IsHolder h image id w.held
       → ((seat : ℕ) (u : LockKnown I V) → get_elem? views seat ≡ some u → IsHolder h image seat u.held)
@@ -181,7 +182,7 @@ module _ {T I V : Type 0} (image_of : T → I) (holds : I → List V → Type 0)
       (λ x. subst (λ (y : LockKnown I V). IsHolder k.holder k.image seat y.held) x tt)
       (at_snoc front new u seat e))
       (holds_push k.holder front new (holds_set k.holder s.views id v (with_known v left) at (λ h. h) k.holder_holds))
-      (subst (holds k.image) (sym is) (may k.image (known_in s.views) id k.kept known))
+      (subst (holds k.clock k.image) (sym is) (may k.clock k.image (known_in s.views) id k.kept known))
 
   pub joins : (id : ℕ) (v : LockKnown I V) (other : ℕ) (u : LockKnown I V) (both spent : V) → u.held ≡ None → MayJoin holds v.known u.known both spent
       → Joins Rule id v other u (with_known v both) (free spent)
@@ -195,4 +196,117 @@ module _ {T I V : Type 0} (image_of : T → I) (holds : I → List V → Type 0)
       viewed s k (set front other none')
       (held_set k.holder k.image front other none' tt (held_set k.holder k.image s.views id (with_known v both) (k.held id v at) k.held))
       (holds_set k.holder front other u none' at' (λ h. absurd (none_is_some u.held nothing h)) (holds_set k.holder s.views id v (with_known v both) at (λ h. h) k.holder_holds))
-      (subst (holds k.image) (sym is) (may k.image (known_in s.views) id other k.kept known apart known'))
+      (subst (holds k.clock k.image) (sym is) (may k.clock k.image (known_in s.views) id other k.kept known apart known'))
+
+  -- a step on the clock in which one view changes
+  clocked : (s : TableOf T I V) (k : Rule s) (id : ℕ) (w : LockKnown I V) (c : ℕ) (image : I) → IsKeptBy image_of holds k.holder image s.homes → IsHolder k.holder image id w.held
+      → ((seat : ℕ) (u : LockKnown I V) → seat ≢ id → get_elem? s.views seat ≡ some u → IsHolder k.holder image seat u.held)
+      → HolderHolds k.holder (set s.views id w) → holds c image (set (known_in s.views) id w.known)
+      → Rule (record { words = set s.words 1 c; homes = s.homes; views = set s.views id w })
+  clocked s k id w c image home mine others there kept =
+      record {
+        image = image;
+        holder = k.holder;
+        number = k.number;
+        clock = c;
+        word = ap (λ l. set l 1 c) k.word;
+        tells = k.tells;
+        home = home;
+        held = (λ seat u e. ⊎_elim
+            (λ x. subst (λ i. IsHolder k.holder image i u.held) (sym x.0) (subst (λ (y : LockKnown I V). IsHolder k.holder image id y.held) x.1 mine))
+            (λ x. others seat u x.0 x.1)
+            (at_set s.views id seat w u e));
+        holder_holds = there;
+        kept = subst (holds c image) (sym (known_set s.views id w)) kept;
+      }
+
+  -- what the clock shows
+  found_clock : (s : TableOf T I V) (k : Rule s) → Rattle.std.specs.List.slice_index s.words 1 ≡ k.clock
+  found_clock s k = ap (λ l. Rattle.std.specs.List.slice_index l 1) k.word
+
+  same_word : (n old new : ℕ) → (n == old) ≡ false → either (n == old) new n ≡ n
+  same_word n old new e = ap (λ b. either b new n) e
+
+  new_word : (n old new : ℕ) → (n == old) ≡ true → either (n == old) new n ≡ new
+  new_word n old new e = ap (λ b. either b new n) e
+
+  -- nothing changes where the clock was not found so
+  missed : (s : TableOf T I V) (k : Rule s) (id : ℕ) (me : LockKnown I V) (c : ℕ) → c ≡ k.clock → get_elem? s.views id ≡ some me
+      → Rule (record { words = set s.words 1 c; homes = s.homes; views = set s.views id me })
+  missed s k id me c is at =
+      let known : get_elem? (known_in s.views) id ≡ some me.known = at_map (λ (v : LockKnown I V). v.known) s.views id me at in
+      clocked s k id me c k.image k.home (k.held id me at) (λ seat u apart there. k.held seat u there)
+      (subst (HolderHolds k.holder) (sym (set_again s.views id me at)) k.holder_holds)
+      (subst (holds c k.image) (sym (set_again (known_in s.views) id me.known known)) (subst (λ n. holds n k.image (known_in s.views)) (sym is) k.kept))
+
+  ticks_at : (slots id : ℕ) (me : SeatOf T I V) (old new : ℕ) (then : V → V → Type 0) → MayTick holds me.0.known old new (then me.0.known)
+      → (s : TableOf T I V) (k : Rule s) (n : ℕ) → n ≡ k.clock → get_elem? s.views id ≡ some me.0 → (b : Bool) → (n == old) ≡ b
+      → (w : LockKnown I V) × (a : Act (Option T)) × Valid s.homes me.1 a × Rule (stepped s 1 (either (n == old) new n) id me.1 w a) × Ticks then (step slots 1 old new none) me n (w, carried_after me.1 a)
+  ticks_at slots id me old new then may s k n is at true e =
+      let is_old : n ≡ old = grind (arith, nat_tests) in
+      let known : get_elem? (known_in s.views) id ≡ some me.0.known = at_map (λ (v : LockKnown I V). v.known) s.views id me.0 at in
+      let m = may k.image (known_in s.views) id (subst (λ c. holds c k.image (known_in s.views)) (sym is ∙ is_old) k.kept) known in
+      let w : LockKnown I V = with_known me.0 m.0 in (
+        w,
+        keeps,
+        tt,
+        subst (λ c. Rule (record { words = set s.words 1 c; homes = s.homes; views = set s.views id w })) (sym (new_word n old new e))
+            (clocked s k id w new k.image k.home (k.held id me.0 at) (λ seat u apart there. k.held seat u there) (holds_set k.holder s.views id me.0 w at (λ h. h) k.holder_holds) m.1),
+        (let after : SeatOf T I V = (w, me.1) in
+            subst (λ b. MatchBool b ((x : V) × (after ≡ (with_known me.0 x, me.1)) × then me.0.known x) (after ≡ me)) (sym e) (m.0, refl, m.2)),
+      )
+  ticks_at slots id me old new then may s k n is at false e = (
+    me.0,
+    keeps,
+    tt,
+    subst (λ c. Rule (record { words = set s.words 1 c; homes = s.homes; views = set s.views id me.0 })) (sym (same_word n old new e)) (missed s k id me.0 n is at),
+    (let same : SeatOf T I V = (me.0, me.1) in
+        subst (λ b. MatchBool b ((x : V) × (same ≡ (with_known me.0 x, me.1)) × then me.0.known x) (same ≡ me)) (sym e) refl),
+  )
+
+  -- any seat may move the clock, whoever holds
+  pub ticks : (slots id : ℕ) (me : SeatOf T I V) (old new : ℕ) (then : V → V → Type 0) → MayTick holds me.0.known old new (then me.0.known)
+      → Allows Rule slots id me 1 (λ n. either (n == old) new n) (Ticks then (step slots 1 old new none) me)
+  ticks slots id me old new then may s k len at fits = ticks_at slots id me old new then may s k _ (found_clock s k) at _ refl
+
+  -- no other seat than the holder holds, whatever image that one puts in place
+  others_apart : (image image' : I) (seat id : ℕ) (held : Option I) → seat ≢ id → IsHolder (Some id) image seat held → IsHolder (Some id) image' seat held
+  others_apart image image' seat id None apart is = tt
+  others_apart image image' seat id (Some x) apart is = let e : Some id ≡ Some seat = is.0 in let e' : seat ≡ id = cc in absurd (apart e')
+
+  publishes_at : (slots id : ℕ) (me : SeatOf T I V) (old new : ℕ) (taken put : I) (then : V → V → Type 0) → me.0.held ≡ Some taken → MayPublish holds me.0.known old new taken put (then me.0.known)
+      → (s : TableOf T I V) (k : Rule s) (n : ℕ) → n ≡ k.clock → get_elem? s.views id ≡ some me.0 → (b : Bool) → (n == old) ≡ b
+      → (w : LockKnown I V) × (a : Act (Option T)) × Valid s.homes me.1 a × Rule (stepped s 1 (either (n == old) new n) id me.1 w a) × Publishes put then (step slots 1 old new none) me n (w, carried_after me.1 a)
+  publishes_at slots id me old new taken put then holding may s k n is at true e =
+      let is_old : n ≡ old = grind (arith, nat_tests) in
+      let mine : (k.holder ≡ Some id) × (taken ≡ k.image) = subst (IsHolder k.holder k.image id) holding (k.held id me.0 at) in
+      let known : get_elem? (known_in s.views) id ≡ some me.0.known = at_map (λ (v : LockKnown I V). v.known) s.views id me.0 at in
+      let kept : holds old taken (known_in s.views) = subst (λ x. holds old x (known_in s.views)) (sym mine.1) (subst (λ c. holds c k.image (known_in s.views)) (sym is ∙ is_old) k.kept) in
+      let m = may (known_in s.views) id kept known in
+      let out : s.homes ≡ none ∷ [] = subst (λ h. IsKeptBy image_of holds h k.image s.homes) mine.0 k.home in
+      let w : LockKnown I V = record { known = m.0; held = Some put } in (
+        w,
+        keeps,
+        tt,
+        subst (λ c. Rule (record { words = set s.words 1 c; homes = s.homes; views = set s.views id w })) (sym (new_word n old new e))
+            (clocked s k id w new put (subst (λ h. IsKeptBy image_of holds h put s.homes) (sym mine.0) out) (mine.0, refl)
+            (λ seat u apart there. subst (λ h. IsHolder h put seat u.held) (sym mine.0)
+            (others_apart k.image put seat id u.held apart (subst (λ h. IsHolder h k.image seat u.held) mine.0 (k.held seat u there))))
+            (holds_set k.holder s.views id me.0 w at (λ h. refl) k.holder_holds)
+            m.1),
+        (let after : SeatOf T I V = (w, me.1) in
+            subst (λ b. MatchBool b ((x : V) × (after ≡ (record { known = x; held = Some put }, me.1)) × then me.0.known x) (after ≡ me)) (sym e) (m.0, refl, m.2)),
+      )
+  publishes_at slots id me old new taken put then holding may s k n is at false e = (
+    me.0,
+    keeps,
+    tt,
+    subst (λ c. Rule (record { words = set s.words 1 c; homes = s.homes; views = set s.views id me.0 })) (sym (same_word n old new e)) (missed s k id me.0 n is at),
+    (let same : SeatOf T I V = (me.0, me.1) in
+        subst (λ b. MatchBool b ((x : V) × (same ≡ (record { known = x; held = Some put }, me.1)) × then me.0.known x) (same ≡ me)) (sym e) refl),
+  )
+
+  -- the seat that holds may move the clock, and put another image in place
+  pub publishes : (slots id : ℕ) (me : SeatOf T I V) (old new : ℕ) (taken put : I) (then : V → V → Type 0) → me.0.held ≡ Some taken → MayPublish holds me.0.known old new taken put (then me.0.known)
+      → Allows Rule slots id me 1 (λ n. either (n == old) new n) (Publishes put then (step slots 1 old new none) me)
+  publishes slots id me old new taken put then holding may s k len at fits = publishes_at slots id me old new taken put then holding may s k _ (found_clock s k) at _ refl

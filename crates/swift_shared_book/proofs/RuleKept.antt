@@ -19,9 +19,9 @@ starts b is = subst (λ (x : BookView). IsCourse (facts_of x) (first_view b.scri
 
 -- what may be given back in the run may be given back to the lock
 pub unlocks : (held : Option BookImage) (known : Known) (given : BookImage) (asked : BookFacts → BookKnown → Type 0) → MayGiveBack known.view (facts_in held) given.facts asked
-    → IfSome held (λ taken. MayUnlock HoldsOf known taken given (λ known'. asked taken.facts known'.view))
+    → IfSome held (λ taken. MayUnlock (λ clock. HoldsOf) known taken given (λ known'. asked taken.facts known'.view))
 unlocks None known given asked may = tt
-unlocks (Some taken) known given asked may = λ all seat holds at. (let g = gives known taken given may.0 may.2 all seat holds at in (g.0, g.1, subst (asked taken.facts) (sym g.2) may.1))
+unlocks (Some taken) known given asked may = λ clock all seat holds at. (let g = gives known taken given may.0 may.2 all seat holds at in (g.0, g.1, subst (asked taken.facts) (sym g.2) may.1))
 
 -- the book is as it was
 pub stays : (held : Option BookFacts) (v : BookKnown) (facts : BookFacts) → held ≡ Some facts → MayGiveBack v held facts (λ _ w. w ≡ v)

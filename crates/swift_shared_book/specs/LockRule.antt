@@ -31,7 +31,7 @@ IsHolder holder image seat held = IfSome held (λ taken. (holder ≡ Some seat) 
 abbrev pub HolderHolds : {I V : Type 0} → Option ℕ → List (LockKnown I V) → Type 0
 HolderHolds {I} {V} holder views = IfSome holder (λ seat. (v : LockKnown I V) × (get_elem? views seat ≡ some v) × IsSome v.held)
 
-module _ {T I V : Type 0} (image_of : T → I) (holds : I → List V → Type 0) where
+module _ {T I V : Type 0} (image_of : T → I) (holds : ℕ → I → List V → Type 0) where
   -- a value of this image lies in the slot
   pub record IsUnlocked (image : I) (homes : List (mathlib.Core.Option.Option (Option T))) : Type 0 where
     pub value : T
@@ -44,16 +44,19 @@ module _ {T I V : Type 0} (image_of : T → I) (holds : I → List V → Type 0)
   IsKeptBy (Some seat) image homes = homes ≡ none ∷ []
 
   -- Between any two steps at most one seat holds, and the word says whether one does. Where none does, a value lies in the slot, and else
-  -- the holder has it; and the user's rule holds of that value, or of what the holder took, beside what all seats know.
+  -- the holder has it; and the user's rule holds of what the clock shows, and of that value, or of what the holder took, beside what all
+  -- seats know.
   pub record LockInvariant (s : TableOf T I V) : Type 0 where
     -- of what is in the slot, or of what the holder took from it
     pub image : I
     pub holder : Option ℕ
     pub number : ℕ
-    pub word : s.words ≡ number ∷ []
+    -- what the clock shows, which any seat may move, whoever holds
+    pub clock : ℕ
+    pub word : s.words ≡ number ∷ clock ∷ []
     pub tells : IsWordFor holder number
     pub home : IsKeptBy holder image s.homes
     pub held : (seat : ℕ) (v : LockKnown I V) → get_elem? s.views seat ≡ some v → IsHolder holder image seat v.held
     pub holder_holds : HolderHolds holder s.views
     -- the user's rule
-    pub kept : holds image (known_in s.views)
+    pub kept : holds clock image (known_in s.views)

@@ -33,6 +33,10 @@ module _ {I V : Type 0} where
   abbrev pub held_by : LockSeatView I V → I → LockSeatView I V
   held_by s image = record s { held = Some image }
 
+  -- the seat knows v, and holds something of this image
+  abbrev pub publishing : LockSeatView I V → V → I → LockSeatView I V
+  publishing s v image = record { lock = s.lock; known = v; held = Some image }
+
   -- the seat does not hold, and knows v
   abbrev pub free_seat : LockSeatView I V → V → LockSeatView I V
   free_seat s v = record { lock = s.lock; known = v; held = None }
@@ -41,22 +45,34 @@ module _ {I V : Type 0} where
   abbrev pub with_known : LockSeatView I V → V → LockSeatView I V
   with_known s v = record s { known = v }
 
-module _ {I V : Type 0} (holds : I → List V → Type 0) where
+module _ {I V : Type 0} (holds : ℕ → I → List V → Type 0) where
   -- whatever other seats know, a seat that knows v learns this of what it takes
   abbrev pub MayLearn : V → (I → Type 0) → Type 0
-  MayLearn v fact = (image : I) (views : List V) (seat : ℕ) → holds image views → get_elem? views seat ≡ some v → fact image
+  MayLearn v fact = (clock : ℕ) (image : I) (views : List V) (seat : ℕ) → holds clock image views → get_elem? views seat ≡ some v → fact image
 
   -- whatever other seats know, a seat that knows v may give this back for what it took, and knows something then
   abbrev pub MayUnlock : V → I → I → (V → Type 0) → Type 0
   MayUnlock v taken given then =
-      (views : List V) (seat : ℕ) → holds taken views → get_elem? views seat ≡ some v → (w : V) × holds given (set views seat w) × then w
+      (clock : ℕ) (views : List V) (seat : ℕ) → holds clock taken views → get_elem? views seat ≡ some v → (w : V) × holds clock given (set views seat w) × then w
+
+  -- Whatever is kept, whoever holds it, and whatever other seats know, a seat that knows v may move the clock, and knows something then. What is
+  -- kept stays.
+  abbrev pub MayTick : V → ℕ → ℕ → (V → Type 0) → Type 0
+  MayTick v old new then =
+      (image : I) (views : List V) (seat : ℕ) → holds old image views → get_elem? views seat ≡ some v → (w : V) × holds new image (set views seat w) × then w
+
+  -- The seat that holds may move the clock, and put another image in the place of the one that it took, before it gives a value of that image
+  -- back.
+  abbrev pub MayPublish : V → ℕ → ℕ → I → I → (V → Type 0) → Type 0
+  MayPublish v old new taken given then =
+      (views : List V) (seat : ℕ) → holds old taken views → get_elem? views seat ≡ some v → (w : V) × holds new given (set views seat w) × then w
 
   -- whatever other seats know, what a seat knows may be parted between it and a new one
   abbrev pub MaySplit : V → V → V → Type 0
-  MaySplit v left right = (image : I) (views : List V) (seat : ℕ) → holds image views → get_elem? views seat ≡ some v → holds image (set views seat left ++ right ∷ [])
+  MaySplit v left right = (clock : ℕ) (image : I) (views : List V) (seat : ℕ) → holds clock image views → get_elem? views seat ≡ some v → holds clock image (set views seat left ++ right ∷ [])
 
   -- whatever other seats know, a seat that knows v may take in one that knows w, which then knows what is left
   abbrev pub MayJoin : V → V → V → V → Type 0
   MayJoin v w both spent =
-      (image : I) (views : List V) (seat other : ℕ) → holds image views → get_elem? views seat ≡ some v → ¬ (other ≡ seat) → get_elem? (set views seat both) other ≡ some w
-      → holds image (set (set views seat both) other spent)
+      (clock : ℕ) (image : I) (views : List V) (seat other : ℕ) → holds clock image views → get_elem? views seat ≡ some v → ¬ (other ≡ seat) → get_elem? (set views seat both) other ≡ some w
+      → holds clock image (set (set views seat both) other spent)

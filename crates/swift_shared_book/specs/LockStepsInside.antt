@@ -36,6 +36,14 @@ module _ {T I V : Type 0} (image_of : T → I) where
   Unlocks then s v n w =
       (known : V) × (w ≡ (free known, rest v.1)) × IfSome v.0.held (λ taken. IfSome (given v.1) (λ value. then v.0.known taken (image_of value) known))
 
+-- the clock moves where it was found as it was said, and the seat knows something then; else nothing changes
+abbrev pub Ticks : {T I V : Type 0} → (V → V → Type 0) → Step (Option T) → SeatOf T I V → ℕ → SeatOf T I V → Type 0
+Ticks {T} {I} {V} then s v n w = MatchBool (n == s.first) ((known : V) × (w ≡ (with_known v.0 known, v.1)) × then v.0.known known) (w ≡ v)
+
+-- the same by the seat that holds, which then holds something of this image
+abbrev pub Publishes : {T I V : Type 0} → I → (V → V → Type 0) → Step (Option T) → SeatOf T I V → ℕ → SeatOf T I V → Type 0
+Publishes {T} {I} {V} given then s v n w = MatchBool (n == s.first) ((known : V) × (w ≡ (record { known = known; held = Some given }, v.1)) × then v.0.known known) (w ≡ v)
+
 -- Between calls a seat that holds has the empty slot, and any other has nothing.
 abbrev pub CarriesFor : {T I : Type 0} → Option I → List (ℕ × Option T) → Type 0
 CarriesFor None carried = carried ≡ []

@@ -1,6 +1,6 @@
 //! A lock under a rule: what it keeps is related to what its seats know, between any two steps of its threads (our own).
 //!
-//! A lock is one atomic number, its word, and one slot for what it keeps.
+//! A lock is two atomic numbers, its word and its clock, and one slot for what it keeps. Its word says who has that:
 //!
 //! - 0: no seat holds, and what is kept lies in the slot.
 //! - 1: a seat holds, and has what is kept. No thread sleeps on the word but one that was woken and has not looked yet.
@@ -9,9 +9,12 @@
 //! The step that finds 0 takes the slot; no other seat can then set the word to 0. `unlock` puts the slot back, sets the
 //! word to 0, and wakes one thread where it found 2. A thread that slept takes the lock by setting 2, since others may
 //! sleep too. That no wake is lost is not proved, and no clause can say it: it rests on these four sentences.
+//!
+//! The clock means what the rule says. Any seat may move it by a step that the rule allows, also while another one holds. The holder may
+//! publish at a step of the clock what it has computed: from then on the rule speaks of that, and of what other seats do after it.
 
-ghost use Rattle.std.specs.Prelude.{◌≡◌, Some, None, [], ◌∷◌, IfSome, IfNone, IsSome, IfOk, IfErr};
-ghost use Rattle.swift_shared_book.specs.LockSeat.{IsSeatOf, MayLearn, MayUnlock, free_seat, held_by, new_seat};
+ghost use Rattle.std.specs.Prelude.{◌≡◌, Some, None, [], ◌∷◌, IfSome, IfNone, IsSome, IsTrue, IsFalse, IfOk, IfErr};
+ghost use Rattle.swift_shared_book.specs.LockSeat.{IsSeatOf, MayLearn, MayPublish, MayTick, MayUnlock, free_seat, held_by, new_seat, publishing, with_known};
 
 // A seat where nothing names what is kept.
 mod badge;
@@ -28,12 +31,12 @@ mod seat;
 // What a seat knows, in proofs alone.
 mod view;
 
-use crate::lock::rule::{Locks, TheRule, Unlocks};
+use crate::lock::rule::{Locks, Publishes, TheRule, Ticks, Unlocks};
 use crate::lock::seat::LockToken;
 pub use atomic_table::{Join, Split};
 use atomic_table::{Refused, Table};
 pub use badge::Badge;
-pub use rule::{Lesson, LockRule, UnlockOutcome};
+pub use rule::{Lesson, LockRule, Publish, Tick, UnlockOutcome};
 pub use seat::LockSeat;
 use std::alloc::{AllocError, Global};
 use std::hint;
@@ -72,12 +75,16 @@ impl<T: Locked, V, P: LockRule<T::Image, V>> Model for Lock<T, V, P> {
 
     ghost view = { λ l. record { id = l.table.shared.table_id; opened = T.image l.table.shared.key.value } };
 
-    ghost invariant = { λ l. (l.table.shared.table_id.words ≡ 1) × (l.table.shared.table_id.slots ≡ 1) };
+    ghost invariant = { λ l. (l.table.shared.table_id.words ≡ 2) × (l.table.shared.table_id.slots ≡ 1) };
 }
 
-// The table's only word, and its only slot.
+// The word that says whether a seat holds.
 const WORD: usize = 0;
 
+// The number that any seat may move.
+const CLOCK: usize = 1;
+
+// The table's only slot.
 const SLOT: usize = 0;
 
 const FREE: u64 = 0;
@@ -97,7 +104,7 @@ impl<T: Locked, V, P: LockRule<T::Image, V>> Lock<T, V, P> {
     /// A lock that keeps this value, and its first seat, which knows what the rule says. An `Err` says that a growth was
     /// refused, and gives the value back.
     pub fn new(alloc: Global, value: T) -> Result<(Lock<T, V, P>, LockSeat<T, V>), (T, AllocError)>
-        requires { P.holds (T.image value) (P.first (T.image value) ∷ []) }
+        requires { P.holds 0 (T.image value) (P.first (T.image value) ∷ []) }
         ensures opened { IfOk result (λ r. r.0.opened ≡ T.image value) }
         ensures seat { IfOk result (λ r. r.1 ≡ new_seat r.0 (P.first (T.image value))) }
         ensures err { IfErr result (λ r. r.0 ≡ value) }
@@ -107,7 +114,7 @@ impl<T: Locked, V, P: LockRule<T::Image, V>> Lock<T, V, P> {
         if let Err(refused) = slots.push(Some(value)) {
             return Err((refused.value.unwrap(), AllocError));
         }
-        match Table::new(alloc, &[FREE], slots, &opened) {
+        match Table::new(alloc, &[FREE, 0], slots, &opened) {
             Ok((table, token)) => Ok((Lock { table }, LockSeat::first(token))),
             Err(Refused { mut slots }) => Err((slots.pop().unwrap().unwrap(), AllocError)),
         }
@@ -258,6 +265,43 @@ impl<T: Locked, V, P: LockRule<T::Image, V>> Lock<T, V, P> {
         if found == AWAITED {
             shared.wake_one(WORD);
         }
+    }
+
+    /// What the clock shows. It tells nothing.
+    pub fn clock(&self) -> u64 {
+        self.table.shared.peek(CLOCK)
+    }
+
+    /// Moves the clock from a number to another, whoever holds, and says whether it was found so: one atomic step, which the rule has to
+    /// allow whatever is kept, and whatever other seats know.
+    pub fn tick<O: Tick<V>>(&self, seat: &mut LockSeat<T, V>, old: u64, new: u64) -> bool
+        requires same_lock { IsSeatOf self.now seat.old }
+        requires rule { MayTick P.holds seat.old.known old new (O.then seat.old.known) }
+        ensures moved { IsTrue result → (seat.new ≡ with_known seat.old seat.new.known) × O.then seat.old.known seat.new.known }
+        ensures same { IsFalse result → seat.new ≡ seat.old }
+    {
+        let shared = &self.table.shared;
+        let found = shared.compare_exchange::<Ticks<O>>(&mut seat.token, CLOCK, old, new);
+        found == old
+    }
+
+    /// The same by the seat that holds, which puts another image in the place of the one that it took. It gives a value of that image back
+    /// later.
+    pub fn publish<O: Publish<T::Image, V>>(
+        &self,
+        seat: &mut LockSeat<T, V>,
+        old: u64,
+        new: u64,
+    ) -> bool
+        requires same_lock { IsSeatOf self.now seat.old }
+        requires holds { IsSome seat.old.held }
+        requires rule { IfSome seat.old.held (λ taken. MayPublish P.holds seat.old.known old new taken O.given (O.then seat.old.known)) }
+        ensures moved { IsTrue result → (seat.new ≡ publishing seat.old seat.new.known O.given) × O.then seat.old.known seat.new.known }
+        ensures same { IsFalse result → seat.new ≡ seat.old }
+    {
+        let shared = &self.table.shared;
+        let found = shared.compare_exchange::<Publishes<O>>(&mut seat.token, CLOCK, old, new);
+        found == old
     }
 
     /// Gives the lock up: what it keeps, where no seat holds. What a seat still holds stays with whoever has it.

@@ -19,7 +19,8 @@ use swift_course::known::{BookImage, Known};
 pub struct BookRule;
 
 impl LockRule<BookImage, Known> for BookRule {
-    ghost holds = { HoldsOf };
+    // The clock says nothing yet.
+    ghost holds = { λ _. HoldsOf };
 
     ghost first = { λ image. record { view = first_view image.facts.script } };
 }

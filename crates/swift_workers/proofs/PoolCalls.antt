@@ -16,21 +16,21 @@ image_of s = record { view = record { crew = record { script = s.script.value; w
 
 -- what the lock gives and takes
 
-pub finds : (v : PoolTold) → MayLearn HoldsOf v (λ image. IsInCourse v image.view)
-finds v image seats seat holds at = (seats, seat, holds, at)
+pub finds : (v : PoolTold) → MayLearn (λ clock. HoldsOf) v (λ image. IsInCourse v image.view)
+finds v clock image seats seat holds at = (seats, seat, holds, at)
 
 pub call_unlocks : (held : Option PoolImage) (v : PoolTold) (given : PoolImage) (script : ScriptView) (workers : ℕ) (p : Pool) (c : PoolCall) → MayGiveBack v.view held script workers p c
-    → given.view ≡ record { crew = record { script = script; workers = workers }; facts = facts_of p } → IfSome held (λ taken. MayUnlock HoldsOf v taken given (λ w. w.view ≡ after_call c v.view))
+    → given.view ≡ record { crew = record { script = script; workers = workers }; facts = facts_of p } → IfSome held (λ taken. MayUnlock (λ clock. HoldsOf) v taken given (λ w. w.view ≡ after_call c v.view))
 call_unlocks None v given script workers p c may is = tt
-call_unlocks (Some taken) v given script workers p c may is = λ seats seat holds at.
+call_unlocks (Some taken) v given script workers p c may is = λ clock seats seat holds at.
     let w : PoolTold = record { view = after_call c v.view } in
     let crew : PoolCrew = record { script = script; workers = workers } in
     let was : taken.view ≡ record { crew = crew; facts = may.taken } = ap (λ (i : PoolImage). i.view) (same_Some taken (record { view = record { crew = crew; facts = may.taken } }) may.was) in
     let before : IsPoolCourse (record { crew = crew; facts = may.taken }) seats = subst (λ (i : PoolView). IsPoolCourse i seats) was holds in
     (w, subst (λ (i : PoolView). IsPoolCourse i (set seats seat w)) (sym is) (call_keeps crew may.taken (facts_of p) c v w may.call may.ends may.asks may.few refl seats seat before at), refl)
 
-pub may_split : (v left right : PoolTold) → v.view.owes < v.view.parts → left.view ≡ split_left v.view → right.view ≡ split_new v.view → MaySplit HoldsOf v left right
-may_split v left right less is is' image seats seat holds at = split_keeps image.view v left right less is is' seats seat holds at
+pub may_split : (v left right : PoolTold) → v.view.owes < v.view.parts → left.view ≡ split_left v.view → right.view ≡ split_new v.view → MaySplit (λ clock. HoldsOf) v left right
+may_split v left right less is is' clock image seats seat holds at = split_keeps image.view v left right less is is' seats seat holds at
 
 -- a pool that was just made
 pub new_starts : (script : ScriptView) (workers : ℕ) (boxed p : Pool) → boxed ≡ p → p.tokens.items ≡ [] → p.under_way ≡ 1 → p.halt ≡ None
@@ -203,9 +203,9 @@ taken_is p s t shelf is held course =
 
 -- a call that has a name
 pub named_unlocks : (k : PoolCall) (held : Option PoolImage) (v : PoolTold) (given : PoolImage) (script : ScriptView) (workers : ℕ) (p : Pool) (c : PoolCall) → k ≡ c → MayGiveBack v.view held script workers p c
-    → given.view ≡ record { crew = record { script = script; workers = workers }; facts = facts_of p } → IfSome held (λ taken. MayUnlock HoldsOf v taken given (λ w. w.view ≡ after_call k v.view))
+    → given.view ≡ record { crew = record { script = script; workers = workers }; facts = facts_of p } → IfSome held (λ taken. MayUnlock (λ clock. HoldsOf) v taken given (λ w. w.view ≡ after_call k v.view))
 named_unlocks k held v given script workers p c is may same =
-    subst (λ (x : PoolCall). IfSome held (λ taken. MayUnlock HoldsOf v taken given (λ w. w.view ≡ after_call x v.view))) (sym is) (call_unlocks held v given script workers p c may same)
+    subst (λ (x : PoolCall). IfSome held (λ taken. MayUnlock (λ clock. HoldsOf) v taken given (λ w. w.view ≡ after_call x v.view))) (sym is) (call_unlocks held v given script workers p c may same)
 
 pub is_held : (v : PoolKnown) (held : Option PoolImage) (script : ScriptView) (workers : ℕ) (p : Pool) (c : PoolCall) → MayGiveBack v held script workers p c → IsSome held
 is_held v held script workers p c may = subst (λ (o : Option PoolImage). IsSome o) (sym may.was) refl

@@ -12,7 +12,8 @@ use swift_shared_book::lock::{Lesson, LockRule, Split, UnlockOutcome};
 pub struct PoolRule;
 
 impl LockRule<PoolImage, PoolTold> for PoolRule {
-    ghost holds = { HoldsOf };
+    // The clock says nothing.
+    ghost holds = { λ _. HoldsOf };
 
     ghost first = { λ image. record { view = first_known image.view.crew } };
 }

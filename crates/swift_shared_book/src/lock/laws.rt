@@ -28,18 +28,18 @@ pub fn one_seat_holds<T: Locked, V, P: LockRule<T::Image, V>>()
 /// The word is 0 exactly where no seat holds.
 pub fn word_tells_who_holds<T: Locked, V, P: LockRule<T::Image, V>>()
     ensures { (s : TableOf T T.Image V) → LockInvariant T.image P.holds s
-        → (s.words ≡ 0 ∷ []) ↔ ((seat : ℕ) (v : ViewOf T.Image V) → get_elem? s.views seat ≡ some v → v.held ≡ None) }
+        → ((clock : ℕ) × (s.words ≡ 0 ∷ clock ∷ [])) ↔ ((seat : ℕ) (v : ViewOf T.Image V) → get_elem? s.views seat ≡ some v → v.held ≡ None) }
 {}
 
 /// The rule holds of what a seat took, for as long as it holds.
 pub fn rule_holds_of_what_was_taken<T: Locked, V, P: LockRule<T::Image, V>>()
     ensures { (s : TableOf T T.Image V) → LockInvariant T.image P.holds s
-        → (seat : ℕ) (v : ViewOf T.Image V) → get_elem? s.views seat ≡ some v
-        → IfSome v.held (λ taken. P.holds taken (known_in s.views)) }
+        → (number clock : ℕ) → s.words ≡ number ∷ clock ∷ [] → (seat : ℕ) (v : ViewOf T.Image V) → get_elem? s.views seat ≡ some v
+        → IfSome v.held (λ taken. P.holds clock taken (known_in s.views)) }
 {}
 
 /// While no seat holds, the slot has a value of whose image the rule holds.
 pub fn rule_holds_of_what_is_kept<T: Locked, V, P: LockRule<T::Image, V>>()
-    ensures { (s : TableOf T T.Image V) → LockInvariant T.image P.holds s → s.words ≡ 0 ∷ []
-        → (value : T) × (s.homes ≡ some (Some value) ∷ []) × P.holds (T.image value) (known_in s.views) }
+    ensures { (s : TableOf T T.Image V) → LockInvariant T.image P.holds s → (clock : ℕ) → s.words ≡ 0 ∷ clock ∷ []
+        → (value : T) × (s.homes ≡ some (Some value) ∷ []) × P.holds clock (T.image value) (known_in s.views) }
 {}

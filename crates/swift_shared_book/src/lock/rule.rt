@@ -1,6 +1,6 @@
 //! The rule of a lock, and what each kind of step tells its seat.
 
-ghost use Rattle.std.specs.Prelude.{List};
+ghost use Rattle.std.specs.Prelude.{ℕ, List};
 ghost use Rattle.swift_shared_book.specs.LockRule.{LockInvariant};
 ghost use Rattle.swift_shared_book.specs.LockStepsInside as steps;
 
@@ -10,10 +10,10 @@ use atomic_table::{Join, Play, Split, TableRule};
 use std::marker::PhantomData;
 use std::snapshot::Snapshot;
 
-/// The rule of a lock, by its user: a fact about the image of what the lock keeps, and about what all its seats know. It
-/// holds between any two steps; while a seat holds, it holds of the image of what that seat took.
+/// The rule of a lock, by its user: a fact about what its clock shows, the image of what the lock keeps, and what all its seats
+/// know. It holds between any two steps; while a seat holds, it holds of the image of what that seat took, or has published.
 pub trait LockRule<I, V> {
-    ghost holds: { I → List V → Type 0 };
+    ghost holds: { ℕ → I → List V → Type 0 };
 
     // What the first seat knows, by the image of what the lock is made with.
     ghost first: { I → V };
@@ -28,6 +28,18 @@ pub trait Lesson<I, V> {
 /// and what it knows then.
 pub trait UnlockOutcome<I, V> {
     ghost then: { V → I → I → V → Type 0 };
+}
+
+/// What a seat knows once it has moved the clock: of what it knew, and what it knows then.
+pub trait Tick<V> {
+    ghost then: { V → V → Type 0 };
+}
+
+/// The same of the seat that holds, and the image that it puts in the place of the one that it took.
+pub trait Publish<I, V> {
+    ghost given: { I };
+
+    ghost then: { V → V → Type 0 };
 }
 
 /// The rule of the table: the user's, with what ties word, slot and seats to it.
@@ -62,6 +74,25 @@ pub struct Unlocks<O> {
 impl<T: Locked, V, O: UnlockOutcome<T::Image, V>> Play<Option<T>, LockKnown<T::Image, V>>
     for Unlocks<O> {
     ghost then = { steps.Unlocks T.image O.then };
+}
+
+/// The clock moves.
+pub struct Ticks<O> {
+    of: PhantomData<O>,
+}
+
+impl<T: Locked, V, O: Tick<V>> Play<Option<T>, LockKnown<T::Image, V>> for Ticks<O> {
+    ghost then = { steps.Ticks O.then };
+}
+
+/// The clock moves, and what the holder holds has another image.
+pub struct Publishes<O> {
+    of: PhantomData<O>,
+}
+
+impl<T: Locked, V, O: Publish<T::Image, V>> Play<Option<T>, LockKnown<T::Image, V>>
+    for Publishes<O> {
+    ghost then = { steps.Publishes O.given O.then };
 }
 
 /// How what a seat knows is parted between two, and put together again.
