@@ -78,6 +78,14 @@ pub record IsPast (t : ℕ) (e : Event) : Type 0 where
   pub named : names_task t e ≡ false
   pub opens : opens t e ≡ false
 
+-- an event that says no more for the card of task `t` than how far the task is
+pub record IsOfLife (t : ℕ) (e : Event) : Type 0 where
+  pub link : own_link t e ≡ None
+  pub own : own_in t e ≡ None
+  pub waiter : waiter_in t e ≡ None
+  pub named : names_task t e ≡ false
+  pub opens : opens t e ≡ false
+
 -- an event that says nothing for the card of group `g` of task `o`, which is closed or not and has these children
 pub record IsPastGroup (o g : ℕ) (closed : Bool) (children : List TaskId) (e : Event) : Type 0 where
   pub child : child_in o g e ≡ None

@@ -7,7 +7,7 @@ ghost use Rattle.swift_events.specs.Events.{is_made, task_of};
 ghost use Rattle.swift_events.specs.Lives.{lived};
 ghost use Rattle.swift_events.specs.Relations.{asks, child_in, closes, ending_among, names_group, names_task, opens, own_in, waiter_in};
 ghost use Rattle.swift_groups.specs.Groups.{is_among};
-ghost use Rattle.swift_explorer.specs.CardsInside.{AreCards, AreNoted, IsBlank, IsKeyGroup, IsNotedAt, IsPastGroup, OpenAtMost, card_of_parts, group_of_parts};
+ghost use Rattle.swift_explorer.specs.CardsInside.{AreCards, AreNoted, IsBlank, IsKeyGroup, IsNotedAt, IsOfLife, IsPastGroup, OpenAtMost, card_of_parts, group_of_parts};
 ghost use Rattle.swift_explorer.specs.DigestNumbers.{IsWithin, IsWritten, card_numbers, ended_numbers, group_end, groups_numbers, head_numbers, other_of};
 ghost use Rattle.swift_digest.specs.Digests.{digest_of, one_if, open_ending, own_link};
 ghost use Rattle.swift_explorer.specs.Numbers.{each_numbers, link_numbers, some_numbers, task_numbers};
@@ -220,6 +220,28 @@ fn group_end(event: Event) -> u64
     }
 }
 
+// Whether an event may say more for a task's card than how far the task is.
+fn may_change_cards(event: Event) -> bool
+    ensures { result ≡ false → (t : ℕ) → IsOfLife t event }
+{
+    match event {
+        Event::Root(_, _)
+        | Event::Free { .. }
+        | Event::Child { .. }
+        | Event::Open(_, _)
+        | Event::CancelTask(_)
+        | Event::Wait(_, _) => true,
+        Event::Begin { .. }
+        | Event::Apply(_, _)
+        | Event::Give { .. }
+        | Event::Skip(_, _)
+        | Event::CancelGroup(_, _)
+        | Event::Next(_, _)
+        | Event::Close(_, _)
+        | Event::End(_, _) => false,
+    }
+}
+
 // Whether an event may say something for a group's card.
 fn may_change_groups(event: Event) -> bool
     ensures { result ≡ false → (o g : ℕ) (closed : Bool) (children : List TaskId) → IsPastGroup o g closed children event }
@@ -338,6 +360,9 @@ impl KeyCard {
         ensures opened { OnOk result (self.new.opened ≡ self.old.opened + one_if (opens task.0 event)) }
     {
         self.life = life_noted(self.life, task, event);
+        if !may_change_cards(event) {
+            return Ok(());
+        }
         put_some_link(&mut self.links, own_link(task, event))?;
         put_some_task(&mut self.own, own_in(task, event))?;
         put_some_task(&mut self.waiters, waiter_in(task, event))?;
