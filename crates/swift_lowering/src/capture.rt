@@ -1,5 +1,8 @@
 //! What closures capture.
 
+ghost use Rattle.std.specs.Prelude.{◌≡◌, ◌⊎◌, IsNone};
+ghost use Rattle.swift_lowering.specs.Ends.{IsHandedOver};
+
 use crate::closure::ClosureBody;
 use swift_expressions::{
     Lowering, NONE, Standing, Typed, Value, constant_named, declare, instance_named, refuse_hidden,
@@ -59,7 +62,9 @@ fn capture(
     captures: usize,
     token: usize,
     last: usize,
-) -> usize {
+) -> usize
+    ensures handed_over { IsNone lowering.new.refused → (lowering.new.scope ≡ lowering.old.scope) ⊎ IsHandedOver lowering.old lowering.new unit token }
+{
     let Some(found) = standing_at(lowering, token) else {
         return last;
     };

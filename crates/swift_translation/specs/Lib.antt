@@ -3,5 +3,6 @@ pub mod MethodPlaces
 pub mod Names
 pub mod PlaceTexts
 pub mod Refusals
+pub mod Returns
 pub mod Translations
 pub mod WritingInside

@@ -6,6 +6,9 @@
 //! that are `async`, are methods of the actor `Task`, a name that no file may give, and printed values are fields of that of `main`. Closures
 //! and printed values have their lines in their names; the name of such a function has no `_line` in it.
 
+ghost use Rattle.std.specs.Prelude.{◌++◌, ◌∷◌, [], decimal};
+ghost use Rattle.swift_translation.specs.WritingInside.{GoesOn};
+
 use crate::spelling::{
     spell_caught, spell_closure, spell_function_closure, spell_made, spell_main_closure,
     spell_name, spell_spot, spell_temporary, spell_variable,
@@ -27,7 +30,9 @@ pub(crate) fn write_field_name(writing: &mut Writing<'_>, token: usize) {
 }
 
 /// A word, a number and `_`.
-pub(crate) fn write_made(writing: &mut Writing<'_>, word: &str, number: usize) {
+pub(crate) fn write_made(writing: &mut Writing<'_>, word: &str, number: usize)
+    ensures { GoesOn writing.old.out writing.new.out (word.now ++ decimal number ++ 95 ∷ []) }
+{
     let alloc = writing.alloc;
     spell_made(&mut writing.out, alloc, word, number)
 }
