@@ -1,5 +1,8 @@
+pub mod Prelude
 pub mod Layouts
 pub mod Lines
+pub mod Written
+pub mod WholeMethods
 pub mod Mapped
 pub mod Renumbers
 pub mod LocalReads

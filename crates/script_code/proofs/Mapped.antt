@@ -1,6 +1,5 @@
 -- A list of which the first elements are replaced, one after the other.
-use Rattle.std.proofs.Common.{◌≡◌, ℕ, zero, suc, ◌<◌, ◌≤◌, List, [], ◌∷◌, length, map, get_or, refl, ap, arith}
-use Rattle.std.specs.Prelude.{slice_set}
+use Rattle.script_code.proofs.Prelude.{◌≡◌, ℕ, zero, suc, ◌<◌, ◌≤◌, List, [], ◌∷◌, length, map, get_or, refl, ap, arith, slice_set}
 
 abbrev pub mapped : {A : Type 0} → (A → A) → ℕ → List A → List A
 mapped f zero xs = xs

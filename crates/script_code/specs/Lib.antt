@@ -4,3 +4,4 @@ pub mod Seen
 pub mod Cells
 pub mod Instructions
 pub mod Layout
+pub mod Statements

@@ -7,7 +7,7 @@ use crate::instruction::{Act, Instruction};
 use std::alloc::AllocError;
 
 /// Puts an instruction after the others. Where memory runs out, the instructions are as before.
-pub fn push_instruction(
+pub(crate) fn push_instruction(
     instructions: &mut Vec<Instruction>,
     act: Act,
     next: u32,
@@ -22,7 +22,7 @@ pub fn push_instruction(
 
 /// Puts another instruction in a place.
 #[tactic(auto, using(crate::proofs::Lines::set_means))]
-pub fn link(instructions: &mut Vec<Instruction>, place: u32, act: Act, next: u32, other: u32)
+pub(crate) fn link(instructions: &mut Vec<Instruction>, place: u32, act: Act, next: u32, other: u32)
     requires { place < length instructions.old.items }
     ensures { map meaning_of instructions.new.items ≡ slice_set (map meaning_of instructions.old.items) place (meaning_of (record { act = act; next = next; other = other })) }
 {
@@ -58,7 +58,7 @@ fn relabel(instructions: &mut [Instruction], first: u32)
 
 /// Exchanges instruction 0 and the instruction `first`, and renames them among the followers. Linear in the
 /// instructions.
-pub fn renumber(instructions: &mut Vec<Instruction>, first: u32)
+pub(crate) fn renumber(instructions: &mut Vec<Instruction>, first: u32)
     requires { first < length instructions.old.items }
     ensures { instructions.new.items ≡ renumbered first instructions.old.items }
 {

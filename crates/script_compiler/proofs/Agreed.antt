@@ -1,7 +1,6 @@
 -- What handles hold agrees with the names that stand.
-use Rattle.script_compiler.proofs.Prelude.{◌≡◌, ◌<◌, ◌≤◌, ℕ, zero, suc, true, false, List, [], ◌∷◌, ◌++◌, take, length, Some, ap, refl, sym, ◌∙◌, arith, ◌⊎◌, inl, inr, count_by, slice_get, ◌==◌, take-append_seam, take-append-le, cases_lt, ne_eqb, eq-eqb, cond-true, cond-false, slice_get_within, Let, LetTask, StmtTree, Do, NameKind, is_among, place_of, fields_at, ScopeView, with_standing, scope_after, with_parameters, is_handle, handle_place, Held, none_held, held_at}
+use Rattle.script_compiler.proofs.Prelude.{◌≡◌, ◌<◌, ◌≤◌, ℕ, zero, suc, true, false, List, [], ◌∷◌, ◌++◌, take, length, Some, ap, refl, sym, ◌∙◌, arith, ◌⊎◌, inl, inr, count_by, slice_get, ◌==◌, take-append_seam, take-append-le, cases_lt, ne_eqb, eq-eqb, cond-true, cond-false, slice_get_within, Let, LetTask, StmtTree, Do, NameKind, is_among, place_of, fields_at, ScopeView, with_standing, meaning_of, scope_after, with_parameters, is_handle, handle_place, Held, none_held, held_at}
 use Rattle.script_names.specs.declared.scope.NameKind.TheVariants as kind
-use Rattle.script_names.specs.Scope.{meaning_of}
 use Rattle.script_compiler.proofs.Named.{before_all, own_meaning}
 
 -- The handle of each task and of each group that stands holds it.

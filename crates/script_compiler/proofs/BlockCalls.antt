@@ -1,7 +1,6 @@
 -- The calls of a block's code are of methods that are there.
-use Rattle.script_compiler.proofs.Prelude.{◌≡◌, ℕ, suc, List, length, Option, Some, None, refl, sym, ◌∙◌, subst, ◌==◌, cond_both, length-map, CallTree, AwaitedTree, Called, TaskOf, NextOf, WaitTree, ValueTree, Computed, Waited, MakeTree, Spawned, Detached, ActionTree, Let, LetTask, Assign, Await, Makes, Adds, HeadTree, If, While, Bind, Group, Assume, StmtTree, Do, Headed, IfElse, BlockTree, nothing, first_then, NameKind, place_of, DirectoryView, method_place, ScopeView, past, past_head, past_stmt, past_block, at_name, number_fault, group_fault, bind_fault, or_else, new_fault, expression_error, target_error, call_error, awaited_error, wait_error, value_error, make_error, action_error, head_error, stmt_error, block_error, scope_after, scope_within, NumberPlace, Variable, Field, Term, Code, end, act, PlanView, executor_at, numbers_in, handles_in, place_named, lowered, target_of, task_named, wanted_of, wait_to, set_at, value_to, make_to, action_code, headed_code, stmt_code, block_code, IsDeclaredCall, TargetFits, WantedFits, OperationFits, TargetsFit}
+use Rattle.script_compiler.proofs.Prelude.{◌≡◌, ℕ, suc, List, length, Option, Some, None, refl, sym, ◌∙◌, subst, ◌==◌, cond_both, length-map, CallTree, AwaitedTree, Called, TaskOf, NextOf, WaitTree, ValueTree, Computed, Waited, MakeTree, Spawned, Detached, ActionTree, Let, LetTask, Assign, Await, Makes, Adds, HeadTree, If, While, Bind, Group, Assume, StmtTree, Do, Headed, IfElse, BlockTree, nothing, first_then, NameKind, place_of, DirectoryView, method_place, ScopeView, meaning_of, past, past_head, past_stmt, past_block, at_name, number_fault, group_fault, bind_fault, or_else, new_fault, expression_error, target_error, call_error, awaited_error, wait_error, value_error, make_error, action_error, head_error, stmt_error, block_error, scope_after, scope_within, NumberPlace, Variable, Field, Term, Code, end, act, PlanView, executor_at, numbers_in, handles_in, place_named, lowered, target_of, task_named, wanted_of, wait_to, set_at, value_to, make_to, action_code, headed_code, stmt_code, block_code, IsDeclaredCall, TargetFits, WantedFits, OperationFits, TargetsFit}
 use Rattle.script_names.specs.declared.scope.NameKind.TheVariants as kind
-use Rattle.script_names.specs.Scope.{meaning_of}
 use Rattle.script_code.specs.Tree as code
 use Rattle.script_compiler.proofs.Clear.{earlier_none}
 use Rattle.script_compiler.proofs.Joined.{each_then}

@@ -1,7 +1,6 @@
 -- A block's code uses handles as they were made.
-use Rattle.script_compiler.proofs.Prelude.{◌≡◌, ◌≤◌, ℕ, zero, suc, List, [], ◌∷◌, ◌++◌, Option, Some, None, ap, refl, sym, subst, arith, ◌==◌, cond_both, AwaitedTree, Called, TaskOf, NextOf, WaitTree, ValueTree, Computed, Waited, MakeTree, Spawned, Detached, ActionTree, Let, LetTask, Assign, Await, Makes, Adds, Cancel, Return, Throw, Check, Yield, HeadTree, If, While, Bind, Group, Assume, StmtTree, Do, Headed, IfElse, BlockTree, nothing, first_then, NameKind, place_of, ScopeView, past, past_head, past_stmt, past_block, at_name, number_fault, group_fault, bind_fault, or_else, new_fault, expression_error, awaited_error, wait_error, value_error, action_error, head_error, stmt_error, block_error, scope_after, scope_within, NumberPlace, Variable, Field, Term, Operation, Code, followed, end, act, choice, loop, then_end, PlanView, executor_at, numbers_in, handles_in, handle_place, place_named, lowered, lowered_if, target_of, task_named, wanted_of, wait_to, set_at, value_to, make_to, cancelled_named, action_code, headed_code, stmt_code, block_code, Held, held_after, WantedMatches, CancelledMatches, OperationMatches, HandlesMatch}
+use Rattle.script_compiler.proofs.Prelude.{◌≡◌, ◌≤◌, ℕ, zero, suc, List, [], ◌∷◌, ◌++◌, Option, Some, None, ap, refl, sym, subst, arith, ◌==◌, cond_both, AwaitedTree, Called, TaskOf, NextOf, WaitTree, ValueTree, Computed, Waited, MakeTree, Spawned, Detached, ActionTree, Let, LetTask, Assign, Await, Makes, Adds, Cancel, Return, Throw, Check, Yield, HeadTree, If, While, Bind, Group, Assume, StmtTree, Do, Headed, IfElse, BlockTree, nothing, first_then, NameKind, place_of, ScopeView, meaning_of, past, past_head, past_stmt, past_block, at_name, number_fault, group_fault, bind_fault, or_else, new_fault, expression_error, awaited_error, wait_error, value_error, action_error, head_error, stmt_error, block_error, scope_after, scope_within, NumberPlace, Variable, Field, Term, Operation, Code, followed, end, act, choice, loop, then_end, PlanView, executor_at, numbers_in, handles_in, handle_place, place_named, lowered, lowered_if, target_of, task_named, wanted_of, wait_to, set_at, value_to, make_to, cancelled_named, action_code, headed_code, stmt_code, block_code, Held, held_after, WantedMatches, CancelledMatches, OperationMatches, HandlesMatch}
 use Rattle.script_names.specs.declared.scope.NameKind.TheVariants as kind
-use Rattle.script_names.specs.Scope.{meaning_of}
 use Rattle.script_code.specs.Tree as code
 use Rattle.script_compiler.proofs.Clear.{earlier_none, at_name_none, or_else_none, is_group}
 use Rattle.script_compiler.proofs.Agreed.{Agrees, one_number, one_handle, one_less, before_statement, holds_named}

@@ -14,11 +14,8 @@ pub mod MethodsFit
 pub mod Small
 pub mod Counting
 pub mod Terms
-pub mod Lines
-pub mod Heads
 pub mod Blocks
 pub mod Statements
-pub mod WholeMethods
 pub mod Clear
 pub mod Joined
 pub mod Counted

@@ -1,8 +1,7 @@
 -- A name that stands has a place below the number of places.
-use Rattle.script_compiler.proofs.Prelude.{◌≡◌, ◌<◌, ℕ, ◌+◌, Bool, true, false, List, [], ◌∷◌, take, get_or, length, Option, Some, None, ap, refl, ◌∙◌, arith, cond, count_by, slice_get, if◌then◌else◌, list_any, both_ways, or_from, count_by_more_yes, sum_by-take-le, slice_get_within, get_or_from_slice_get, Let, LetTask, HeadTree, If, While, Bind, Group, Assume, StmtTree, Do, NameKind, is_among, place_of, fields_at, ScopeView, with_standing, number_fault, scope_after, scope_within, with_parameters, Variable, Field, PlaceCounts, PlanView, is_number, is_handle, number_place, handle_place, field_place, counts_of, PlaceBelow, is_field, HoldsNoField}
+use Rattle.script_compiler.proofs.Prelude.{◌≡◌, ◌<◌, ℕ, ◌+◌, Bool, true, false, List, [], ◌∷◌, take, get_or, length, Option, Some, None, ap, refl, ◌∙◌, arith, cond, count_by, slice_get, if◌then◌else◌, list_any, both_ways, or_from, count_by_more_yes, sum_by-take-le, slice_get_within, get_or_from_slice_get, Let, LetTask, HeadTree, If, While, Bind, Group, Assume, StmtTree, Do, NameKind, is_among, place_of, fields_at, ScopeView, with_standing, meaning_of, number_fault, scope_after, scope_within, with_parameters, Variable, Field, PlaceCounts, PlanView, is_number, is_handle, number_place, handle_place, field_place, counts_of, PlaceBelow, is_field, HoldsNoField}
 use Rattle.std.proofs.lemmas.List.Folds.{list_any_at, list_any-append}
 use Rattle.script_names.specs.declared.scope.NameKind.TheVariants as kind
-use Rattle.script_names.specs.Scope.{meaning_of}
 use Rattle.script_code.specs.declared.formula.FieldPlace.{FieldPlace}
 use Rattle.script_compiler.specs.Lowered.{place_named}
 use Rattle.script_compiler.proofs.Counted.{AtMost}

@@ -1,9 +1,8 @@
 -- Where names are in order, each that a statement makes is new.
-use Rattle.script_compiler.proofs.Prelude.{◌≡◌, ◌+◌, ◌<◌, ℕ, zero, suc, Bool, true, false, ◌&&◌, List, [], ◌∷◌, length, map, take, get_or, Option, Some, None, ap, refl, subst, sym, ◌∙◌, arith, and_parts, is_none, Stmt, view_stmt, block_tree, ActionTree, Let, LetTask, HeadTree, Group, StmtTree, Do, Headed, IfElse, BlockTree, nothing, first_then, NameKind, ScopeView, with_standing, past, past_head, past_stmt, past_block, at_name, new_fault, expression_error, value_error, make_error, action_error, head_error, stmt_error, block_error, parameters_error, scope_after, scope_within, scope_through, makes_new, opens_new, stmt_new, block_new, parameters_new}
+use Rattle.script_compiler.proofs.Prelude.{◌≡◌, ◌+◌, ◌<◌, ℕ, suc, Bool, true, false, ◌&&◌, List, [], ◌∷◌, length, map, drop, get_or, Option, Some, None, ap, refl, sym, ◌∙◌, and_parts, is_none, Stmt, view_stmt, block_tree, ActionTree, Let, LetTask, HeadTree, Group, StmtTree, Do, Headed, IfElse, BlockTree, nothing, first_then, NameKind, ScopeView, with_standing, meaning_of, past, past_head, past_stmt, past_block, at_name, new_fault, expression_error, value_error, make_error, action_error, head_error, stmt_error, block_error, parameters_error, scope_after, scope_within, makes_new, opens_new, stmt_new, block_new, parameters_new}
 use Rattle.script_names.specs.declared.scope.NameKind.TheVariants as kind
-use Rattle.script_names.specs.Scope.{meaning_of}
 use Rattle.script_compiler.proofs.Clear.{earlier_none, at_name_none}
-use Rattle.script_compiler.proofs.Blocks.{through_more}
+use Rattle.script_compiler.proofs.Blocks.{at_item}
 
 pub both : (b c : Bool) → b ≡ true → c ≡ true → (b && c) ≡ true
 both true c one two = two
@@ -48,24 +47,8 @@ parameters (n ∷ ns) s at e =
     let parts = earlier_none (at_name at (new_fault (meaning_of s n))) (parameters_error (with_standing s n kind.Number) (suc at) ns) e in
     both (is_none (meaning_of s n)) (parameters_new (with_standing s n kind.Number) ns) (new_one s at n parts.0) (parameters ns (with_standing s n kind.Number) (suc at) parts.1)
 
--- the statement at a place of a block, in what stands there
-pub stmt_at : (s : ScopeView) (block : List Stmt) (i : ℕ) (x : Stmt) → i < length block → x ≡ get_or block i x → block_new s (block_tree (map view_stmt block)) ≡ true
-    → stmt_new (scope_through s (map view_stmt (take i block))) (view_stmt x) ≡ true
-stmt_at s [] i x h is new = absurd (omega (arith, h))
-stmt_at s (y ∷ block) zero x h is new = subst (λ (z : Stmt). stmt_new s (view_stmt z) ≡ true) (sym is) (and_parts _ _ new).0
-stmt_at s (y ∷ block) (suc i) x h is new = stmt_at (scope_after s (view_stmt y)) block i x (omega (arith, h)) is (and_parts _ _ new).1
-
--- what it makes is new
-pub new_there : (s : ScopeView) (x : StmtTree) → stmt_new s x ≡ true → makes_new s x ≡ true
-new_there s (Do a) new = new
-new_there s (Headed h b) new = refl
-new_there s (IfElse t a b) new = refl
-
--- the statement at a place of a block, once what stood at it stands again
-pub stmt_back : (t u v : ScopeView) (block : List Stmt) (left i : ℕ) (x : Stmt) → i + 1 ≡ left → i < length block → x ≡ get_or block i x
-    → u ≡ scope_through t (map view_stmt (take left block)) → ((s : ScopeView) → u ≡ scope_after s (view_stmt x) → v ≡ s)
-    → block_new t (block_tree (map view_stmt block)) ≡ true → stmt_new v (view_stmt x) ≡ true
-stmt_back t u v block left i x is_next h is standing back new =
-    let s = scope_through t (map view_stmt (take i block)) in
-    let after : u ≡ scope_after s (view_stmt x) = standing ∙ ap (λ (k : ℕ). scope_through t (map view_stmt (take k block))) (sym is_next) ∙ through_more t block i x h is in
-    subst (λ (y : ScopeView). stmt_new y (view_stmt x) ≡ true) (sym (back s after)) (stmt_at t block i x h is new)
+-- the next of some statements, and those after it
+pub new_next : (s : ScopeView) (block : List Stmt) (i : ℕ) (x : Stmt) → i < length block → x ≡ get_or block i x → block_new s (block_tree (map view_stmt (drop i block))) ≡ true
+    → (stmt_new s (view_stmt x) ≡ true) × (block_new (scope_after s (view_stmt x)) (block_tree (map view_stmt (drop (i + 1) block))) ≡ true)
+new_next s block i x h is new =
+    and_parts (stmt_new s (view_stmt x)) (block_new (scope_after s (view_stmt x)) (block_tree (map view_stmt (drop (i + 1) block)))) (sym (ap (block_new s) (at_item block i x h is)) ∙ new)

@@ -1,6 +1,7 @@
 -- The operations of a method's instructions are those of its code.
-use Rattle.script_compiler.proofs.Prelude.{◌≡◌, ℕ, zero, suc, inl, inr, Option, Some, None, List, [], ◌∷◌, ◌++◌, refl, sym, ap, ◌∙◌, subst, arith, slice_get, unwrap_or, none-some, same_Some, Term, Operation, Code, followed, end, act, choice, loop, Act, Instruction, ends, does, tests, first, first_by, first_if, FollowsCode, entry, stands_for, code_written, exchanged, operations_in, operation_of}
+use Rattle.script_compiler.proofs.Prelude.{◌≡◌, ℕ, zero, suc, inl, inr, Option, Some, None, List, [], ◌∷◌, ◌++◌, refl, sym, ap, ◌∙◌, subst, arith, slice_get, unwrap_or, none-some, same_Some, Term, Operation, Code, followed, end, act, choice, loop, Instruction, ends, does, tests, first, first_by, first_if, FollowsCode, entry, stands_for, code_written, exchanged, operations_in, operation_of}
 use Rattle.std.proofs.lemmas.Bool.Decides.{nat_tests}
+use Rattle.script_code.specs.declared.instruction.Act.{Act}
 use Rattle.script_code.specs.declared.instruction.Act.TheVariants as acts
 use Rattle.script_code.specs.Layout.{code_at}
 use Rattle.script_compiler.proofs.Membership.{Has, has_left, has_right, has_cases}

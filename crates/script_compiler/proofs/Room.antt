@@ -1,9 +1,9 @@
 -- How much a script that is no larger than its text declares, and how many names stand and how many instructions are written in it.
-use Rattle.script_compiler.proofs.Prelude.{◌≡◌, ◌≤◌, ◌<◌, ◌+◌, ◌*◌, ℕ, zero, suc, List, [], ◌∷◌, ◌++◌, length, map, take, drop, get_or, ap, subst, sym, ◌∙◌, arith, length-append, Bool, true, false, cond, if◌then◌else◌, count_by, slice_get, unwrap_or, None, length-map, sum_by-cons, BYTES, Stmt, Computed, Waited, ActionTree, Let, LetTask, Assign, HeadTree, If, While, Bind, Group, Assume, StmtTree, Do, Headed, IfElse, BlockTree, nothing, first_then, block_tree, view_stmt, MethodTree, DeclTree, Executes, Binds, Acts, Roots, stmt_size, block_size, methods_size, script_size, NameKind, DirectoryView, directory_of, declared_in, locals_in, roots_in, actors_in, fields_in, ScopeView, with_standing, names_error, scope_after, scope_within, with_parameters, nothing_left_out, Code, act, end, assume, isolated, count, count_then, PlanView, is_number, is_handle, action_code, headed_code, stmt_code, block_code, foot, scope_through}
+use Rattle.script_compiler.proofs.Prelude.{◌≡◌, ◌≤◌, ◌<◌, ◌+◌, ◌*◌, ℕ, zero, suc, List, [], ◌∷◌, ◌++◌, length, map, drop, get_or, ap, subst, sym, ◌∙◌, arith, length-append, Bool, true, false, cond, if◌then◌else◌, count_by, slice_get, unwrap_or, None, length-map, sum_by-cons, BYTES, Stmt, Computed, Waited, ActionTree, Let, LetTask, Assign, HeadTree, If, While, Bind, Group, Assume, StmtTree, Do, Headed, IfElse, BlockTree, nothing, first_then, block_tree, view_stmt, MethodTree, DeclTree, Executes, Binds, Acts, Roots, stmt_size, block_size, methods_size, script_size, NameKind, DirectoryView, directory_of, declared_in, locals_in, roots_in, actors_in, fields_in, ScopeView, with_standing, names_error, scope_after, scope_within, with_parameters, nothing_left_out, Code, act, end, unbind, close_group, assume, isolated, count, count_then, PlanView, is_number, is_handle, action_code, headed_code, stmt_code, block_code}
 use Rattle.script_names.specs.declared.scope.NameKind.TheVariants as kind
 use Rattle.script_names.specs.Directory.{methods_from}
 use Rattle.script_compiler.specs.Few.{HasFewNames}
-use Rattle.script_compiler.proofs.Blocks.{at_item, through_more}
+use Rattle.script_compiler.proofs.Blocks.{at_item}
 
 -- no more task locals, roots, actors and methods than the script is large
 few_locals : (xs : List DeclTree) → length (locals_in xs) ≤ script_size xs
@@ -79,7 +79,7 @@ one_stands : (ks : List NameKind) (k : NameKind) → length (ks ++ k ∷ []) ≡
 one_stands ks k = omega (arith, length-append ks (k ∷ []))
 
 -- a statement makes one name at most
-after_stands : (s : ScopeView) (x : StmtTree) → length (scope_after s x).kinds ≤ length s.kinds + stmt_size x
+pub after_stands : (s : ScopeView) (x : StmtTree) → length (scope_after s x).kinds ≤ length s.kinds + stmt_size x
 after_stands s (Do (Let n v)) = omega (arith, one_stands s.kinds kind.Number)
 after_stands s (Do (LetTask n m)) = omega (arith, one_stands s.kinds kind.Task)
 after_stands s _ = omega arith
@@ -94,14 +94,6 @@ not_empty (IfElse t a b) = omega arith
 pub size_next : (block : List Stmt) (i : ℕ) (x : Stmt) → i < length block → x ≡ get_or block i x
     → block_size (block_tree (map view_stmt (drop i block))) ≡ stmt_size (view_stmt x) + block_size (block_tree (map view_stmt (drop (i + 1) block)))
 size_next block i x h is = ap block_size (at_item block i x h is)
-
--- what stands at a place of a block leaves room for the statements from there on
-pub stands_through : (s : ScopeView) (block : List Stmt) (i : ℕ)
-    → length (scope_through s (map view_stmt (take i block))).kinds + block_size (block_tree (map view_stmt (drop i block))) ≤ length s.kinds + block_size (block_tree (map view_stmt block))
-stands_through s [] zero = omega arith
-stands_through s [] (suc i) = omega arith
-stands_through s (x ∷ xs) zero = omega arith
-stands_through s (x ∷ xs) (suc i) = omega (arith, stands_through (scope_after s (view_stmt x)) xs i, after_stands s (view_stmt x))
 
 -- a statement takes two instructions at most, beside those of its blocks
 action_takes : (p : PlanView) (s : ScopeView) (a : ActionTree) → count (action_code p s a) ≤ 2
@@ -118,8 +110,8 @@ assumed_takes false inner = omega arith
 headed_takes : (p : PlanView) (s : ScopeView) (h : HeadTree) (inner : Code) → count (headed_code p s h inner) ≤ 2 + count inner
 headed_takes p s (If t) inner = omega arith
 headed_takes p s (While t) inner = omega arith
-headed_takes p s (Bind n t) inner = omega (arith, count_then inner (foot (Bind n t)))
-headed_takes p s (Group n) inner = omega (arith, count_then inner (foot (Group n)))
+headed_takes p s (Bind n t) inner = omega (arith, count_then inner (act unbind end))
+headed_takes p s (Group n) inner = omega (arith, count_then inner (act close_group end))
 headed_takes p s (Assume n) inner = assumed_takes _ inner
 
 mutual
@@ -132,28 +124,12 @@ mutual
   block_takes p s nothing = omega arith
   block_takes p s (first_then x xs) = omega (arith, count_then (stmt_code p s x) (block_code p (scope_after s x) xs), stmt_takes p s x, block_takes p (scope_after s x) xs)
 
-pub foot_takes : (h : HeadTree) → count (foot h) ≤ 1
-foot_takes (If t) = omega arith
-foot_takes (While t) = omega arith
-foot_takes (Bind n t) = omega arith
-foot_takes (Group n) = omega arith
-foot_takes (Assume n) = omega arith
-
 -- the statements from a place on are no larger than the block
 pub size_left : (block : List Stmt) (i : ℕ) → block_size (block_tree (map view_stmt (drop i block))) ≤ block_size (block_tree (map view_stmt block))
 size_left [] zero = omega arith
 size_left [] (suc i) = omega arith
 size_left (x ∷ xs) zero = omega arith
 size_left (x ∷ xs) (suc i) = omega (arith, size_left xs i)
-
--- what stands again before a statement leaves room for it and those after it
-pub stands_back : (t u v : ScopeView) (block : List Stmt) (left i : ℕ) (x : Stmt) → i + 1 ≡ left → i < length block → x ≡ get_or block i x
-    → u ≡ scope_through t (map view_stmt (take left block)) → ((s : ScopeView) → u ≡ scope_after s (view_stmt x) → v ≡ s)
-    → length v.kinds + block_size (block_tree (map view_stmt (drop i block))) ≤ length t.kinds + block_size (block_tree (map view_stmt block))
-stands_back t u v block left i x is_next h is standing back =
-    let s = scope_through t (map view_stmt (take i block)) in
-    let after : u ≡ scope_after s (view_stmt x) = standing ∙ ap (λ (k : ℕ). scope_through t (map view_stmt (take k block))) (sym is_next) ∙ through_more t block i x h is in
-    omega (arith, stands_through t block i, ap (λ (y : ScopeView). length y.kinds) (back s after))
 
 -- each parameter stands
 pub parameters_stand : (s : ScopeView) (names : List (List ℕ)) → length (with_parameters s names).kinds ≡ length s.kinds + length names

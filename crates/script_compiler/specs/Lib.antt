@@ -15,14 +15,12 @@ pub mod Lowered
 pub mod New
 pub mod Counts
 pub mod StandingInside
-pub mod HeadsInside
 pub mod Parts
 pub mod Places
 pub mod Targets
 pub mod Handles
 pub mod Methods
 pub mod Few
-pub mod RoomInside
 pub mod Waits
 pub mod ListsInside
 pub mod MarksInside

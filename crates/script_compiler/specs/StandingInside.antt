@@ -1,8 +1,6 @@
--- What stands after statements, and what stands again after a block; and what is kept beside the names that stand.
-use Rattle.std.specs.Prelude.{List, [], ◌∷◌, take, length}
-use Rattle.script_grammar.specs.Tree.{StmtTree}
+-- What stands again after a block, and what is kept beside the names that stand.
+use Rattle.std.specs.Prelude.{List, take, length}
 use Rattle.script_names.specs.Scope.{ScopeView}
-use Rattle.script_names.specs.Rules.{scope_after}
 use Rattle.script_names.specs.declared.scope.Outside.{Outside}
 use Rattle.script_compiler.specs.declared.lowering.counts.PlaceCounts.{PlaceCounts}
 use Rattle.script_compiler.specs.Counts.{AreCounts}
@@ -15,11 +13,6 @@ outside_of s = record { actor = s.actor; names = length s.names; bound = s.bound
 -- what stands after a block at whose end this stands
 abbrev pub left : Outside → ScopeView → ScopeView
 left o s = record s { actor = o.actor; names = take o.names s.names; kinds = take o.names s.kinds; bound = o.bound }
-
--- what stands after some statements
-abbrev pub scope_through : ScopeView → List StmtTree → ScopeView
-scope_through s [] = s
-scope_through s (x ∷ xs) = scope_through (scope_after s x) xs
 
 -- The counts are kept before each name that stands and after the last, and the script declares few names.
 pub record IsCounted (s : ScopeView) (counts : List PlaceCounts) (here : PlaceCounts) : Type 0 where

@@ -10,8 +10,6 @@ mod call;
 mod counts;
 // Expressions.
 mod expression;
-// Instructions, one by one.
-mod instruction;
 // Laws of the definitions.
 pub mod laws;
 // Whole methods, and invariants.

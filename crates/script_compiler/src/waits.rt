@@ -7,7 +7,8 @@ ghost use Rattle.script_code.specs.Tree.{wanted_of};
 ghost use Rattle.script_compiler.specs.Compiled.{CompiledView};
 ghost use Rattle.script_compiler.specs.IsCompiled.{root_view, IsCompiled};
 ghost use Rattle.script_compiler.specs.Waiting.{method_wanted, root_wanted, edge_to, wait_for, edges_made, waits_made, edges_of, waits_of, root_methods};
-ghost use Rattle.script_compiler.specs.ActsInside.{operation_of, made_if, made_along, made_through};
+ghost use Rattle.script_compiler.specs.ActsInside.{made_if, made_along, made_through};
+ghost use Rattle.script_code.specs.Statements.{operation_of};
 
 // The first root that waits for itself or for a later one. This and the next two know nothing of scripts: methods and roots are
 // numbers.

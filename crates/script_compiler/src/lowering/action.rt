@@ -1,57 +1,39 @@
-//! Statements without a block. Each of these functions writes the instructions of its part after those that are there,
-//! and answers the number of the one that it begins with.
+//! Statements without a block. Each of these functions puts what its part stands for after the statements that are there.
 
-ghost use Rattle.std.specs.Prelude.{◌≡◌, ◌≤◌, ◌+◌, ◌++◌, length, map, IfOk, OnOk};
-ghost use Rattle.script_grammar.specs.Tree.{view_wait, view_value, view_make, view_action};
-ghost use Rattle.script_code.specs.Tree.{term_of, act, end};
-ghost use Rattle.script_code.specs.Layout.{meaning_of, entry, written};
-ghost use Rattle.script_compiler.specs.Lowered.{wait_to, set_at, value_to, make_to, action_code};
-ghost use Rattle.script_compiler.specs.RoomInside.{greatest};
+ghost use Rattle.std.specs.Prelude.{◌≡◌, ◌<◌, true, length, OnOk};
+ghost use Rattle.script_grammar.specs.Tree.{Do, view_wait, view_value, view_make, view_action};
+ghost use Rattle.script_names.specs.Rules.{scope_after};
+ghost use Rattle.script_code.specs.Layout.{greatest};
+ghost use Rattle.script_code.specs.Statements.{code_of};
+ghost use Rattle.script_code.specs.Tree.{followed, act, end};
+ghost use Rattle.script_compiler.specs.Lowered.{wait_to, value_to, make_to, action_code};
+ghost use Rattle.script_compiler.specs.New.{makes_new};
 
 use crate::lowering::call::{call, lower_awaited, lower_cancelled};
 use crate::lowering::expression::{expression, expression_if, place};
-use crate::lowering::instruction::write;
 use crate::lowering::plan::Plan;
 use crate::lowering::standing::StandingNames;
-use script_code::{Act, Formula, Instruction, NumberPlace};
+use script_code::{Act, NumberPlace, Statement, push_act};
 use script_grammar::{Action, Make, Value, Wait};
+use script_names::NameKind;
 use std::alloc::{AllocError, Global};
 
-// A wait: an instruction that asks, and one that takes the answer.
+// A wait: one act that asks, and one that takes the answer.
+#[tactic(auto, using(script_code::proofs::Layouts::followed_then))]
 fn wait(
     alloc: Global,
     plan: &Plan,
     scope: &StandingNames<'_>,
-    instructions: &mut Vec<Instruction>,
+    statements: &mut Vec<Statement>,
     place: Option<NumberPlace>,
     wait: &Wait,
-    next: u32,
-) -> Result<u32, AllocError>
-    requires { length instructions.old.items + 1 ≤ greatest }
-    ensures lines { OnOk result (map meaning_of instructions.new.items ≡ map meaning_of instructions.old.items ++ written (wait_to plan.now scope.now place (view_wait wait.now)) (length instructions.old.items) next) }
-    ensures start { IfOk result (λ n. n ≡ entry (wait_to plan.now scope.now place (view_wait wait.now)) (length instructions.old.items) next) }
+) -> Result<(), AllocError>
+    ensures { OnOk result (code_of statements.new.items ≡ followed (code_of statements.old.items) (wait_to plan.now scope.now place (view_wait wait.now))) }
 {
     let awaited = lower_awaited(alloc, plan, scope, &wait.awaited)?;
     let other = expression_if(alloc, plan, scope, &wait.other)?;
-    let answer = write(instructions, Act::Receive(place, other), next)?;
-    write(instructions, Act::Wait(awaited), answer)
-}
-
-fn write_set(
-    instructions: &mut Vec<Instruction>,
-    place: NumberPlace,
-    formula: Formula,
-    next: u32,
-) -> Result<u32, AllocError>
-    requires { length instructions.old.items ≤ greatest }
-    ensures lines { OnOk result (map meaning_of instructions.new.items ≡ map meaning_of instructions.old.items ++ written (act (set_at place (term_of formula)) end) (length instructions.old.items) next) }
-    ensures start { IfOk result (λ n. n ≡ entry (act (set_at place (term_of formula)) end) (length instructions.old.items) next) }
-{
-    let act = match place {
-        NumberPlace::Variable(k) => Act::SetVariable(k, formula),
-        NumberPlace::Field(k) => Act::SetField(k, formula),
-    };
-    write(instructions, act, next)
+    push_act(statements, Act::Wait(awaited))?;
+    push_act(statements, Act::Receive(place, other))
 }
 
 // A place is set to a value.
@@ -59,21 +41,22 @@ fn assignment(
     alloc: Global,
     plan: &Plan,
     scope: &StandingNames<'_>,
-    instructions: &mut Vec<Instruction>,
+    statements: &mut Vec<Statement>,
     place: NumberPlace,
     value: &Value,
-    next: u32,
-) -> Result<u32, AllocError>
-    requires { length instructions.old.items + 1 ≤ greatest }
-    ensures lines { OnOk result (map meaning_of instructions.new.items ≡ map meaning_of instructions.old.items ++ written (value_to plan.now scope.now place (view_value value.now)) (length instructions.old.items) next) }
-    ensures start { IfOk result (λ n. n ≡ entry (value_to plan.now scope.now place (view_value value.now)) (length instructions.old.items) next) }
+) -> Result<(), AllocError>
+    ensures { OnOk result (code_of statements.new.items ≡ followed (code_of statements.old.items) (value_to plan.now scope.now place (view_value value.now))) }
 {
     match value {
         Value::Expr(expr) => {
             let formula = expression(alloc, plan, scope, expr)?;
-            write_set(instructions, place, formula, next)
+            let act = match place {
+                NumberPlace::Variable(k) => Act::SetVariable(k, formula),
+                NumberPlace::Field(k) => Act::SetField(k, formula),
+            };
+            push_act(statements, act)
         }
-        Value::Await(awaited) => wait(alloc, plan, scope, instructions, Some(place), awaited, next),
+        Value::Await(awaited) => wait(alloc, plan, scope, statements, Some(place), awaited),
     }
 }
 
@@ -82,14 +65,11 @@ fn make(
     alloc: Global,
     plan: &Plan,
     scope: &StandingNames<'_>,
-    instructions: &mut Vec<Instruction>,
+    statements: &mut Vec<Statement>,
     handle: Option<u32>,
     make: &Make,
-    next: u32,
-) -> Result<u32, AllocError>
-    requires { length instructions.old.items ≤ greatest }
-    ensures lines { OnOk result (map meaning_of instructions.new.items ≡ map meaning_of instructions.old.items ++ written (act (make_to plan.now scope.now handle (view_make make.now)) end) (length instructions.old.items) next) }
-    ensures start { IfOk result (λ n. n ≡ entry (act (make_to plan.now scope.now handle (view_make make.now)) end) (length instructions.old.items) next) }
+) -> Result<(), AllocError>
+    ensures { OnOk result (code_of statements.new.items ≡ followed (code_of statements.old.items) (act (make_to plan.now scope.now handle (view_make make.now)) end)) }
 {
     let act = match make {
         Make::Spawn(spawned, priority) => {
@@ -107,37 +87,39 @@ fn make(
             }
         }
     };
-    write(instructions, act, next)
+    push_act(statements, act)
 }
 
-/// A statement without a block.
+/// A statement without a block. A variable that it makes stands after it.
 pub(crate) fn action(
     alloc: Global,
     plan: &Plan,
-    scope: &StandingNames<'_>,
-    instructions: &mut Vec<Instruction>,
+    scope: &mut StandingNames<'_>,
+    statements: &mut Vec<Statement>,
     action: &Action,
-    next: u32,
-) -> Result<u32, AllocError>
-    requires { length instructions.old.items + 1 ≤ greatest }
-    ensures lines { OnOk result (map meaning_of instructions.new.items ≡ map meaning_of instructions.old.items ++ written (action_code plan.now scope.now (view_action action.now)) (length instructions.old.items) next) }
-    ensures start { IfOk result (λ n. n ≡ entry (action_code plan.now scope.now (view_action action.now)) (length instructions.old.items) next) }
+) -> Result<(), AllocError>
+    requires new { makes_new scope.old (Do (view_action action.now)) ≡ true }
+    requires room { length scope.old.kinds < greatest }
+    ensures code { OnOk result (code_of statements.new.items ≡ followed (code_of statements.old.items) (action_code plan.now scope.old (view_action action.now))) }
+    ensures scope { OnOk result (scope.new ≡ scope_after scope.old (Do (view_action action.now))) }
 {
     match action {
-        Action::Let(_, value) => {
+        Action::Let(name, value) => {
             let place = NumberPlace::Variable(scope.counts().numbers);
-            assignment(alloc, plan, scope, instructions, place, value, next)
+            assignment(alloc, plan, scope, statements, place, value)?;
+            scope.add(alloc, &name.text, NameKind::Number)
         }
-        Action::LetTask(_, made) => {
+        Action::LetTask(name, made) => {
             let handle = Some(scope.counts().handles);
-            make(alloc, plan, scope, instructions, handle, made, next)
+            make(alloc, plan, scope, statements, handle, made)?;
+            scope.add(alloc, &name.text, NameKind::Task)
         }
         Action::Assign(name, value) => {
             let place = place(plan, scope, &name.text);
-            assignment(alloc, plan, scope, instructions, place, value, next)
+            assignment(alloc, plan, scope, statements, place, value)
         }
-        Action::Await(awaited) => wait(alloc, plan, scope, instructions, None, awaited, next),
-        Action::Make(made) => make(alloc, plan, scope, instructions, None, made, next),
+        Action::Await(awaited) => wait(alloc, plan, scope, statements, None, awaited),
+        Action::Make(made) => make(alloc, plan, scope, statements, None, made),
         Action::Add(child) => {
             let group = scope.handle_place(&child.group.text);
             let call = call(alloc, plan, scope, &child.call)?;
@@ -147,21 +129,21 @@ pub(crate) fn action(
                 call,
                 priority: child.priority,
             };
-            write(instructions, act, next)
+            push_act(statements, act)
         }
         Action::Cancel(name) => {
             let cancelled = lower_cancelled(scope, &name.text);
-            write(instructions, Act::Cancel(cancelled), next)
+            push_act(statements, Act::Cancel(cancelled))
         }
         Action::Return(expr) => {
             let value = expression(alloc, plan, scope, expr)?;
-            write(instructions, Act::Return(value), next)
+            push_act(statements, Act::Return(value))
         }
         Action::Throw(expr) => {
             let value = expression(alloc, plan, scope, expr)?;
-            write(instructions, Act::Throw(value), next)
+            push_act(statements, Act::Throw(value))
         }
-        Action::Check => write(instructions, Act::Check, next),
-        Action::Yield => write(instructions, Act::Yield, next),
+        Action::Check => push_act(statements, Act::Check),
+        Action::Yield => push_act(statements, Act::Yield),
     }
 }

@@ -4,7 +4,7 @@ ghost use Rattle.std.specs.Prelude.{◌≡◌, ◌≤◌, ◌<◌, ◌+◌, map}
 ghost use Rattle.script_grammar.specs.Tree.{view_head, view_stmt, block_tree};
 ghost use Rattle.script_grammar.specs.Size.{stmt_size, block_size};
 ghost use Rattle.script_compiler.specs.Counts.{counted, greater, counts_after, counts_within, most_in, most_of};
-ghost use Rattle.script_compiler.specs.RoomInside.{greatest};
+ghost use Rattle.script_code.specs.Layout.{greatest};
 
 use script_grammar::{Action, Head, Stmt};
 use script_names::NameKind;

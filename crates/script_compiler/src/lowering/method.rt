@@ -8,20 +8,17 @@ ghost use Rattle.script_names.specs.Scope.{fields_alone};
 ghost use Rattle.script_names.specs.Rules.{with_parameters};
 ghost use Rattle.script_code.specs.Tree.{term_of};
 ghost use Rattle.script_code.specs.Instructions.{FollowsCode};
-ghost use Rattle.script_code.specs.Layout.{code_at};
+ghost use Rattle.script_code.specs.Layout.{code_at, greatest};
 ghost use Rattle.script_compiler.specs.Counts.{counts_of, most_of};
 ghost use Rattle.script_compiler.specs.Lowered.{lowered, block_code};
 ghost use Rattle.script_compiler.specs.New.{block_new, parameters_new};
-ghost use Rattle.script_compiler.specs.RoomInside.{greatest};
 
-use crate::lowering::block::block;
+use crate::lowering::block::inner;
 use crate::lowering::counts::most_of;
 use crate::lowering::expression::expression;
-use crate::lowering::instruction::write;
 use crate::lowering::plan::Plan;
 use crate::lowering::standing::StandingNames;
-use script_code::laws::written_code_implements;
-use script_code::{Act, Formula, Instruction, renumber};
+use script_code::{Formula, Instruction, instructions_of};
 use script_grammar::{Expr, Name, Stmt};
 use script_names::NameKind;
 use std::alloc::{AllocError, Global};
@@ -95,7 +92,7 @@ fn parameters(
     Ok(())
 }
 
-// The end of a method, its statements before that, and then its first instruction in the place of the end.
+// The instructions of what the statements of a block stand for.
 fn instructions(
     alloc: Global,
     plan: &Plan,
@@ -107,10 +104,6 @@ fn instructions(
     ensures { let code = block_code plan.now scope.old (block_tree (map view_stmt body.now)) in
         IfOk result (λ v. FollowsCode v.items code (code_at code)) }
 {
-    let mut instructions = Vec::new(alloc);
-    write(&mut instructions, Act::End, 0)?;
-    let first = block(alloc, plan, scope, &mut instructions, body, 0)?;
-    renumber(&mut instructions, first);
-    written_code_implements();
-    Ok(instructions)
+    let statements = inner(alloc, plan, scope, body)?;
+    instructions_of(alloc, statements)
 }

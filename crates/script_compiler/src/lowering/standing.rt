@@ -1,14 +1,14 @@
 //! What stands at a place of a method, with the place of each name.
 
-ghost use Rattle.std.specs.Prelude.{◌≡◌, ◌≤◌, ◌<◌, None, is_some, length, take, ℕ, List, IfSome, OnOk};
+ghost use Rattle.std.specs.Prelude.{◌≡◌, ◌≤◌, ◌<◌, None, is_some, length, take, IfSome, OnOk};
 ghost use Rattle.swift_types.specs.declared.limits.TheConstants.{BYTES};
 ghost use Rattle.script_names.specs.Texts.{is_among, place_of};
 ghost use Rattle.script_names.specs.Directory.{fields_at};
-ghost use Rattle.script_names.specs.Scope.{fields_alone, with_standing, meaning_of, ScopeView};
+ghost use Rattle.script_names.specs.Scope.{fields_alone, with_standing, meaning_of};
 ghost use Rattle.script_compiler.specs.Counts.{counts_of};
 ghost use Rattle.script_compiler.specs.Few.{HasFewNames};
 ghost use Rattle.script_compiler.specs.Lowered.{numbers_in, handles_in, number_place, handle_place};
-ghost use Rattle.script_compiler.specs.RoomInside.{greatest};
+ghost use Rattle.script_code.specs.Layout.{greatest};
 ghost use Rattle.script_compiler.specs.StandingInside.{outside_of, left};
 
 use crate::lowering::counts::{PlaceCounts, count_name};
@@ -38,7 +38,7 @@ impl Drop for StandingNames<'_> {
 
 impl<'a> Model for StandingNames<'a> {
     ghost use Rattle.script_names.specs.Scope.{ScopeView};
-    ghost use Rattle.script_compiler.specs.RoomInside.{greatest};
+    ghost use Rattle.script_code.specs.Layout.{greatest};
     ghost use Rattle.script_compiler.specs.StandingInside.{IsCounted};
 
     ghost Value = { ScopeView };
@@ -184,14 +184,5 @@ impl<'a> StandingNames<'a> {
         self.here = self.counts_at(outside.names);
         self.counts.truncate(outside.names);
         self.scope.leave(outside);
-    }
-
-    /// Takes the newest name away.
-    pub(crate) fn remove(&mut self)
-        ensures { (s : ScopeView) (name : List ℕ) (kind : NameKind) → self.old ≡ with_standing s name kind → self.new ≡ s }
-    {
-        let outside = self.scope.outside();
-        let names = outside.names.saturating_sub(1);
-        self.leave(Outside { names, ..outside });
     }
 }

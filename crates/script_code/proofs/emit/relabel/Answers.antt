@@ -1,6 +1,4 @@
-use Rattle.std.proofs.Common.{◌≡◌, ◌+◌, suc, get_or, ◌∙◌, ap, arith}
-use Rattle.std.specs.Prelude.{slice_set}
-use Rattle.script_code.specs.Layout.{relabelled}
+use Rattle.script_code.proofs.Prelude.{◌≡◌, ◌+◌, suc, get_or, ◌∙◌, ap, arith, slice_set, relabelled}
 use Rattle.script_code.proofs.Mapped.{mapped, mapped_next, mapped_all}
 use Rattle.script_code.proofs.emit.relabel.Goals as goal
 

@@ -1,5 +1,4 @@
-use Rattle.std.proofs.Common.{◌≡◌}
-use Rattle.script_code.specs.Layout.{relabelled}
+use Rattle.script_code.proofs.Prelude.{◌≡◌, relabelled}
 use Rattle.script_code.proofs.Mapped.{mapped}
 use Rattle.script_code.proofs.emit.relabel.Given as goal
 

@@ -1,6 +1,4 @@
-use Rattle.std.proofs.Common.{◌≡◌, ◌≤◌, length, take}
-use Rattle.swift_locals.specs.Bindings.{value_of}
-use Rattle.script_code.specs.Seen.{pairs_of}
+use Rattle.script_code.proofs.Prelude.{◌≡◌, ◌≤◌, length, take, value_of, pairs_of}
 use Rattle.script_code.proofs.evaluation.read_own.Given as goal
 
 abbrev pub invariant-loop-left : goal.invariant-loop-left

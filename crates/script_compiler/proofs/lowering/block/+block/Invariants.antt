@@ -1,17 +1,28 @@
-use Rattle.script_compiler.proofs.Prelude.{◌≡◌, ◌≤◌, ◌++◌, length, take, drop, map, view_stmt, block_tree, meaning_of, entry, written, block_code, scope_through}
+use Rattle.script_compiler.proofs.Prelude.{◌≡◌, ◌≤◌, ◌+◌, ◌*◌, true, drop, length, map, view_stmt, block_tree, stmt_size, block_size, greatest, code_of, followed, block_new, left}
+use Rattle.script_compiler.proofs.Blocks.{code_in}
 use Rattle.script_compiler.proofs.lowering.block.+block.Given as goal
 
+abbrev pub decreases-statement : goal.decreases-statement
+decreases-statement l = 5 * stmt_size (view_stmt l.stmt.now)
+
+abbrev pub decreases-block : goal.decreases-block
+decreases-block l = 5 * block_size (block_tree (map view_stmt l.block.now)) + 1
+
+abbrev pub decreases-inner : goal.decreases-inner
+decreases-inner l = 5 * block_size (block_tree (map view_stmt l.body.now)) + 2
+
+abbrev pub decreases-assumed : goal.decreases-assumed
+decreases-assumed l = 5 * block_size (block_tree (map view_stmt l.body.now)) + 3
+
+abbrev pub decreases-headed : goal.decreases-headed
+decreases-headed l = 5 * block_size (block_tree (map view_stmt l.body.now)) + 4
+
 abbrev pub invariant-block-loop-stmt : goal.invariant-block-loop-stmt
-invariant-block-loop-stmt l = l.scope ≡ scope_through l.initial.scope (map view_stmt (take l.stmt-index l.block))
-
--- the statements from `left` on are written, and what stood at them stands
-abbrev pub invariant-block-loop-left : goal.invariant-block-loop-left
-invariant-block-loop-left l = record {
-  within : l.left ≤ length l.block;
-  standing : l.scope ≡ scope_through l.fn.scope (map view_stmt (take l.left l.block));
-  lines : map meaning_of l.instructions.items ≡ map meaning_of l.fn.instructions.items ++ written (block_code l.plan l.scope (block_tree (map view_stmt (drop l.left l.block)))) (length l.fn.instructions.items) l.fn.next;
-  start : l.first ≡ entry (block_code l.plan l.scope (block_tree (map view_stmt (drop l.left l.block)))) (length l.fn.instructions.items) l.fn.next;
+invariant-block-loop-stmt l = record {
+  code : followed (code_of l.statements.items) (code_in l.plan l.scope (drop l.stmt-index l.block)) ≡ followed (code_of l.initial.statements.items) (code_in l.plan l.initial.scope l.block);
+  new : block_new l.scope (block_tree (map view_stmt (drop l.stmt-index l.block))) ≡ true;
+  room : length l.scope.kinds + block_size (block_tree (map view_stmt (drop l.stmt-index l.block))) ≤ greatest;
+  outside : left l.outside l.scope ≡ l.initial.scope;
+  count : l.outside.names ≡ length l.initial.scope.names;
+  kinds : length l.initial.scope.kinds ≡ length l.initial.scope.names;
 }
-
-abbrev pub decreases-block-loop-left : goal.decreases-block-loop-left
-decreases-block-loop-left l = l.left
