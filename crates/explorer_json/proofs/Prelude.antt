@@ -8,5 +8,5 @@ pub use Rattle.std.proofs.Common.{List, None, OnOk, Option, Some, Vec, [], ap, a
 pub use Rattle.std.proofs.lemmas.List.{at_drop_more, map_more, map_push}
 pub use Rattle.std.specs.declared.alloc.Global.{Global}
 pub use Rattle.swift_explorer.specs.FoundText.{begins, turns_before}
-pub use Rattle.swift_tool.proofs.Joined.{onto, said, seven_joined, six_joined, three_joined}
-pub use Rattle.swift_tool.specs.ReportJson.{actor_json, comma, fields_json, tasks_json}
+pub use Rattle.swift_report.proofs.Pieces.{onto, said, seven_joined, six_joined, three_joined}
+pub use Rattle.swift_report.specs.ReportJson.{actor_json, comma, fields_json, tasks_json}

@@ -5,7 +5,7 @@ use Rattle.swift_script.specs.Scripts.{ScriptView, actor_count}
 use Rattle.swift_explorer.specs.declared.exploration.FoundOutcomes.{FoundOutcomes}
 use Rattle.swift_explorer.specs.declared.outcome.RunOutcome.{RunOutcome}
 use Rattle.swift_explorer.specs.FoundText.{is_at_limit}
-use Rattle.swift_tool.specs.ReportJson.{comma, fields_json, tasks_json}
+use Rattle.swift_report.specs.ReportJson.{comma, fields_json, tasks_json}
 use Rattle.expectations.specs.declared.answer.Answer.{Answer}
 use Rattle.expectations.specs.declared.answer.Answer.TheVariants as answer
 use Rattle.expectations.specs.declared.expectation.Expectation.{Expectation}

@@ -5,7 +5,7 @@ use Rattle.std.specs.declared.alloc.Global.{Global}
 use Rattle.swift_explorer.specs.declared.moves.Move.{Move}
 use Rattle.swift_explorer.specs.declared.moves.Move.TheVariants as step
 use Rattle.swift_explorer.specs.FoundText.{turns_before}
-use Rattle.swift_tool.specs.ReportJson.{comma}
+use Rattle.swift_report.specs.ReportJson.{comma}
 
 -- which turn: its task, and its number among those of the task
 abbrev pub turn_json : ℕ → ℕ → List ℕ

@@ -3,7 +3,7 @@ use Rattle.std.specs.Prelude.{ℕ, ◌+◌, List, [], ◌∷◌, ◌++◌, codes
 use Rattle.swift_script.specs.Scripts.{ScriptView}
 use Rattle.swift_explorer.specs.declared.exploration.FoundOutcomes.{FoundOutcomes}
 use Rattle.swift_explorer.specs.declared.outcome.RunOutcome.{RunOutcome}
-use Rattle.swift_tool.specs.ReportJson.{comma}
+use Rattle.swift_report.specs.ReportJson.{comma}
 use Rattle.expectations.specs.declared.expectation.Expectation.{Expectation}
 use Rattle.explorer_answers.specs.declared.meaning.SwiftMeaning.{SwiftMeaning}
 use Rattle.explorer_answers.specs.declared.meaning.SwiftMeaning.TheVariants as swift

@@ -1,7 +1,7 @@
 //! Numbers and commas at the end of a text.
 
 ghost use Rattle.std.specs.Prelude.{◌≡◌, ◌++◌, OnOk, decimal};
-ghost use Rattle.swift_tool.specs.ReportJson.{comma};
+ghost use Rattle.swift_report.specs.ReportJson.{comma};
 
 use itoa::Buffer;
 use std::alloc::AllocError;

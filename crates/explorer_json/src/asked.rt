@@ -1,7 +1,7 @@
 //! What is asked, and what comes of it.
 
 ghost use Rattle.std.specs.Prelude.{◌≡◌, ◌++◌, OnOk};
-ghost use Rattle.swift_tool.specs.ReportJson.{comma};
+ghost use Rattle.swift_report.specs.ReportJson.{comma};
 ghost use Rattle.explorer_answers.specs.AnswerText.{verdict_at};
 ghost use Rattle.explorer_json.specs.AnswerJson.{expectation_json, expectations_json, verdict_json, verdicts_json};
 

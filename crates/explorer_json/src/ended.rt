@@ -8,9 +8,8 @@ use crate::append::say;
 use std::alloc::{AllocError, Global};
 use swift_explorer::RunOutcome;
 use swift_log::EventLog;
-use swift_report::Report;
+use swift_report::{Report, report_json};
 use swift_script::Script;
-use swift_tool::report_json;
 
 // A copy of the fields of an executor.
 fn copy_of(alloc: Global, rows: &[Vec<i64>]) -> Result<Vec<Vec<i64>>, AllocError>

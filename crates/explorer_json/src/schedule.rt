@@ -2,7 +2,7 @@
 
 ghost use Rattle.std.specs.Prelude.{◌≡◌, ◌<◌, ◌≤◌, ◌++◌, OnOk, codes, length};
 ghost use Rattle.swift_explorer.specs.FoundText.{begins, turns_before};
-ghost use Rattle.swift_tool.specs.ReportJson.{comma};
+ghost use Rattle.swift_report.specs.ReportJson.{comma};
 ghost use Rattle.explorer_json.specs.Schedules.{broken_json, schedule_json, step_json, steps_json, turn_json};
 
 use crate::append::{comma, labelled, say};

@@ -1,7 +1,7 @@
 //! All that a search of a Swift file's script says.
 
 ghost use Rattle.std.specs.Prelude.{◌≡◌, ◌++◌, IfOk, OnOk};
-ghost use Rattle.swift_tool.specs.ReportJson.{comma};
+ghost use Rattle.swift_report.specs.ReportJson.{comma};
 ghost use Rattle.explorer_answers.specs.SwiftMeanings.{meaning};
 ghost use Rattle.explorer_json.specs.SwiftJson.{meaning_json, meanings_json, swift_answer_json, swift_head_json};
 

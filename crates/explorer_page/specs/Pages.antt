@@ -2,7 +2,7 @@
 use Rattle.std.specs.Prelude.{◌≡◌, ℕ, ◌+◌, List, [], ◌∷◌, ◌++◌, codes, take}
 use Rattle.swift_script.specs.Scripts.{ScriptView}
 use Rattle.swift_report.specs.declared.report.Report.{Report}
-use Rattle.swift_tool.specs.ReportJson.{comma}
+use Rattle.swift_report.specs.ReportJson.{comma}
 use Rattle.swift_explorer.specs.declared.exploration.FoundOutcomes.{FoundOutcomes}
 use Rattle.expectations.specs.declared.expectation.Expectation.{Expectation}
 use Rattle.explorer_json.specs.AnswerJson.{answer_json}

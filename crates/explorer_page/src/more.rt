@@ -1,7 +1,7 @@
 //! What stands beside the answer.
 
 ghost use Rattle.std.specs.Prelude.{◌≡◌, ◌++◌, OnOk, codes};
-ghost use Rattle.swift_tool.specs.ReportJson.{comma};
+ghost use Rattle.swift_report.specs.ReportJson.{comma};
 ghost use Rattle.explorer_page.specs.Pages.{heading_json, more_json, run_json, runs_json};
 
 use explorer_json::put_string;

@@ -4,7 +4,7 @@ ghost use Rattle.std.specs.Prelude.{◌≡◌, false, take, IfOk, Some};
 ghost use Rattle.std.specs.Arc.{arc_value};
 ghost use Rattle.swift_explorer.specs.FoundText.{schedule_text};
 ghost use Rattle.swift_report.specs.Text.{report_text};
-ghost use Rattle.swift_tool.specs.ReportJson.{report_json};
+ghost use Rattle.swift_report.specs.ReportJson.{report_json};
 ghost use Rattle.swift_tool.specs.Run.{end_well};
 ghost use Rattle.nuchapay_runs.specs.Noted.{noted_text};
 ghost use Rattle.nuchapay_runs.specs.Notes.{IsAnnotated};
@@ -26,9 +26,9 @@ use swift_certificate::legal;
 use swift_explorer::{
     Completion, Move, StepFault, complete_schedule, schedule_report, schedule_text,
 };
-use swift_report::{Report, report_text};
+use swift_report::{Report, report_json, report_text};
 use swift_script::{Script, read};
-use swift_tool::{ToolFault, report_json};
+use swift_tool::ToolFault;
 use swift_types::TaskId;
 use swift_workers::RunFault;
 

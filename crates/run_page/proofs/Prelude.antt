@@ -11,5 +11,5 @@ pub use Rattle.std.proofs.lemmas.List.{at_drop_more, drop_all, drop_more, length
 pub use Rattle.swift_events.specs.declared.event.Event.{Event}
 pub use Rattle.swift_report.specs.declared.report.Report.{Report}
 pub use Rattle.swift_script.specs.Scripts.{ScriptView, executor_count}
-pub use Rattle.swift_tool.specs.ReportJson.{report_json}
+pub use Rattle.swift_report.specs.ReportJson.{report_json}
 pub use Rattle.swift_types.specs.declared.id.TaskId.{TaskId}

@@ -2,7 +2,7 @@
 use Rattle.std.specs.Prelude.{◌≡◌, ℕ, false, List, ◌++◌}
 use Rattle.swift_script.specs.Scripts.{ScriptView}
 use Rattle.swift_report.specs.declared.report.Report.{Report}
-use Rattle.swift_tool.specs.ReportJson.{report_json}
+use Rattle.swift_report.specs.ReportJson.{report_json}
 use Rattle.run_page.specs.Escapes.{IsPlain, escaped}
 use Rattle.run_page.specs.RunJson.{ExplainedTurn, IsToldOfRun, more_json}
 use Rattle.run_page.specs.declared.more.Heading.{Heading}

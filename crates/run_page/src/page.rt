@@ -1,7 +1,7 @@
 //! The whole page.
 
 ghost use Rattle.std.specs.Prelude.{◌≡◌, ◌++◌, IfOk, OnOk, false};
-ghost use Rattle.swift_tool.specs.ReportJson.{report_json as json_of};
+ghost use Rattle.swift_report.specs.ReportJson.{report_json as json_of};
 ghost use Rattle.run_page.specs.Escapes.{escaped};
 ghost use Rattle.run_page.specs.Pages.{IsPage, page_bytes};
 ghost use Rattle.run_page.specs.RunJson.{AppendsTold, IsToldOfRun, more_json};
@@ -11,9 +11,8 @@ use crate::markup::escape;
 use crate::more::{Heading, more};
 use crate::texts::{MIDDLE, back, front};
 use std::alloc::{AllocError, Global};
-use swift_report::Report;
+use swift_report::{Report, report_json};
 use swift_script::Script;
-use swift_tool::report_json;
 
 // The report, as `run --format json` prints it.
 fn report_part(

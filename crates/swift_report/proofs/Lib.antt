@@ -1,5 +1,9 @@
+pub mod Prelude
+pub mod JsonPlaces
+pub mod JsonRows
 pub mod Joined
 pub mod Past
+pub mod Pieces
 pub mod Places
 pub mod Rows
 pub mod Written

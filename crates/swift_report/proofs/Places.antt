@@ -7,7 +7,7 @@ use Rattle.swift_report.specs.declared.line.Line.{Line}
 use Rattle.swift_report.specs.Text.{line_of, turn_text, turns_text}
 
 -- an element of a list that has one
-first_of : {X : Type 0} (xs : List X) (k : ℕ) → k < length xs → X
+pub first_of : {X : Type 0} (xs : List X) (k : ℕ) → k < length xs → X
 first_of [] k lt = absurd (omega (arith, lt))
 first_of (x ∷ xs) k lt = x
 

@@ -1,9 +1,12 @@
-//! What a run leaves: the journal of each executor, how each task ended, and the fields; its text; and how a text is written to a device.
+//! What a run leaves: the journal of each executor, how each task ended, and the fields; its text, and its JSON; and how a text is written
+//! to a device.
 #![tactic(auto)]
 
 // Numbers in decimal.
 mod append;
-// What a line says of a turn.
+// A report as JSON.
+mod json;
+// What is told of a turn.
 mod line;
 // Names by the places of journals and fields.
 mod names;
@@ -18,6 +21,7 @@ mod turns;
 // Faults, resumes and endings in words.
 mod word;
 
+pub use json::report_json;
 pub use output::{Device, write_all};
 pub use report::Report;
 pub use text::report_text;

@@ -167,8 +167,8 @@ fn row_among<'a>(actors: &[ActorId], rows: &'a [Vec<i64>], actor: ActorId) -> &'
     row_among(others, rest, actor)
 }
 
-// The fields of an actor, where those of the actors of each executor are given.
-fn row_of<'a>(script: &Script, fields: &'a [Vec<Vec<i64>>], actor: ActorId) -> &'a [i64]
+/// The fields of an actor, where those of the actors of each executor are given.
+pub(crate) fn row_of<'a>(script: &Script, fields: &'a [Vec<Vec<i64>>], actor: ActorId) -> &'a [i64]
     requires { actor.0 < actor_count script.now }
     ensures { result.now ≡ row_of script.now fields.now actor.0 }
 {

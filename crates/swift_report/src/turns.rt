@@ -12,8 +12,8 @@ use swift_journal::{BriefExit, Checkpoint, Journal};
 use swift_script::Script;
 use swift_types::{Env, ExecutorKind, MethodId};
 
-// A method by its names.
-fn method(out: &mut Vec<u8>, script: &Script, method: MethodId) -> Result<(), AllocError>
+/// A method by its names; nothing where there is none.
+pub(crate) fn method(out: &mut Vec<u8>, script: &Script, method: MethodId) -> Result<(), AllocError>
     ensures { OnOk result (out.new.items ≡ out.old.items ++ method_text script.now method.0) }
 {
     if method.0 as usize >= script.method_count() {
@@ -176,8 +176,8 @@ fn executor(
     turns(out, script, folded, journal)
 }
 
-// How many turns of the executor at a place were folded.
-fn folded_at(checkpoints: &[Checkpoint], place: usize) -> usize
+/// How many turns of the executor at a place were folded.
+pub(crate) fn folded_at(checkpoints: &[Checkpoint], place: usize) -> usize
     ensures count { result ≡ folded_count (slice_get checkpoints.now place) }
     ensures limit { result < 2 ^ 63 }
 {

@@ -2,7 +2,7 @@
 use Rattle.std.specs.Prelude.{◌≡◌, ℕ, Bool, Option, List}
 use Rattle.std.specs.Io.KnownBytes.{Appends}
 use Rattle.swift_report.specs.Part.{WritesPart}
-use Rattle.swift_tool.specs.ReportJson.{report_json}
+use Rattle.swift_report.specs.ReportJson.{report_json}
 use Rattle.swift_tool.specs.Run.{IsRefusal, IsRunOf}
 use Rattle.swift_tool.specs.declared.fault.ToolFault.{ToolFault}
 use Rattle.swift_tool.specs.declared.fault.ToolFault.TheVariants as tool

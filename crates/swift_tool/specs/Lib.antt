@@ -2,4 +2,3 @@ pub mod Ended
 pub mod Input
 pub mod Run
 pub mod Json
-pub mod ReportJson

@@ -1,19 +1,79 @@
-//! From a script's text to its report as JSON, and from a report to its JSON, for any program.
+//! From a script's text to a report's JSON.
 
-// Numbers and commas.
-mod append;
-// What is told of a turn.
-mod line;
-// Names by the places of journals and fields.
-mod names;
-// From a script's text to a report's JSON.
-mod run;
-// A report.
-mod text;
-// Turns and executors.
-mod turns;
-// Faults, resumes and endings.
-mod word;
+ghost use Rattle.std.specs.Prelude.{◌≡◌, ◌⊎◌, ◌<◌, ◌↔◌, Err, IfErr, IfOk};
+ghost use Rattle.swift_types.specs.declared.limits.TheConstants.{WORKERS};
+ghost use Rattle.swift_workers.specs.declared.fault.RunFault.TheVariants.{Workers};
+ghost use Rattle.swift_tool.specs.declared.fault.ToolFault.TheVariants.{Run};
+ghost use Rattle.swift_tool.specs.Run.{IsCrew, IsRefusal};
+ghost use Rattle.swift_tool.specs.Json.{IsJsonOf, Leaves, WritesJson};
 
-pub use run::run_json;
-pub use text::report_json;
+use crate::fault::ToolFault;
+use crate::run::all_ended_well;
+use std::alloc::AllocGlobal;
+use std::io::Write;
+use std::random::RandomSource;
+use std::sync::{Arc, Wait};
+use std::thread::Threads;
+use swift_report::{report_json, write_all};
+use swift_script::read;
+use swift_types::limits::WORKERS;
+use swift_workers::{Gate, RunFault, run};
+
+/// Runs the script that a text spells, on `workers` threads, and writes its report as JSON (the format is our own), in one piece as far as
+/// the device takes it; with `quiet` without the journals. True where no task ended with a fault. It is the report whose text `run_text`
+/// writes, and all else is as there.
+///
+/// # Errors
+///
+/// `Run(Workers)` for any number of workers but 1 to 8, before anything is made. `Script` where the text is refused, and `Run` where the
+/// run is. In these cases nothing is written. `Device` where a write failed or took no byte: then a prefix of the JSON is written, and
+/// not all of it.
+pub fn run_json<R, G, W>(
+    rt: &R,
+    bytes: &[u8],
+    workers: u32,
+    quiet: bool,
+    gate: &G,
+    out: &mut W,
+) -> Result<bool, ToolFault>
+where
+    R: RandomSource + AllocGlobal + Threads + Wait + Sync,
+    G: Gate + Sync,
+    W: Write,
+    ensures text { IfOk result (λ well. WritesJson bytes.now quiet well (W.contents out.old) (W.contents out.new)) }
+    ensures workers { (result ≡ Err (Run Workers)) ↔ ((workers ≡ 0) ⊎ (WORKERS < workers)) }
+    ensures refused { IfErr result (λ e. Leaves bytes.now workers quiet (W.contents out.old) (W.contents out.new) e) }
+{
+    if workers == 0 || workers as usize > WORKERS {
+        return Err(ToolFault::Run(RunFault::Workers));
+    }
+    let (text, is_well) = run_to_json(rt, bytes, workers, quiet, gate)?;
+    write_all(out, &text)?;
+    Ok(is_well)
+}
+
+// The JSON of a run's report, and whether each task ended with a value.
+fn run_to_json<R, G>(
+    rt: &R,
+    bytes: &[u8],
+    workers: u32,
+    quiet: bool,
+    gate: &G,
+) -> Result<(Vec<u8>, bool), ToolFault>
+where
+    R: RandomSource + AllocGlobal + Threads + Wait + Sync,
+    G: Gate + Sync,
+    requires { IsCrew workers }
+    ensures text { IfOk result (λ r. IsJsonOf bytes.now quiet r.0.items r.1) }
+    ensures refused { IfErr result (IsRefusal bytes.now workers) }
+{
+    let alloc = rt.alloc();
+    let found = read(alloc, bytes)?;
+    found.facts();
+    let script = Arc::new(alloc, found)?;
+    let shared = Arc::clone(&script)?;
+    let report = run(rt, shared, workers, gate)?;
+    let text = report_json(alloc, &script, &report, quiet)?;
+    let is_well = all_ended_well(&report.endings);
+    Ok((text, is_well))
+}

@@ -7,7 +7,7 @@ mod ended;
 mod fault;
 // A script from a device.
 mod input;
-// Reports as JSON.
+// From a script's text to its report's JSON.
 mod json;
 // From a script's text to a report's.
 mod run;
@@ -19,7 +19,7 @@ mod words;
 pub use ended::status;
 pub use fault::ToolFault;
 pub use input::read_input;
-pub use json::{report_json, run_json};
+pub use json::run_json;
 pub use run::run_text;
 pub use settings::Options;
 pub use words::options;

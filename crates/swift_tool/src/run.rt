@@ -78,8 +78,8 @@ where
     Ok((text, is_well))
 }
 
-// Whether each task ended with a value.
-fn all_ended_well(endings: &[(Origin, Ending)]) -> bool
+/// Whether each task ended with a value.
+pub(crate) fn all_ended_well(endings: &[(Origin, Ending)]) -> bool
     ensures { result ≡ end_well endings.now }
 {
     match endings {
