@@ -25,7 +25,7 @@ pub use Rattle.std.specs.declared.alloc.Global.{Global}
 pub use Rattle.swift_events.specs.declared.life.Origin.{Origin}
 pub use Rattle.swift_journal.specs.Checkpoints.{CheckpointRoomView, FoldedView}
 pub use Rattle.swift_journal.specs.Records.{RecordView, owned_view}
-pub use Rattle.swift_journal.specs.Replay.{fields_after, replay}
+pub use Rattle.swift_history.specs.Replay.{fields_after, replay}
 pub use Rattle.swift_report.specs.Text.{executor_text, executors_text, folded_count, folded_text, heading_text, line_of, report_text, tasks_text, turn_text, turns_text}
 pub use Rattle.swift_report.specs.declared.report.Report.{Report}
 pub use Rattle.swift_script.specs.Scripts.{ScriptView, actor_count, method_actor, method_code, method_count, method_name, no_method, parts_of}

@@ -6,7 +6,7 @@ use Rattle.script_code.specs.Instructions.{FollowsCode}
 use Rattle.script_code.specs.Layout.{code_at}
 use Rattle.swift_script.specs.Scripts.{ScriptView, method_actor, method_code}
 use Rattle.swift_journal.specs.Records.{RecordView}
-use Rattle.swift_journal.specs.Replay.{replay}
+use Rattle.swift_history.specs.Replay.{replay}
 use Rattle.swift_journal.specs.Checkpoints.{CheckpointRoomView, FoldedView}
 use Rattle.swift_report.specs.declared.report.Report.{Report}
 use Rattle.run_pictures.specs.LastTurns.{IsLastTurn, IsOfOther}

@@ -5,7 +5,7 @@ use Rattle.swift_events.specs.declared.life.Origin.{Origin}
 use Rattle.swift_script.specs.Scripts.{ScriptView, executor_actors}
 use Rattle.swift_journal.specs.Checkpoints.{CheckpointRoomView}
 use Rattle.swift_journal.specs.Records.{RecordView}
-use Rattle.swift_journal.specs.Replay.{fields_after}
+use Rattle.swift_history.specs.Replay.{fields_after}
 use Rattle.swift_report.specs.Text.{folded_count, folded_text, heading_text, line_of, report_text, turn_text}
 use Rattle.swift_report.specs.declared.report.Report.{Report}
 use Rattle.nuchapay_runs.specs.False.{false_lines, invariants_among}

@@ -7,7 +7,7 @@ ghost use Rattle.script_code.specs.Seen.{rows_of};
 ghost use Rattle.script_compiler.specs.IsCompiled.{actor_number};
 ghost use Rattle.swift_script.specs.Scripts.{method_actor, method_code, method_count};
 ghost use Rattle.swift_journal.specs.Records.{RecordView, owned_view};
-ghost use Rattle.swift_journal.specs.Replay.{replay};
+ghost use Rattle.swift_history.specs.Replay.{replay};
 ghost use Rattle.swift_report.specs.Text.{line_of};
 ghost use Rattle.run_pictures.specs.Values.{values_from, values_views};
 ghost use Rattle.nuchapay_runs.specs.Explains.{Explains, IsNotFolded, IsWhyAt, Tells};

@@ -3,7 +3,7 @@
 ghost use Rattle.std.specs.Prelude.{◌≡◌, ◌+◌, ◌<◌, ◌^◌, false, length, slice_get, slice_index_or, IfOk, OnOk};
 ghost use Rattle.script_code.specs.Seen.{rows_of};
 ghost use Rattle.swift_journal.specs.Records.{RecordView};
-ghost use Rattle.swift_journal.specs.Replay.{fields_after};
+ghost use Rattle.swift_history.specs.Replay.{fields_after};
 ghost use Rattle.swift_report.specs.Text.{folded_count, report_text as text_of};
 ghost use Rattle.nuchapay_runs.specs.Noted.{fields_before, first_lines, noted_executor, noted_executors, noted_text, noted_turn, noted_turns};
 ghost use Rattle.nuchapay_runs.specs.Notes.{IsAnnotated};

@@ -14,5 +14,5 @@ pub use Rattle.std.proofs.lemmas.Bool.{cases_eq, cases_lt, cond-false, cond-true
 pub use Rattle.std.proofs.lemmas.List.{at_drop_all, at_drop_more, drop-drop, drop-set-lt, drop_more, get_or-drop, get_or-map, get_or-set_other, length-map, length-replicate, map-set, map_more, map_push, replicate_more, take_more, take_more_set}
 pub use Rattle.std.specs.Global.{Vec}
 pub use Rattle.swift_journal.specs.Records.{RecordView, owned_view}
-pub use Rattle.swift_journal.specs.Replay.{fields_after, replay}
+pub use Rattle.swift_history.specs.Replay.{fields_after, replay}
 pub use Rattle.swift_script.specs.Scripts.{ScriptView, method_actor, method_code, method_count, no_method, parts_of}

@@ -8,7 +8,7 @@ use Rattle.swift_script.specs.Scripts.{ScriptView}
 use Rattle.swift_interpreter.specs.Turn.{ExitView, Played, undoes, whole_turn}
 use Rattle.swift_turn.specs.Body.{invariants_at, state_at}
 use Rattle.swift_journal.specs.Records.{RecordView}
-use Rattle.swift_journal.specs.Replay.{fields_after}
+use Rattle.swift_history.specs.Replay.{fields_after}
 use Rattle.run_pictures.specs.declared.values.change.Change.{Change}
 use Rattle.run_pictures.specs.declared.values.change.Outcome.{Outcome}
 use Rattle.run_pictures.specs.declared.values.change.Outcome.TheVariants.{Kept, Undone, Broke}

@@ -1,6 +1,6 @@
 -- The journals of a history whose blocks may stand are lawful.
 use Rattle.swift_certificate.proofs.Prelude.{◌≡◌, ℕ, ℤ, List, [], ◌∷◌, ◌++◌, refl, sym, subst, ap, ◌∙◌, append_assoc, inl, inr, Option, Some, None, if◌then◌else◌, unwrap_or, cases_eq, append-nil, ScriptView, actor_executor, method_actor, RecordView, CheckpointView, AllStand, Block, added, begun, ran, folded, IsLegal, ReportView, RecordStands, Stands, after_blocks, at_first, checkpoint_at, no_checkpoint, record_in, records_of, filter_none, filter_some, equal, unequal}
-use Rattle.swift_journal.specs.Replay.{AreLawful, IsLawfulRecord, LawfulGrows, RunOn, replay}
+use Rattle.swift_history.specs.Replay.{AreLawful, IsLawfulRecord, LawfulGrows, RunOn, replay}
 use Rattle.swift_certificate.specs.Laws.{HasExecutor, IsReplayed}
 
 abbrev Grows : Type 0

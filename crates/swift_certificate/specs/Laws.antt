@@ -5,7 +5,7 @@ use Rattle.script_code.specs.Value.{holds}
 use Rattle.swift_script.specs.Scripts.{ScriptView, executor_invariants}
 use Rattle.swift_journal.specs.Records.{RecordView}
 use Rattle.swift_journal.specs.Checkpoints.{CheckpointView}
-use Rattle.swift_journal.specs.Replay.{AreLawful, RunOn, replay}
+use Rattle.swift_history.specs.Replay.{AreLawful, RunOn, replay}
 use Rattle.swift_history.specs.Histories.{IsLegal, ReportView}
 
 -- what a report has of an executor

@@ -2,7 +2,7 @@
 
 ghost use Rattle.swift_certificate.specs.Laws.{LegalIsReplayed, LegalKeepsInvariants};
 
-use swift_journal::laws::{invariants_stay, lawful_grows};
+use swift_history::laws::{invariants_stay, lawful_grows};
 
 /// In a legal report each executor's journal is lawful from its checkpoint on, its turns are of its actors, and replaying
 /// it on one thread gives the executor's fields (SE-0392 for executors that run one job at a time; the rest is our own).

@@ -35,7 +35,7 @@ pub use Rattle.swift_interpreter.specs.Frames.{FrameView}
 pub use Rattle.swift_interpreter.specs.Turn.{AfterStatement, EffectView, ExitView, InvocationView, Played, TurnInputView, TurnStateView, act, adding, all_hold, asking_next, at_limit, calling, cancelling_group, cancelling_task, caught, closing, detaching, exits, failing, given, goes, kept, kept_of, leaves, left_by, on, opening, perform, raised_by, returning, scene, settled, spawning, taken_by, undoes, waiting, whole_turn, with_invocation, with_value, yielding}
 pub use Rattle.swift_journal.specs.Checkpoints.{CheckpointView, FoldedView, folded_of}
 pub use Rattle.swift_journal.specs.Records.{RecordView}
-pub use Rattle.swift_journal.specs.Replay.{IsAfter, IsLawfulRecord, StandsFor, fields_after, replay, turn_of}
+pub use Rattle.swift_history.specs.Replay.{IsAfter, IsLawfulRecord, StandsFor, fields_after, replay, turn_of}
 pub use Rattle.swift_script.specs.Scripts.{ScriptView, actor_executor, executor_count, executor_invariants, executor_start, method_actor, root_count, root_priority}
 pub use Rattle.swift_turn.specs.Body.{Advanced, HasFirst, TaskView, advanced, callers_of, kept_turn, resumed, state_at}
 pub use Rattle.swift_turn.specs.declared.step.Step.{Step}

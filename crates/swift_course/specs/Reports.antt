@@ -12,7 +12,7 @@ use Rattle.swift_events.specs.Lives.{life_of}
 use Rattle.swift_events.specs.Relations.{is_closed, opened_by}
 use Rattle.swift_journal.specs.Checkpoints.{CheckpointView, folded_of}
 use Rattle.swift_journal.specs.Records.{RecordView}
-use Rattle.swift_journal.specs.Replay.{replay}
+use Rattle.swift_history.specs.Replay.{replay}
 use Rattle.swift_history.specs.Histories.{AllStand, Block, IsLegal, ReportView, records_of, roots_of}
 use Rattle.swift_history.specs.Orderly.{AllAllowed, IsOrderly, IsOrderlyLegal}
 use Rattle.swift_history.specs.Histories as history

@@ -11,7 +11,7 @@ use Rattle.swift_events.specs.declared.life.JobStage.TheVariants.{Begun}
 use Rattle.swift_events.specs.Lives.{life_of}
 use Rattle.swift_events.specs.Room.{IsEnv}
 use Rattle.swift_journal.specs.Records.{RecordView}
-use Rattle.swift_journal.specs.Replay.{IsLawfulRecord, replay}
+use Rattle.swift_history.specs.Replay.{IsLawfulRecord, replay}
 use Rattle.swift_history.specs.Checks.{counters, fits_turn, is_current}
 use Rattle.swift_history.specs.Histories.{begun_priority, left_as}
 use Rattle.swift_history.specs.Orderly.{has_last_root, job_executor}

@@ -4,7 +4,7 @@ use Rattle.std.specs.Prelude.{◌≡◌, ℕ, Some, List, ◌++◌, length, map,
 use Rattle.swift_script.specs.Scripts.{ScriptView, executor_count, executor_start, root_count}
 use Rattle.swift_journal.specs.Checkpoints.{CheckpointView, folded_of}
 use Rattle.swift_journal.specs.Records.{RecordView}
-use Rattle.swift_journal.specs.Replay.{replay}
+use Rattle.swift_history.specs.Replay.{replay}
 use Rattle.swift_history.specs.Histories.{ReportView}
 use Rattle.swift_history.specs.Orderly.{IsOrderlyLegal}
 use Rattle.swift_course.specs.Course.{starts}

@@ -32,7 +32,7 @@ pub use Rattle.swift_interpreter.specs.declared.effect.TaskName.{TaskName}
 pub use Rattle.swift_interpreter.specs.declared.effect.TaskName.TheVariants.{Own}
 pub use Rattle.swift_journal.specs.Checkpoints.{CheckpointView, FoldedView}
 pub use Rattle.swift_journal.specs.Records.{RecordView}
-pub use Rattle.swift_journal.specs.Replay.{IsAfter, IsLawfulRecord, StandsFor, replay, turn_of}
+pub use Rattle.swift_history.specs.Replay.{IsAfter, IsLawfulRecord, StandsFor, replay, turn_of}
 pub use Rattle.swift_laws.proofs.HistoriesTurns.{after_push, applied_is, block_keeps, both, first_counted}
 pub use Rattle.swift_script.specs.Scripts.{ScriptView, actor_executor, executor_count, executor_invariants, method_actor, root_count, root_priority}
 pub use Rattle.swift_turn.specs.Body.{Advanced, TaskView, advanced, called, resumed, state_at}

@@ -59,10 +59,10 @@ pub use Rattle.swift_interpreter.specs.Frames.{FrameView, effect_views, frame_vi
 pub use Rattle.swift_interpreter.specs.Turn.{EffectView, ExitView, TurnStateView, asking_next, calling, closing, failing, returning, yielding}
 pub use Rattle.swift_interpreter.specs.TurnStates.{exit_view}
 pub use Rattle.swift_job.specs.Job.{JobView}
-pub use Rattle.swift_journal.proofs.Replayed.{lawful-append, replay-append}
+pub use Rattle.swift_history.proofs.Replayed.{lawful-append, replay-append}
 pub use Rattle.swift_journal.specs.Checkpoints.{CheckpointRoomView, CheckpointView, FoldedView, folded_of, folds}
 pub use Rattle.swift_journal.specs.Records.{RecordView}
-pub use Rattle.swift_journal.specs.Replay.{AreLawful, InvariantsStay, IsAfter, IsLawfulRecord, LawfulGrows, RunOn, StandsFor, fields_after, replay}
+pub use Rattle.swift_history.specs.Replay.{AreLawful, InvariantsStay, IsAfter, IsLawfulRecord, LawfulGrows, RunOn, StandsFor, fields_after, replay}
 pub use Rattle.swift_ledger.specs.Levels.{AreLevels, HaveStayed, IsLevel}
 pub use Rattle.swift_script.specs.Scripts.{ScriptView, actor_count, actor_executor, actor_invariant, executor_invariants, executor_kind, executor_start, method_actor, method_count, no_actor}
 pub use Rattle.swift_shared_book.specs.Calls.{facts_of}

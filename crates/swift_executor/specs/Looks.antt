@@ -3,7 +3,7 @@ use Rattle.std.specs.Prelude.{◌≡◌, ℕ, ◌<◌, ◌/◌, ◌↔◌, None,
 use Rattle.swift_script.specs.Scripts.{executor_start}
 use Rattle.swift_journal.specs.Checkpoints.{folded_of}
 use Rattle.swift_journal.specs.Records.{RecordView}
-use Rattle.swift_journal.specs.Replay.{replay}
+use Rattle.swift_history.specs.Replay.{replay}
 use Rattle.swift_history.specs.Histories.{records_of}
 use Rattle.swift_course.specs.Reports.{HasHistory, Knows}
 use Rattle.swift_course.specs.Views.{BookFacts, BookKnown}

@@ -16,7 +16,7 @@ use Rattle.swift_turn.specs.Body.{BodyView, HasFirst, IsTurnOf, callers_of, left
 use Rattle.swift_job.specs.Job.{JobView}
 use Rattle.swift_journal.specs.Checkpoints.{CheckpointView, folded_of, folds}
 use Rattle.swift_journal.specs.Records.{RecordView}
-use Rattle.swift_journal.specs.Replay.{AreLawful, RunOn, replay}
+use Rattle.swift_history.specs.Replay.{AreLawful, RunOn, replay}
 use Rattle.swift_events.specs.declared.event.Event.{Event}
 use Rattle.swift_events.specs.declared.event.Event.TheVariants.{Begin}
 use Rattle.swift_events.specs.Room.{IsEnv}

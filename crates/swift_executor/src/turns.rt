@@ -12,7 +12,7 @@ use crate::playing::{as_chosen, play_job, room_to_fold, write_record};
 use crate::state::ExecState;
 use futures::task::Context;
 use std::alloc::{AllocError, Global};
-use swift_journal::laws::invariants_stay;
+use swift_history::laws::invariants_stay;
 use swift_journal::{Checkpoint, Journal};
 use swift_undo::InvariantRows;
 

@@ -1,7 +1,7 @@
 -- Histories of one key lead alike, and outcomes of one key are one but for their schedules.
 use Rattle.swift_explorer.proofs.Prelude.{◌≡◌, ℕ, zero, suc, ◌+◌, ◌≤◌, ℤ, Bool, false, List, [], ◌∷◌, ◌++◌, length, map, reverse, refl, sym, ◌∙◌, ap, ap₂, subst, arith, inl, inr, Option, Some, None, slice_get, slice_index_or, option_map, cases_lt, length-map, reverse-reverse, rows_of, Resume, ScriptView, executor_count, root_count, FrameView, TaskView, tasks_of, RecordView, Block, checkpoint_at, fields_of, records_of, JobFacts, WaitingTaskView, starts, jobs_held, Digest, digest_of, LeadAlike, tasks_of_is, option_numbers, list_numbers, number_numbers, flag_numbers, resume_numbers, origin_numbers, ending_numbers, bindings_numbers, fields_numbers, frame_numbers, digest_numbers, NextTurn, SearchedHistory, RunOutcome, given_at, given_view, IsHistory, has_records, rows_at, IsKeyFor, IsNumbered, ReadyView, body_numbers, end_numbers, frames_left, job_left, job_numbers, outcome_bytes, ready_numbers, ready_view, rest_numbers, rest_of, task_left, with_counts}
 use Rattle.swift_types.specs.declared.outcome.Resume.TheVariants.{Go}
-use Rattle.swift_journal.specs.Replay.{replay}
+use Rattle.swift_history.specs.Replay.{replay}
 use Rattle.swift_laws.proofs.HistoriesApplied.{there}
 use Rattle.swift_digest.specs.Plans.{FramePlan, JobPlan, TaskPlan, WaitingTaskPlan, caller_plan, frame_plans, held_plans, job_plan, plan_of, task_plan}
 use Rattle.swift_explorer.proofs.Bytes.{bytes_read}

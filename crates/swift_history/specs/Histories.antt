@@ -12,7 +12,7 @@ use Rattle.swift_interpreter.specs.Turn.{EffectView, spawning, detaching, openin
 use Rattle.swift_turn.specs.Body.{advanced}
 use Rattle.swift_journal.specs.Records.{RecordView}
 use Rattle.swift_journal.specs.Checkpoints.{FoldedView, CheckpointView}
-use Rattle.swift_journal.specs.Replay.{replay, IsLawfulRecord}
+use Rattle.swift_history.specs.Replay.{replay, IsLawfulRecord}
 use Rattle.swift_events.specs.declared.event.Event.{Event}
 use Rattle.swift_events.specs.declared.event.Event.TheVariants.{Begin}
 use Rattle.swift_events.specs.declared.life.Origin.{Origin}

@@ -3,3 +3,4 @@ pub mod TurnEnds
 pub mod Histories
 pub mod Orderly
 pub mod Jobs
+pub mod Replay

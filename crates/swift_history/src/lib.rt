@@ -1,3 +1,7 @@
-//! What a run's history is: which turns may begin and be applied (specs/Checks.antt), and what the end of a turn writes and
-//! makes (specs/TurnEnds.antt). The definitions are over the log and the script alone.
+//! What a run's history is: which turns may begin and be applied (specs/Checks.antt), what the end of a turn writes and makes
+//! (specs/TurnEnds.antt), and what replaying a journal gives (specs/Replay.antt). The definitions are over logs, journals and the script
+//! alone.
 #![tactic(auto)]
+
+/// Laws of journals.
+pub mod laws;

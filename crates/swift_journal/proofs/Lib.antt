@@ -9,5 +9,4 @@ pub mod Gained
 pub mod Pairs
 pub mod RecordsReadBack
 pub mod RecordsStay
-pub mod Replayed
 pub mod TurnsStay

@@ -6,6 +6,5 @@ pub mod FrameWordsInside
 pub mod JournalInside
 pub mod LaidInside
 pub mod Records
-pub mod Replay
 pub mod TailInside
 pub mod Words

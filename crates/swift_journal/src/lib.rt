@@ -9,8 +9,6 @@ mod ends;
 mod folded;
 mod frames;
 mod journal;
-/// Laws of journals.
-pub mod laws;
 mod parts;
 mod record;
 mod stored;

@@ -11,7 +11,7 @@ use Rattle.swift_interpreter.specs.Frames.{FrameView}
 use Rattle.swift_interpreter.specs.Turn.{EffectView, spawning, detaching, adding, TurnStateView, TurnInputView, AfterStatement, goes, leaves, scene, act, settled, taken}
 use Rattle.swift_turn.specs.Body.{state_at}
 use Rattle.swift_journal.specs.Records.{RecordView}
-use Rattle.swift_journal.specs.Replay.{IsLawfulRecord}
+use Rattle.swift_history.specs.Replay.{IsLawfulRecord}
 use Rattle.swift_events.specs.declared.event.Event.{Event}
 use Rattle.swift_events.specs.declared.event.Event.TheVariants.{Apply}
 use Rattle.swift_events.specs.Events.{tasks_of}

@@ -3,7 +3,7 @@ use Rattle.swift_local_turns.proofs.Prelude.{◌≡◌, ◌≢◌, ℕ, ℤ, ◌
 use Rattle.swift_events.specs.Lives.{room_in}
 use Rattle.swift_events.specs.Room.{lives_of}
 use Rattle.swift_journal.specs.Records.{RecordView}
-use Rattle.swift_journal.specs.Replay.{replay, IsLawfulRecord}
+use Rattle.swift_history.specs.Replay.{replay, IsLawfulRecord}
 use Rattle.swift_history.specs.Histories.{RecordStands}
 use Rattle.swift_local_turns.specs.Committed.{Move, block, whole, blocks_in, blocks_of, after_moves, IsCommitted, AreCommitted, told_by, told_from, told_log, GiveTheSame, WholeTurnsAreSilent, may_call, IsPlayed, MayCommit, TurnsMayBeCommitted}
 use Rattle.swift_local_turns.proofs.Alike.{Alike, alike_same, alike_push, alike_job, answers, pushed}

@@ -1,7 +1,7 @@
 -- A turn that is computed, and published after local steps of others.
 use Rattle.swift_local_turns.proofs.Prelude.{◌≡◌, ◌≢◌, ℕ, ℤ, ◌+◌, List, [], ◌∷◌, ◌++◌, refl, sym, ◌∙◌, ap, subst, append_assoc, append-nil, Option, Some, None, ◌==◌, cond-false, ne_eqb, ScriptView, CheckpointView, Event, Begin, Apply, Give, Life, life_of, life_of-push_other, filter_map-push_none, is_current, JobFacts, task, Block, added, begun, ran, folded, Standing, at_first, with_jobs, taken, after_block, after_blocks, record_in, checkpoint_at, fields_of, Stands, AllStand}
 use Rattle.swift_journal.specs.Records.{RecordView}
-use Rattle.swift_journal.specs.Replay.{replay, IsLawfulRecord}
+use Rattle.swift_history.specs.Replay.{replay, IsLawfulRecord}
 use Rattle.swift_local_turns.specs.Publishing.{IsBeside, AllBeside, StillCounts, HoldersMayPublish, AllLocal, RootsMayPublish}
 use Rattle.swift_local_turns.proofs.Alike.{Alike, alike_same}
 use Rattle.swift_local_turns.proofs.Ends.{ends_alike, fit_alike}

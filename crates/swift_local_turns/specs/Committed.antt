@@ -7,7 +7,7 @@ use Rattle.swift_interpreter.specs.Frames.{FrameView}
 use Rattle.swift_interpreter.specs.Turn.{ExitView, calling}
 use Rattle.swift_journal.specs.Records.{RecordView}
 use Rattle.swift_journal.specs.Checkpoints.{CheckpointView}
-use Rattle.swift_journal.specs.Replay.{IsLawfulRecord}
+use Rattle.swift_history.specs.Replay.{IsLawfulRecord}
 use Rattle.swift_events.specs.declared.event.Event.{Event}
 use Rattle.swift_events.specs.declared.life.JobStage.TheVariants.{Given}
 use Rattle.swift_events.specs.Room.{IsEnv, room_of}

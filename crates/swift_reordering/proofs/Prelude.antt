@@ -54,7 +54,7 @@ pub use Rattle.swift_interpreter.specs.declared.effect.TaskName.{TaskName}
 pub use Rattle.swift_interpreter.specs.declared.effect.TaskName.TheVariants.{Own}
 pub use Rattle.swift_journal.specs.Checkpoints.{CheckpointView, FoldedView}
 pub use Rattle.swift_journal.specs.Records.{RecordView}
-pub use Rattle.swift_journal.specs.Replay.{IsAfter, IsLawfulRecord, StandsFor, replay, turn_of}
+pub use Rattle.swift_history.specs.Replay.{IsAfter, IsLawfulRecord, StandsFor, replay, turn_of}
 pub use Rattle.swift_laws.proofs.HistoriesBegun.{all_begun}
 pub use Rattle.swift_laws.proofs.HistoriesCounted.{AreCounted, Beyond, HasNumber, beyond_push, unbegun, written_within}
 pub use Rattle.swift_laws.proofs.HistoriesGrow.{begins, keeps_applied, keeps_block, keeps_turn, log_grows}

@@ -5,7 +5,7 @@ use Rattle.swift_events.specs.declared.event.Event.{Event}
 use Rattle.swift_events.specs.declared.life.JobStage.{JobStage}
 use Rattle.swift_events.specs.declared.life.JobStage.TheVariants.{Begun}
 use Rattle.swift_events.specs.Lives.{life_of}
-use Rattle.swift_journal.specs.Replay.{replay}
+use Rattle.swift_history.specs.Replay.{replay}
 use Rattle.swift_history.specs.Checks.{counters, fits_turn, is_current}
 use Rattle.swift_history.specs.Histories.{begun_priority, left_as}
 use Rattle.swift_course.specs.Frames.{kept_frame}

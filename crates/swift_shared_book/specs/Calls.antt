@@ -8,7 +8,7 @@ use Rattle.swift_job.specs.Job.{JobView}
 use Rattle.swift_events.specs.declared.event.Event.TheVariants.{Begin}
 use Rattle.swift_events.specs.Room.{IsEnv}
 use Rattle.swift_journal.specs.Records.{RecordView}
-use Rattle.swift_journal.specs.Replay.{IsLawfulRecord, replay}
+use Rattle.swift_history.specs.Replay.{IsLawfulRecord, replay}
 use Rattle.swift_history.specs.Orderly.{has_last_root, job_executor}
 use Rattle.swift_history.specs.TurnEnds.{JobFacts, root_events, root_job}
 use Rattle.swift_tasks.specs.Books.{BookView, IsEndOf, empty_book}

@@ -23,7 +23,7 @@ pub use Rattle.swift_interpreter.specs.TurnStates.{exit_view}
 pub use Rattle.swift_job.specs.Job.{JobView}
 pub use Rattle.swift_journal.specs.Checkpoints.{CheckpointView}
 pub use Rattle.swift_journal.specs.Records.{RecordView}
-pub use Rattle.swift_journal.specs.Replay.{IsAfter, IsLawfulRecord, StandsFor, fields_after, replay}
+pub use Rattle.swift_history.specs.Replay.{IsAfter, IsLawfulRecord, StandsFor, fields_after, replay}
 pub use Rattle.swift_script.specs.Scripts.{ScriptView, actor_executor, method_actor, root_count}
 pub use Rattle.swift_steps.specs.NextTurns.{AreGiven, AreOf, IsReadyOf, IsSame, IsSameIf, given_at, given_view, job_of, with_given}
 pub use Rattle.swift_steps.specs.OpenHistories.{Applies, Begins, Follows, GoesOn, IsAtRest, IsCopyOf, IsFollowed, IsLed, Plays, RunsAt, Takes, kept_first, record_of, rows_at}

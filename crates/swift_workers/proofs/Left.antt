@@ -1,6 +1,6 @@
 -- One executor more, and one task more, of what a run leaves.
 use Rattle.swift_workers.proofs.Prelude.{◌≡◌, ◌⊎◌, ℕ, suc, ◌+◌, ◌<◌, ◌≤◌, ℤ, List, [], ◌∷◌, ◌++◌, Some, Contains, length, map, refl, sym, subst, ap, ◌∙◌, arith, inl, inr, add-zero, length-append, Contains-append_left, Contains-append_right, Vec, Global, rows_of, ScriptView, CheckpointRoomView, CheckpointView, RecordView, SiteView, TableId, Account, BookKnown, TurnOrder, at_rest, AreAtRest, IsAccountedFor, gathered, site_of, AccountsFor, orders_of, ExecStateView, ExecInvariant, Parts, AreReplayed, EachFrom, IsPartReplayed, KeepInvariants, Keeps, AreAccountedFor, AreParts}
-use Rattle.swift_journal.specs.Replay.{replay}
+use Rattle.swift_history.specs.Replay.{replay}
 
 abbrev Rows : Type 0
 Rows = Vec (Vec ℤ Global) Global

@@ -6,7 +6,7 @@ ghost use Rattle.swift_interpreter.specs.Saved.{restored};
 ghost use Rattle.swift_interpreter.specs.Turn.{undoes as undoes_turn};
 ghost use Rattle.swift_interpreter.specs.TurnStates.{exit_view};
 ghost use Rattle.swift_journal.specs.Records.{owned_view};
-ghost use Rattle.swift_journal.specs.Replay.{fields_after};
+ghost use Rattle.swift_history.specs.Replay.{fields_after};
 ghost use Rattle.script_code.specs.Tree.{terms_of};
 ghost use Rattle.swift_turn.specs.Body.{invariants_at};
 ghost use Rattle.run_pictures.specs.KeepingInside.{fields_of};

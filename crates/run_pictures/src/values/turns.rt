@@ -2,7 +2,7 @@
 
 ghost use Rattle.std.specs.Prelude.{◌≡◌, ◌≤◌, length, take, IfOk};
 ghost use Rattle.script_code.specs.Seen.{rows_of};
-ghost use Rattle.swift_journal.specs.Replay.{replay};
+ghost use Rattle.swift_history.specs.Replay.{replay};
 ghost use Rattle.run_pictures.specs.Values.{values_from, values_views};
 
 use crate::values::change::TurnValues;

@@ -3,7 +3,7 @@
 ghost use Rattle.std.specs.Prelude.{ℤ, List};
 ghost use Rattle.swift_script.specs.Scripts.{ScriptView};
 ghost use Rattle.swift_journal.specs.Records.{RecordView};
-ghost use Rattle.swift_journal.specs.Replay.{InvariantsStay, LawfulGrows};
+ghost use Rattle.swift_history.specs.Replay.{InvariantsStay, LawfulGrows};
 
 use swift_undo::laws::invariants_are_kept;
 

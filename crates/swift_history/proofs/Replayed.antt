@@ -1,13 +1,13 @@
 -- Replays, one record after another.
-use Rattle.swift_journal.proofs.Prelude.{◌≡◌, ℕ, ℤ, Some, List, [], ◌∷◌, ◌++◌, refl, sym, subst, Contains, RecordView}
-use Rattle.std.proofs.Common.{IsTrue}
+use Rattle.std.proofs.Common.{◌≡◌, ℕ, ℤ, Some, List, [], ◌∷◌, ◌++◌, refl, sym, subst, Contains, IsTrue}
+use Rattle.swift_journal.specs.Records.{RecordView}
 use Rattle.swift_types.specs.declared.limits.TheConstants.{STEPS}
 use Rattle.script_code.specs.Tree.{Term}
 use Rattle.script_code.specs.Value.{holds}
 use Rattle.swift_script.specs.Scripts.{ScriptView, actor_executor, executor_invariants, method_actor}
 use Rattle.swift_undo.specs.Laws.{InvariantsAreKept}
 use Rattle.swift_turn.specs.Body.{state_at}
-use Rattle.swift_journal.specs.Replay.{AreLawful, IsLawfulRecord, LawfulGrows, RunOn, fields_after, replay}
+use Rattle.swift_history.specs.Replay.{AreLawful, IsLawfulRecord, LawfulGrows, RunOn, fields_after, replay}
 
 pub replay-append : (script : ScriptView) (fields : List (List ℤ)) (rs more : List RecordView) → replay script fields (rs ++ more) ≡ replay script (replay script fields rs) more
 replay-append script fields [] more = refl

@@ -1,5 +1,0 @@
-use Rattle.swift_journal.proofs.Replayed.{replay_holds}
-use Rattle.swift_journal.proofs.laws.invariants_stay.Goals as goal
-
-pub returns : goal.returns
-returns c = replay_holds c.invariants_are_kept.ensures

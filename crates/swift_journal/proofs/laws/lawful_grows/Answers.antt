@@ -1,5 +1,0 @@
-use Rattle.swift_journal.proofs.Replayed.{lawful_more}
-use Rattle.swift_journal.proofs.laws.lawful_grows.Goals as goal
-
-pub returns : goal.returns
-returns c = lawful_more
