@@ -89,7 +89,50 @@ fn turn_at<R: Wait, G: Gate>(
     send_all(rt, crew, hand, gate)
 }
 
-// A turn at the executor whose token this is, and its end. Each token that it takes or makes is in the pool again then, or the run has been
+// So many turns of an executor a worker runs at most before it asks the pool again, where others may run meanwhile.
+const TURNS_AT_ONCE: u32 = 16;
+
+// How many turns of an executor a worker runs at most before it asks the pool again. A single worker asks after each, so that its
+// executors take turns.
+fn turns_at_once(workers: u32) -> u32 {
+    if workers > 1 { TURNS_AT_ONCE } else { 1 }
+}
+
+// Whether the token of this executor is the only one.
+fn is_only(tokens: &[ExecId], on: ExecId) -> bool {
+    match tokens {
+        [only] => *only == on,
+        _ => false,
+    }
+}
+
+// Turns at the executor whose token this is, one after the other, as long as more is pending there and no other token has to be put. So
+// the pool is asked less often, and nobody waits for a token meanwhile. Tokens and jobs stand in the hand as after the last turn.
+fn turns_at<R: Wait, G: Gate>(
+    rt: &R,
+    cx: &mut Context<'_>,
+    crew: Crew<'_>,
+    hand: &mut Hand,
+    on: ExecId,
+    chain: &mut Chain,
+    gate: &G,
+) -> Result<(), Halt>
+    requires sites { AreAtSites crew.book.now crew.execs.now }
+    requires script { crew.book.now.script ≡ crew.script.now }
+    requires hand { IsHandOf crew.book.now crew.execs.now hand.old }
+    ensures { OnOk result (IsHandOf crew.entry.book.now crew.entry.execs.now hand.new) }
+{
+    for _ in 0..turns_at_once(crew.workers) {
+        turn_at(rt, cx, crew, hand, on, gate)?;
+        chain.note(hand.is_link);
+        if !is_only(&hand.tokens, on) {
+            return Ok(());
+        }
+    }
+    Ok(())
+}
+
+// Turns at the executor whose token this is, and their end. Each token that it takes or makes is in the pool again then, or the run has been
 // given up: the one that is taken is put back where more is pending, unless the visit is refused; and one more is put for each executor
 // that was idle, unless memory is. What a turn has to put is put after a refusal too, and then the pool says to stop.
 fn turn<R: Wait, G: Gate>(
@@ -112,8 +155,7 @@ fn turn<R: Wait, G: Gate>(
     ensures put { (c : PoolCall) × (done : Result (Unit {0}) HaltOf) × HasCalled c seat.old seat.new × IsEndOf hand.new.tokens.items done c × (c.next ≡ Some result) }
 {
     let worker = hand.worker;
-    let done = turn_at(rt, cx, crew, hand, on, gate);
-    chain.note(hand.is_link);
+    let done = turns_at(rt, cx, crew, hand, on, chain, gate);
     crew.pool.turn_over(
         rt,
         seat,
