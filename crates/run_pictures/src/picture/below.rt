@@ -1,7 +1,6 @@
 //! What stands below a box: what its turn did, in lines.
 
 use crate::picture::picture_text::PictureText;
-use crate::picture::pieces::TextPiece;
 use crate::picture::text::{begin_text, end_text, write_text};
 
 // How many lines find room below a box, how many characters of 11 pixels in each, and how far apart they are.
@@ -25,11 +24,7 @@ fn count_lines(lines: &[u8]) -> usize {
 // How many lines are left.
 fn write_more(out: &mut PictureText, class: &str, at: (usize, usize), count: usize) {
     begin_text(out, class, at.0, at.1);
-    out.put(&[
-        TextPiece::Text("and "),
-        TextPiece::Number(count),
-        TextPiece::Text(" more"),
-    ]);
+    out.fill("and $ more", &[count]);
     end_text(out)
 }
 

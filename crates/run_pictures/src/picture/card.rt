@@ -13,7 +13,6 @@ use crate::picture::below::{write_below, write_beside};
 use crate::picture::boxes::TurnBox;
 use crate::picture::layout::{COLUMNS, LEFT, Layout, MARGIN, TALL, WIDE, colour, left_of};
 use crate::picture::picture_text::PictureText;
-use crate::picture::pieces::TextPiece;
 use crate::picture::placed::PlacedTurn;
 use crate::picture::text::{begin_text, end_text, write_text};
 use crate::picture::{Picture, word};
@@ -119,25 +118,14 @@ fn write_cross(out: &mut PictureText, is_undone: bool, at: (usize, usize), width
     if !is_undone {
         return;
     }
-    out.put(&[
-        TextPiece::Text("<path class=\"y\" d=\"M"),
-        TextPiece::Number(at.0.saturating_add(4)),
-        TextPiece::Text(","),
-        TextPiece::Number(at.1.saturating_add(4)),
-        TextPiece::Text("L"),
-        TextPiece::Number(at.0.saturating_add(width).saturating_sub(4)),
-        TextPiece::Text(","),
-        TextPiece::Number(at.1.saturating_add(TALL - 4)),
-        TextPiece::Text("M"),
-        TextPiece::Number(at.0.saturating_add(width).saturating_sub(4)),
-        TextPiece::Text(","),
-        TextPiece::Number(at.1.saturating_add(4)),
-        TextPiece::Text("L"),
-        TextPiece::Number(at.0.saturating_add(4)),
-        TextPiece::Text(","),
-        TextPiece::Number(at.1.saturating_add(TALL - 4)),
-        TextPiece::Text("\"/>\n"),
-    ])
+    let left = at.0.saturating_add(4);
+    let right = at.0.saturating_add(width).saturating_sub(4);
+    let top = at.1.saturating_add(4);
+    let bottom = at.1.saturating_add(TALL - 4);
+    out.fill(
+        "<path class=\"y\" d=\"M$,$L$,$M$,$L$,$\"/>\n",
+        &[left, top, right, bottom, right, top, left, bottom],
+    )
 }
 
 // Whether an executor has an actor's name, as one that is the actor's own.
@@ -160,8 +148,8 @@ fn short_method(out: &mut PictureText, script: &Script, turn: &TurnBox) {
 fn short_exit(out: &mut PictureText, script: &Script, exit: BriefExit) {
     if let BriefExit::Call(_, called) = exit {
         if (called.0 as usize) < script.method_count() {
-            let name = TextPiece::Name(script.method_name(called));
-            return out.put(&[TextPiece::Text("call "), name]);
+            out.say(b"call ");
+            return out.say(script.method_name(called));
         }
     }
     out.exit(script, exit)

@@ -1,7 +1,6 @@
 //! What a turn did to the fields, in lines.
 
 use crate::picture::picture_text::PictureText;
-use crate::picture::pieces::TextPiece;
 use crate::{Change, TurnValues};
 use swift_script::Script;
 use swift_types::ExecId;
@@ -13,10 +12,8 @@ fn write_field(out: &mut PictureText, script: &Script, executor: ExecId, change:
         return;
     };
     if actors.len() > 1 {
-        out.put(&[
-            TextPiece::Name(script.actor_name(*actor)),
-            TextPiece::Text("."),
-        ]);
+        out.say(script.actor_name(*actor));
+        out.say(b".");
     }
     out.say(script.field_name(*actor, change.field))
 }
@@ -47,11 +44,9 @@ pub(crate) fn write_broken(out: &mut PictureText, invariant: &[u8]) {
     if invariant.is_empty() {
         return;
     }
-    out.put(&[
-        TextPiece::Text("breaks "),
-        TextPiece::Name(bare(invariant)),
-        TextPiece::Text("\n"),
-    ])
+    out.say(b"breaks ");
+    out.say(bare(invariant));
+    out.say(b"\n")
 }
 
 /// Which fields a turn changed, or would have changed where it was undone: each in a line.

@@ -9,7 +9,6 @@ use crate::picture::boxes::TurnBox;
 use crate::picture::cells::Cell;
 use crate::picture::layout::{COLUMNS, Layout, TALL, WIDE, left_of};
 use crate::picture::picture_text::PictureText;
-use crate::picture::pieces::TextPiece;
 use crate::picture::text::{begin_text, end_text};
 use std::alloc::{AllocError, Global};
 
@@ -65,24 +64,13 @@ fn write_first_and_last(
 
 // What stands in the lane of an executor of a fold that has so many turns there.
 fn write_folded(out: &mut PictureText, count: usize, at: (usize, usize)) {
-    out.put(&[
-        TextPiece::Text("<rect class=\"k\" x=\""),
-        TextPiece::Number(at.0),
-        TextPiece::Text("\" y=\""),
-        TextPiece::Number(at.1),
-        TextPiece::Text("\" width=\""),
-        TextPiece::Number(WIDE),
-        TextPiece::Text("\" height=\""),
-        TextPiece::Number(TALL),
-        TextPiece::Text("\" rx=\"6\"/>\n"),
-    ]);
+    out.fill(
+        "<rect class=\"k\" x=\"$\" y=\"$\" width=\"$\" height=\"$\" rx=\"6\"/>\n",
+        &[at.0, at.1, WIDE, TALL],
+    );
     let middle = at.0.saturating_add(WIDE / 2);
     begin_text(out, "b j", middle, at.1.saturating_add(32));
-    out.put(&[
-        TextPiece::Text("+ "),
-        TextPiece::Number(count),
-        TextPiece::Text(" more"),
-    ]);
+    out.fill("+ $ more", &[count]);
     end_text(out);
     begin_text(out, "g j", middle, at.1.saturating_add(48));
     out.say(b"that only give way");

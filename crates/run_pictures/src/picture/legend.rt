@@ -5,7 +5,6 @@ ghost use Rattle.std.specs.Prelude.{◌≤◌};
 use crate::picture::card::View;
 use crate::picture::layout::Layout;
 use crate::picture::picture_text::PictureText;
-use crate::picture::pieces::TextPiece;
 use crate::picture::text::{begin_text, end_text, write_text};
 use swift_events::Origin;
 use swift_types::Ending;
@@ -68,7 +67,8 @@ fn write_name(line: &mut PictureText, view: View<'_>, task: usize, origin: Origi
     if let Origin::Root = origin {
         return;
     }
-    line.put(&[TextPiece::Name(view.name(task)), TextPiece::Text(", ")])
+    line.say(view.name(task));
+    line.say(b", ")
 }
 
 // The task of a number: its colour, what it is called, where it comes from, and how it ended.
@@ -80,21 +80,12 @@ fn write_task(
     at: (usize, usize),
     line: &mut PictureText,
 ) {
-    out.put(&[
-        TextPiece::Text("<rect class=\"c"),
-        TextPiece::Number(task % 12),
-        TextPiece::Text("\" x=\""),
-        TextPiece::Number(at.0),
-        TextPiece::Text("\" y=\""),
-        TextPiece::Number(at.1),
-        TextPiece::Text("\" width=\"14\" height=\"12\" rx=\"3\"/>\n"),
-    ]);
+    out.fill(
+        "<rect class=\"c$\" x=\"$\" y=\"$\" width=\"14\" height=\"12\" rx=\"3\"/>\n",
+        &[task % 12, at.0, at.1],
+    );
     line.clear();
-    line.put(&[
-        TextPiece::Text("t"),
-        TextPiece::Number(task),
-        TextPiece::Text(" "),
-    ]);
+    line.fill("t$ ", &[task]);
     write_name(line, view, task, ended.0);
     line.origin(view.script, task, ended.0);
     line.say(b": ");
@@ -123,18 +114,16 @@ fn write_tasks(
 
 // A line of a kind, with what it stands for.
 fn write_sample(out: &mut PictureText, class: &str, word: &str, x: usize, y: usize) {
-    out.put(&[
-        TextPiece::Text("<path class=\""),
-        TextPiece::Text(class),
-        TextPiece::Text(" s8\" d=\"M"),
-        TextPiece::Number(x),
-        TextPiece::Text(","),
-        TextPiece::Number(y.saturating_sub(4)),
-        TextPiece::Text("h40\"/>\n"),
-    ]);
-    begin_text(out, "t", x.saturating_add(48), y);
-    out.say(word.as_bytes());
-    end_text(out)
+    out.fill_with(
+        "<path class=\"@ s8\" d=\"M$,$h40\"/>\n",
+        class,
+        &[x, y.saturating_sub(4)],
+    );
+    out.fill_with(
+        "<text class=\"t\" x=\"$\" y=\"$\">@</text>\n",
+        word,
+        &[x.saturating_add(48), y],
+    )
 }
 
 /// Which colour is which task, and which line stands for what.
@@ -161,11 +150,8 @@ pub(crate) fn write_legend(
         "p0 to p3: the priority, \u{25b2} where it was raised; c1: the task was cancelled. Below a box: what its turn did and changed.".as_bytes(),
     );
     if endings.len() > TOLD {
-        out.put(&[
-            TextPiece::Text(" Not listed: "),
-            TextPiece::Number(endings.len().saturating_sub(TOLD)),
-            TextPiece::Text(" tasks."),
-        ]);
+        let others = endings.len().saturating_sub(TOLD);
+        out.fill(" Not listed: $ tasks.", &[others]);
     }
     end_text(out);
     if layout.is_wrapped() {

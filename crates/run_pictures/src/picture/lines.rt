@@ -5,7 +5,6 @@ use crate::picture::boxes::TurnBox;
 use crate::picture::layout::{Layout, colour, level};
 use crate::picture::links::Link;
 use crate::picture::picture_text::PictureText;
-use crate::picture::pieces::TextPiece;
 use crate::picture::placed::PlacedTurn;
 use crate::picture::text::{begin_text, end_text};
 use swift_types::TaskId;
@@ -30,43 +29,28 @@ fn begin_line(
     to: &TurnBox,
 ) {
     let top = layout.box_top(layout.last_row(from.1), from.0.executor);
-    out.put(&[
-        TextPiece::Text("<path class=\""),
-        TextPiece::Text(class),
-        TextPiece::Text(" s"),
-        TextPiece::Number(colour(to.task)),
-        TextPiece::Text("\" d=\"M"),
-        TextPiece::Number(layout.right(from.1).saturating_sub(12)),
-        TextPiece::Text(","),
-        TextPiece::Number(top),
-        TextPiece::Text("V"),
-        TextPiece::Number(top.saturating_sub(level(to.task))),
-    ])
+    let right = layout.right(from.1).saturating_sub(12);
+    let over = top.saturating_sub(level(to.task));
+    out.fill_with(
+        "<path class=\"@ s$\" d=\"M$,$V$",
+        class,
+        &[colour(to.task), right, top, over],
+    )
 }
 
 // The head of a line into the top of a box.
 fn head_above(out: &mut PictureText, task: TaskId, at: usize, top: usize) {
-    out.put(&[
-        TextPiece::Text("\"/>\n<path class=\"f"),
-        TextPiece::Number(colour(task)),
-        TextPiece::Text("\" d=\"M"),
-        TextPiece::Number(at.saturating_sub(4)),
-        TextPiece::Text(","),
-        TextPiece::Number(top.saturating_sub(8)),
-        TextPiece::Text("h8l-4,8z\"/>\n"),
-    ])
+    out.fill(
+        "\"/>\n<path class=\"f$\" d=\"M$,$h8l-4,8z\"/>\n",
+        &[colour(task), at.saturating_sub(4), top.saturating_sub(8)],
+    )
 }
 
 // The end of a line into the top of a box of the same lane, so far from its left, with a head.
 fn end_above(out: &mut PictureText, layout: &Layout, to: (&TurnBox, &PlacedTurn), along: usize) {
     let at = layout.left(to.1).saturating_add(along);
     let top = layout.box_top(layout.row(to.1), to.0.executor);
-    out.put(&[
-        TextPiece::Text("H"),
-        TextPiece::Number(at),
-        TextPiece::Text("V"),
-        TextPiece::Number(top),
-    ]);
+    out.fill("H$V$", &[at, top]);
     head_above(out, to.0.task, at, top)
 }
 
@@ -76,21 +60,15 @@ fn end_beside(out: &mut PictureText, layout: &Layout, to: (&TurnBox, &PlacedTurn
     let at = layout
         .box_top(layout.row(to.1), to.0.executor)
         .saturating_add(12);
-    out.put(&[
-        TextPiece::Text("H"),
-        TextPiece::Number(left.saturating_sub(10)),
-        TextPiece::Text("V"),
-        TextPiece::Number(at),
-        TextPiece::Text("H"),
-        TextPiece::Number(left),
-        TextPiece::Text("\"/>\n<path class=\"f"),
-        TextPiece::Number(colour(to.0.task)),
-        TextPiece::Text("\" d=\"M"),
-        TextPiece::Number(left.saturating_sub(8)),
-        TextPiece::Text(","),
-        TextPiece::Number(at.saturating_sub(4)),
-        TextPiece::Text("v8l8,-4z\"/>\n"),
-    ])
+    out.fill("H$V$H$", &[left.saturating_sub(10), at, left]);
+    out.fill(
+        "\"/>\n<path class=\"f$\" d=\"M$,$v8l8,-4z\"/>\n",
+        &[
+            colour(to.0.task),
+            left.saturating_sub(8),
+            at.saturating_sub(4),
+        ],
+    )
 }
 
 // The end of a line from another row: the line that was begun ends beside its box, and another one, so far from the left of this box, comes
@@ -105,18 +83,11 @@ fn end_far(
 ) {
     let at = layout.left(to.1).saturating_add(along);
     let top = layout.box_top(layout.row(to.1), to.0.executor);
-    out.put(&[
-        TextPiece::Text("h14\"/>\n<path class=\""),
-        TextPiece::Text(class),
-        TextPiece::Text(" s"),
-        TextPiece::Number(colour(to.0.task)),
-        TextPiece::Text("\" d=\"M"),
-        TextPiece::Number(at),
-        TextPiece::Text(","),
-        TextPiece::Number(top.saturating_sub(36)),
-        TextPiece::Text("V"),
-        TextPiece::Number(top),
-    ]);
+    out.fill_with(
+        "h14\"/>\n<path class=\"@ s$\" d=\"M$,$V$",
+        class,
+        &[colour(to.0.task), at, top.saturating_sub(36), top],
+    );
     head_above(out, to.0.task, at, top);
     begin_text(out, "g m", at.saturating_add(7), top.saturating_sub(28));
     out.turn(from);

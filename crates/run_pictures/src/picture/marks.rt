@@ -4,7 +4,6 @@ ghost use Rattle.std.specs.Prelude.{◌≡◌};
 ghost use Rattle.run_pictures.specs.GivingWay.{begins_block};
 
 use crate::picture::picture_text::PictureText;
-use crate::picture::pieces::TextPiece;
 use swift_events::Event;
 use swift_log::EventLog;
 
@@ -37,11 +36,7 @@ pub(crate) fn write_marks(out: &mut PictureText, log: &EventLog, end: usize) {
             return;
         }
         if let Some((word, number)) = mark_of(&event) {
-            out.put(&[
-                TextPiece::Text(word),
-                TextPiece::Number(number),
-                TextPiece::Text("\n"),
-            ]);
+            out.fill_with("@$\n", word, &[number]);
         }
     }
 }

@@ -3,7 +3,6 @@
 use crate::picture::boxes::TurnBox;
 use crate::picture::layout::{COLUMNS, HEAD, LEFT, Layout, MARGIN, colour};
 use crate::picture::picture_text::PictureText;
-use crate::picture::pieces::TextPiece;
 use crate::picture::placed::PlacedTurn;
 use crate::picture::text::{begin_text, end_text, write_text};
 use crate::picture::{Picture, word};
@@ -64,8 +63,7 @@ fn write_strip_name(
     };
     let folded = picture.folded.get(executor).copied().unwrap_or(0);
     let turns = boxes.saturating_add(folded);
-    let word = if turns == 1 { " turn" } else { " turns" };
-    out.put(&[TextPiece::Number(turns), TextPiece::Text(word)]);
+    out.fill(if turns == 1 { "$ turn" } else { "$ turns" }, &[turns]);
     end_text(out)
 }
 
@@ -75,21 +73,15 @@ fn write_row_marks(out: &mut PictureText, layout: &Layout) {
     for (row, _) in layout.rows.iter().enumerate() {
         let x = mark_left(layout, row.saturating_mul(COLUMNS));
         let number = row.saturating_add(1);
-        out.put(&[
-            TextPiece::Text("<path class=\"o\" d=\"M"),
-            TextPiece::Number(x),
-            TextPiece::Text(","),
-            TextPiece::Number(HEAD + 4),
-            TextPiece::Text("v"),
-            TextPiece::Number(below.saturating_add(OVER - 4)),
-            TextPiece::Text("\"/>\n<a href=\"#row"),
-            TextPiece::Number(number),
-            TextPiece::Text("\">"),
-        ]);
-        begin_text(out, "g", x.saturating_add(3), HEAD + 12);
-        out.number(number);
-        end_text(out);
-        out.say(b"</a>\n");
+        let down = below.saturating_add(OVER - 4);
+        out.fill(
+            "<path class=\"o\" d=\"M$,$v$\"/>\n<a href=\"#row$\">",
+            &[x, HEAD + 4, down, number],
+        );
+        out.fill(
+            "<text class=\"g\" x=\"$\" y=\"$\">$</text>\n</a>\n",
+            &[x.saturating_add(3), HEAD + 12, number],
+        );
     }
 }
 
@@ -101,41 +93,25 @@ fn write_mark(out: &mut PictureText, layout: &Layout, turn: &TurnBox, placed: &P
     } else if placed.is_undone {
         out.say(b"fx");
     } else {
-        out.put(&[TextPiece::Text("f"), TextPiece::Number(colour(turn.task))]);
+        out.fill("f$", &[colour(turn.task)]);
     }
     let slot = layout.slot_of(placed);
     let further = layout.last_slot(placed).saturating_sub(slot);
     let wide = further.saturating_mul(10).saturating_add(9);
-    out.put(&[
-        TextPiece::Text("\" d=\"M"),
-        TextPiece::Number(slot.saturating_mul(10)),
-        TextPiece::Text(","),
-        TextPiece::Number(turn.executor.saturating_mul(STRIP)),
-        TextPiece::Text("h"),
-        TextPiece::Number(wide),
-        TextPiece::Text("v14h-"),
-        TextPiece::Number(wide),
-        TextPiece::Text("z\"/>\n"),
-    ])
+    let left = slot.saturating_mul(10);
+    let top = turn.executor.saturating_mul(STRIP);
+    out.fill("\" d=\"M$,$h$v14h-$z\"/>\n", &[left, top, wide, wide])
 }
 
 // The marks of all turns that are shown; one for each cell and executor.
 fn write_marks(out: &mut PictureText, picture: &Picture, layout: &Layout) {
-    out.put(&[
-        TextPiece::Text("<svg x=\""),
-        TextPiece::Number(LEFT),
-        TextPiece::Text("\" y=\""),
-        TextPiece::Number(HEAD + OVER),
-        TextPiece::Text("\" width=\""),
-        TextPiece::Number(strips_width(layout)),
-        TextPiece::Text("\" height=\""),
-        TextPiece::Number(layout.lanes.len().saturating_mul(STRIP)),
-        TextPiece::Text("\" viewBox=\"0 0 "),
-        TextPiece::Number(layout.cells.len().saturating_mul(10)),
-        TextPiece::Text(" "),
-        TextPiece::Number(layout.lanes.len().saturating_mul(STRIP)),
-        TextPiece::Text("\" preserveAspectRatio=\"none\">\n"),
-    ]);
+    let width = strips_width(layout);
+    let height = layout.lanes.len().saturating_mul(STRIP);
+    let units = layout.cells.len().saturating_mul(10);
+    out.fill(
+        "<svg x=\"$\" y=\"$\" width=\"$\" height=\"$\" viewBox=\"0 0 $ $\" preserveAspectRatio=\"none\">\n",
+        &[LEFT, HEAD + OVER, width, height, units, height],
+    );
     let mut marked = None;
     for (turn, placed) in picture.boxes.iter().zip(&picture.placed) {
         if layout.shows(placed) {
@@ -158,13 +134,10 @@ fn write_undone(out: &mut PictureText, picture: &Picture, layout: &Layout) {
                 layout,
                 layout.slot_of(placed).saturating_add(1),
             )) / 2;
-            out.put(&[
-                TextPiece::Text("<path class=\"fx\" d=\"M"),
-                TextPiece::Number(middle.saturating_sub(5)),
-                TextPiece::Text(","),
-                TextPiece::Number(HEAD + OVER - 11),
-                TextPiece::Text("h10l-5,9z\"/>\n"),
-            ]);
+            out.fill(
+                "<path class=\"fx\" d=\"M$,$h10l-5,9z\"/>\n",
+                &[middle.saturating_sub(5), HEAD + OVER - 11],
+            );
         }
     }
 }

@@ -6,7 +6,7 @@ ghost use Rattle.run_pictures.specs.Drawn.{cancelled_text, env_text, turn_text};
 ghost use Rattle.run_pictures.specs.SaysInside.{Says};
 
 use crate::picture::boxes::TurnBox;
-use crate::picture::pieces::{TextPiece, number, say};
+use crate::picture::pieces::{number, say};
 use crate::picture::word;
 use itoa::Integer;
 use std::alloc::{AllocError, Global};
@@ -97,14 +97,34 @@ impl PictureText {
         }
     }
 
-    /// Goes on with pieces, one after the other.
-    pub(crate) fn put(&mut self, pieces: &[TextPiece<'_>]) {
-        for piece in pieces {
-            match *piece {
-                TextPiece::Text(text) => self.say(text.as_bytes()),
-                TextPiece::Name(name) => self.say(name),
-                TextPiece::Number(value) => self.number(value),
+    /// Goes on with these words, and in them for each `$` with one of these numbers, in order.
+    pub(crate) fn fill(&mut self, words: &str, numbers: &[usize]) {
+        self.fill_with(words, "", numbers)
+    }
+
+    /// The same, and for each `@` with this text.
+    pub(crate) fn fill_with(&mut self, words: &str, text: &str, numbers: &[usize]) {
+        let mut next = 0_usize;
+        for part in words.as_bytes().split_inclusive(|byte| is_hole(*byte)) {
+            match part {
+                [before @ .., b'@'] => {
+                    self.say(before);
+                    self.say(text.as_bytes())
+                }
+                [before @ .., b'$'] => {
+                    self.say(before);
+                    self.number_at(numbers, next);
+                    next = next.saturating_add(1);
+                }
+                _ => self.say(part),
             }
+        }
+    }
+
+    // Goes on with the number at a place, if there is one.
+    fn number_at(&mut self, numbers: &[usize], place: usize) {
+        if let Some(number) = numbers.get(place) {
+            self.number(*number)
         }
     }
 
@@ -184,20 +204,12 @@ impl PictureText {
                     Ok(root) => script.root_name(RootId(root)),
                     Err(_) => &[],
                 };
-                self.put(&[TextPiece::Text("root "), TextPiece::Name(name)])
+                self.say(b"root ");
+                self.say(name)
             }
-            Origin::Child(owner, _) => self.put(&[
-                TextPiece::Text("child t"),
-                TextPiece::Number(owner.0 as usize),
-            ]),
-            Origin::Spawned(by) => self.put(&[
-                TextPiece::Text("spawned t"),
-                TextPiece::Number(by.0 as usize),
-            ]),
-            Origin::Detached(by) => self.put(&[
-                TextPiece::Text("detached t"),
-                TextPiece::Number(by.0 as usize),
-            ]),
+            Origin::Child(owner, _) => self.fill("child t$", &[owner.0 as usize]),
+            Origin::Spawned(by) => self.fill("spawned t$", &[by.0 as usize]),
+            Origin::Detached(by) => self.fill("detached t$", &[by.0 as usize]),
         }
     }
 
@@ -228,6 +240,11 @@ impl PictureText {
         self.number(turn.env.priority.number());
         self.cancelled(turn.env.cancelled)
     }
+}
+
+// Whether a byte of a line stands for something else.
+fn is_hole(byte: u8) -> bool {
+    byte == b'$' || byte == b'@'
 }
 
 // The last part of a path.

@@ -5,17 +5,6 @@ ghost use Rattle.std.specs.Prelude.{◌≡◌, ◌++◌, OnOk};
 use itoa::{Buffer, Integer};
 use std::alloc::AllocError;
 
-/// A piece of a text.
-#[derive(Clone, Copy)]
-pub(crate) enum TextPiece<'a> {
-    /// These characters.
-    Text(&'a str),
-    /// These bytes, as those of a name.
-    Name(&'a [u8]),
-    /// A number, in decimal.
-    Number(usize),
-}
-
 /// Appends a text.
 pub(crate) fn say(out: &mut Vec<u8>, text: &[u8]) -> Result<(), AllocError>
     ensures { OnOk result (out.new.items ≡ out.old.items ++ text.now) }

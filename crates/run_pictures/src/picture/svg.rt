@@ -16,7 +16,6 @@ use crate::picture::lines::write_lines;
 use crate::picture::marks::write_marks;
 use crate::picture::overview::write_overview;
 use crate::picture::picture_text::PictureText;
-use crate::picture::pieces::TextPiece;
 use crate::picture::placed::PlacedTurn;
 use crate::picture::rows::Row;
 use crate::picture::style::{LONG_STYLE, STYLE};
@@ -36,26 +35,21 @@ const IN_GUTTER: usize = 18;
 // How a run is called: its script and its workers.
 fn write_heading(out: &mut PictureText, name: &str, workers: u32) {
     out.file_name(name);
-    out.put(&[
-        TextPiece::Text(", "),
-        TextPiece::Number(workers as usize),
-        TextPiece::Text(if workers == 1 { " worker" } else { " workers" }),
-    ])
+    let words = if workers == 1 {
+        ", $ worker"
+    } else {
+        ", $ workers"
+    };
+    out.fill(words, &[workers as usize])
 }
 
 // What stands before the lanes.
 fn write_head(out: &mut PictureText, layout: &Layout, name: &str, workers: u32) {
-    out.put(&[
-        TextPiece::Text("<svg xmlns=\"http://www.w3.org/2000/svg\" width=\""),
-        TextPiece::Number(layout.width),
-        TextPiece::Text("\" height=\""),
-        TextPiece::Number(layout.height),
-        TextPiece::Text("\" viewBox=\"0 0 "),
-        TextPiece::Number(layout.width),
-        TextPiece::Text(" "),
-        TextPiece::Number(layout.height),
-        TextPiece::Text("\">\n<title>"),
-    ]);
+    let (width, height) = (layout.width, layout.height);
+    out.fill(
+        "<svg xmlns=\"http://www.w3.org/2000/svg\" width=\"$\" height=\"$\" viewBox=\"0 0 $ $\">\n<title>",
+        &[width, height, width, height],
+    );
     write_heading(out, name, workers);
     out.say(b"</title>\n");
     out.say(STYLE.as_bytes());
@@ -80,11 +74,7 @@ fn write_order(out: &mut PictureText, layout: &Layout) {
     });
     out.say(b" A box is a turn, in the colour of its task; a crossed one was undone.");
     if layout.earlier > 0 {
-        out.put(&[
-            TextPiece::Text(" Not shown: "),
-            TextPiece::Number(layout.earlier),
-            TextPiece::Text(" earlier turns."),
-        ]);
+        out.fill(" Not shown: $ earlier turns.", &[layout.earlier]);
     }
 }
 
@@ -125,39 +115,29 @@ fn write_gutter(
 fn write_turns(out: &mut PictureText, lane: &Lane, folded: usize, top: usize) {
     begin_text(out, "g", 16, top.saturating_add(32));
     let turns = lane.boxes.saturating_add(folded);
-    let word = if turns == 1 { " turn" } else { " turns" };
-    out.put(&[TextPiece::Number(turns), TextPiece::Text(word)]);
+    out.fill(if turns == 1 { "$ turn" } else { "$ turns" }, &[turns]);
     end_text(out);
     let earlier = turns.saturating_sub(lane.shown);
     if earlier == 0 {
         return;
     }
     begin_text(out, "g", 16, top.saturating_add(48));
-    out.put(&[TextPiece::Number(earlier), TextPiece::Text(" not shown")]);
+    out.fill("$ not shown", &[earlier]);
     end_text(out)
+}
+
+// A line from left to right.
+fn write_rail(out: &mut PictureText, from: usize, y: usize, to: usize) {
+    out.fill("<path class=\"o\" d=\"M$,$H$\"/>\n", &[from, y, to])
 }
 
 // The lines behind a lane: the one that its boxes stand on, and the one below it.
 fn write_rails(out: &mut PictureText, layout: &Layout, lane: &Lane, top: usize) {
     if lane.shown > 0 {
         let middle = top.saturating_add(OVER + TALL / 2);
-        out.put(&[
-            TextPiece::Text("<path class=\"o\" d=\"M"),
-            TextPiece::Number(LEFT - 8),
-            TextPiece::Text(","),
-            TextPiece::Number(middle),
-            TextPiece::Text("H"),
-            TextPiece::Number(layout.width),
-            TextPiece::Text("\"/>\n"),
-        ]);
+        write_rail(out, LEFT - 8, middle, layout.width);
     }
-    out.put(&[
-        TextPiece::Text("<path class=\"o\" d=\"M0,"),
-        TextPiece::Number(top.saturating_add(lane.height())),
-        TextPiece::Text("H"),
-        TextPiece::Number(layout.width),
-        TextPiece::Text("\"/>\n"),
-    ])
+    write_rail(out, 0, top.saturating_add(lane.height()), layout.width)
 }
 
 // The name of an executor again, over each eighth column but the first, for those who scroll.
@@ -196,15 +176,10 @@ fn write_lane(
 // The number of a row.
 fn write_number(out: &mut PictureText, row: usize, top: usize) {
     let number = row.saturating_add(1);
-    out.put(&[
-        TextPiece::Text("<text id=\"row"),
-        TextPiece::Number(number),
-        TextPiece::Text("\" class=\"h\" x=\"16\" y=\""),
-        TextPiece::Number(top.saturating_add(18)),
-        TextPiece::Text("\">row "),
-        TextPiece::Number(number),
-    ]);
-    end_text(out)
+    out.fill(
+        "<text id=\"row$\" class=\"h\" x=\"16\" y=\"$\">row $</text>\n",
+        &[number, top.saturating_add(18), number],
+    )
 }
 
 // The lanes of all rows.

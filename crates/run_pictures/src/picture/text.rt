@@ -1,19 +1,10 @@
 //! Lines of text.
 
 use crate::picture::picture_text::PictureText;
-use crate::picture::pieces::TextPiece;
 
 /// Begins a line of text of these classes at a place.
 pub(crate) fn begin_text(out: &mut PictureText, class: &str, x: usize, y: usize) {
-    out.put(&[
-        TextPiece::Text("<text class=\""),
-        TextPiece::Text(class),
-        TextPiece::Text("\" x=\""),
-        TextPiece::Number(x),
-        TextPiece::Text("\" y=\""),
-        TextPiece::Number(y),
-        TextPiece::Text("\">"),
-    ])
+    out.fill_with("<text class=\"@\" x=\"$\" y=\"$\">", class, &[x, y])
 }
 
 /// Ends a line of text.

@@ -4,7 +4,6 @@ use crate::picture::boxes::TurnBox;
 use crate::picture::fault::PictureFault;
 use crate::picture::links::Link;
 use crate::picture::picture_text::PictureText;
-use crate::picture::pieces::TextPiece;
 use crate::picture::placed::PlacedTurn;
 use crate::picture::{Picture, word};
 use std::alloc::Global;
@@ -30,111 +29,91 @@ fn thread(turn: &TurnBox) -> usize {
 
 // Begins an event of a kind.
 fn begin_event(out: &mut PictureText, kind: &str, executor: usize) {
-    let between = if out.bytes().ends_with(b"[") {
-        "\n"
+    let between: &[u8] = if out.bytes().ends_with(b"[") {
+        b"\n"
     } else {
-        ",\n"
+        b",\n"
     };
-    out.put(&[
-        TextPiece::Text(between),
-        TextPiece::Text("{\"ph\":\""),
-        TextPiece::Text(kind),
-        TextPiece::Text("\",\"pid\":"),
-        TextPiece::Number(process(executor)),
-    ])
+    out.say(between);
+    out.fill_with("{\"ph\":\"@\",\"pid\":$", kind, &[process(executor)])
 }
 
 // Names an executor's process, and says how many of its turns were folded.
 fn name_process(out: &mut PictureText, script: &Script, executor: usize, folded: usize) {
     begin_event(out, "M", executor);
-    out.put(&[
-        TextPiece::Text(",\"name\":\"process_name\",\"args\":{\"name\":\""),
-        TextPiece::Name(word::executor_name(script, executor)),
-        TextPiece::Text("\"}}"),
-    ]);
+    out.say(b",\"name\":\"process_name\",\"args\":{\"name\":\"");
+    out.say(word::executor_name(script, executor));
+    out.say(b"\"}}");
     if folded == 0 {
         return;
     }
     begin_event(out, "M", executor);
-    out.put(&[
-        TextPiece::Text(",\"name\":\"process_labels\",\"args\":{\"labels\":\"folded "),
-        TextPiece::Number(folded),
-        TextPiece::Text("\"}}"),
-    ])
+    out.fill(
+        ",\"name\":\"process_labels\",\"args\":{\"labels\":\"folded $\"}}",
+        &[folded],
+    )
 }
 
 // Names the thread of a turn's worker in its executor's process.
 fn name_thread(out: &mut PictureText, turn: &TurnBox) {
     begin_event(out, "M", turn.executor);
-    out.put(&[
-        TextPiece::Text(",\"tid\":"),
-        TextPiece::Number(thread(turn)),
-        TextPiece::Text(",\"name\":\"thread_name\",\"args\":{\"name\":\"worker "),
-        TextPiece::Number(turn.worker as usize),
-        TextPiece::Text("\"}}"),
-    ])
+    out.fill(
+        ",\"tid\":$,\"name\":\"thread_name\",\"args\":{\"name\":\"worker $\"}}",
+        &[thread(turn), turn.worker as usize],
+    )
+}
+
+// A truth value, as JSON has it.
+fn truth(is_so: bool) -> &'static str {
+    if is_so { "true" } else { "false" }
 }
 
 // What is known of a turn.
 fn write_arguments(out: &mut PictureText, script: &Script, turn: &TurnBox, is_undone: bool) {
-    out.put(&[
-        TextPiece::Text(",\"args\":{\"task\":\"t"),
-        TextPiece::Number(turn.task.0 as usize),
-        TextPiece::Text("\",\"number\":"),
-        TextPiece::Number(turn.number as usize),
-        TextPiece::Text(",\"priority\":"),
-        TextPiece::Number(turn.env.priority.number() as usize),
-        TextPiece::Text(",\"cancelled\":"),
-        TextPiece::Text(if turn.env.cancelled { "true" } else { "false" }),
-        TextPiece::Text(",\"resume\":\""),
-    ]);
+    let priority = turn.env.priority.number();
+    out.fill_with(
+        ",\"args\":{\"task\":\"t$\",\"number\":$,\"priority\":$,\"cancelled\":@,\"resume\":\"",
+        truth(turn.env.cancelled),
+        &[
+            turn.task.0 as usize,
+            turn.number as usize,
+            priority as usize,
+        ],
+    );
     out.resume(turn.resume);
     out.say(b"\",\"exit\":\"");
     out.exit(script, turn.exit);
-    out.put(&[
-        TextPiece::Text("\",\"undone\":"),
-        TextPiece::Text(if is_undone { "true" } else { "false" }),
-        TextPiece::Text("}}"),
-    ])
+    out.fill_with("\",\"undone\":@}}", truth(is_undone), &[])
 }
 
 // A turn as a complete event.
 fn write_turn(out: &mut PictureText, script: &Script, turn: &TurnBox, placed: &PlacedTurn) {
     let moment = &placed.moment;
     begin_event(out, "X", turn.executor);
-    out.put(&[
-        TextPiece::Text(",\"tid\":"),
-        TextPiece::Number(thread(turn)),
-        TextPiece::Text(",\"ts\":"),
-        TextPiece::Number(moment.begin),
-        TextPiece::Text(",\"dur\":"),
-        TextPiece::Number(moment.end.saturating_sub(moment.begin)),
-        TextPiece::Text(",\"cat\":\"turn\",\"name\":\""),
-    ]);
+    let lasts = moment.end.saturating_sub(moment.begin);
+    out.fill(
+        ",\"tid\":$,\"ts\":$,\"dur\":$,\"cat\":\"turn\",\"name\":\"",
+        &[thread(turn), moment.begin, lasts],
+    );
     out.turn(turn);
     out.say(b" ");
     out.method(script, turn.method);
-    let colour = if placed.is_undone {
-        "\",\"cname\":\"terrible\""
+    out.say(if placed.is_undone {
+        b"\",\"cname\":\"terrible\""
     } else {
-        "\""
-    };
-    out.say(colour.as_bytes());
+        b"\""
+    });
     write_arguments(out, script, turn, placed.is_undone)
 }
 
 // One end of a flow event: the number of the flow is that of the box that it leads to.
 fn write_flow_end(out: &mut PictureText, kind: &str, link: Link, number: usize, turn: &TurnBox) {
     begin_event(out, kind, turn.executor);
-    out.put(&[
-        TextPiece::Text(",\"tid\":"),
-        TextPiece::Number(thread(turn)),
-        TextPiece::Text(",\"id\":"),
-        TextPiece::Number(number),
-        TextPiece::Text(",\"cat\":\"job\",\"name\":\""),
-        TextPiece::Text(link.word()),
-        TextPiece::Text("\",\"ts\":"),
-    ])
+    out.fill_with(
+        ",\"tid\":$,\"id\":$,\"cat\":\"job\",\"name\":\"@\",\"ts\":",
+        link.word(),
+        &[thread(turn), number],
+    )
 }
 
 // The flow from a turn to the one whose job it made. It begins just before the end of the first.
@@ -146,15 +125,9 @@ fn write_flow(
 ) {
     let link = Link::between(maker.0, turn.0);
     write_flow_end(out, "s", link, number, maker.0);
-    out.put(&[
-        TextPiece::Number(maker.1.moment.end.saturating_sub(1)),
-        TextPiece::Text(".5}"),
-    ]);
+    out.fill("$.5}", &[maker.1.moment.end.saturating_sub(1)]);
     write_flow_end(out, "f", link, number, turn.0);
-    out.put(&[
-        TextPiece::Number(turn.1.moment.begin),
-        TextPiece::Text(",\"bp\":\"e\"}"),
-    ])
+    out.fill("$,\"bp\":\"e\"}", &[turn.1.moment.begin])
 }
 
 // The flow to the turn of a box from the one that made its job, by their places.
