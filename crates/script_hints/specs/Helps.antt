@@ -141,7 +141,7 @@ pub data HelpsUnknown (b : Blamed) : List ℕ → Type 0 where
 
 -- that a name is taken
 abbrev pub taken_text : List ℕ → Declared → List ℕ → List ℕ
-taken_text name d words = concat (concat (quoted name ∷ codes " is the name of " ∷ called d ∷ []) ∷ concat (words ∷ name ∷ codes "2`" ∷ []) ∷ [])
+taken_text name d words = concat (quoted name ∷ codes " is the name of " ∷ called d ∷ words ∷ name ∷ codes "2`" ∷ [])
 
 -- A field has this name.
 abbrev pub HasField : Blamed → List ℕ → Type 0
@@ -159,7 +159,7 @@ pub data HelpsTwice (b : Blamed) : List ℕ → Type 0 where
 
 -- what gives the value of a task, or that of a group's next child
 abbrev pub value_text : List ℕ → Declared → List ℕ → List ℕ
-value_text name d word = concat (concat (quoted name ∷ codes " is " ∷ called d ∷ []) ∷ codes ": what it gives is `let v = await " ∷ concat (word ∷ name ∷ codes ";`" ∷ []) ∷ [])
+value_text name d word = concat (quoted name ∷ codes " is " ∷ called d ∷ codes ": what it gives is `let v = await " ∷ word ∷ name ∷ codes ";`" ∷ [])
 
 -- What helps where a name stands for something else than is wanted: nothing, or what it is.
 pub data HelpsConfused (b : Blamed) : List ℕ → Type 0 where

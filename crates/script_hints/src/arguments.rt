@@ -5,7 +5,7 @@ ghost use Rattle.script_context.specs.Declarations.{IsNamedAs};
 ghost use Rattle.script_hints.specs.Helps.{HelpsArguments, arguments_text};
 
 use crate::hint::{Hint, Note};
-use crate::text::{counted, joined, quoted};
+use crate::text::{counted, quoted_in};
 use script_context::{Blamed, Declared, actor_end, actor_named, is_sign, name_at, named_as};
 use script_tokens::{Mark, Token};
 use std::alloc::{AllocError, Global};
@@ -39,11 +39,10 @@ fn arguments_text(
 ) -> Result<Vec<u8>, AllocError>
     ensures { IfOk result (λ text. text.items ≡ arguments_text name.now has given) }
 {
-    let name = quoted(alloc, name)?;
     let has = counted(alloc, has, b"parameter")?;
     let given = counted(alloc, given, b"argument")?;
-    let parts: [&[u8]; 5] = [&name, b" has ", &has, b", and is given ", &given];
-    joined(alloc, &parts)
+    let after: [&[u8]; 4] = [b" has ", &has, b", and is given ", &given];
+    quoted_in(alloc, b"", name, &after)
 }
 
 // Where the method is declared that is called at the place.

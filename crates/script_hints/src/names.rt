@@ -8,10 +8,10 @@ mod twice;
 mod unknown;
 
 ghost use Rattle.std.specs.Prelude.{◌≡◌, IfOk, IfSome};
-ghost use Rattle.script_context.specs.Declarations.{IsNamedAs};
+ghost use Rattle.script_context.specs.Declarations.{IsNamedAs, called};
 ghost use Rattle.script_hints.specs.Helps.{other_text};
 
-use crate::text::{joined, quoted};
+use crate::text::quoted_in;
 pub use confused::confused_hint;
 use script_context::{Blamed, Declared, Wanted, declared_at, is_named};
 use std::alloc::{AllocError, Global};
@@ -29,6 +29,13 @@ fn declared_as(blamed: Blamed<'_>, place: usize) -> Option<Declared>
     }
 }
 
+// What something is called that is declared.
+fn called<'a>(kind: Declared) -> &'a [u8]
+    ensures { result.now ≡ called kind }
+{
+    kind.called().as_bytes()
+}
+
 // That a name is that of something else than is wanted.
 fn other_text(
     alloc: Global,
@@ -38,13 +45,11 @@ fn other_text(
 ) -> Result<Vec<u8>, AllocError>
     ensures { IfOk result (λ text. text.items ≡ other_text name.now kind wanted) }
 {
-    let name = quoted(alloc, name)?;
-    let parts: [&[u8]; 5] = [
-        &name,
+    let after: [&[u8]; 4] = [
         b" is ",
-        kind.called().as_bytes(),
+        called(kind),
         b", and here stands the name of ",
         wanted.called().as_bytes(),
     ];
-    joined(alloc, &parts)
+    quoted_in(alloc, b"", name, &after)
 }

@@ -4,7 +4,7 @@ ghost use Rattle.std.specs.Prelude.{◌≡◌, IfOk, IfSome};
 ghost use Rattle.script_hints.specs.Helps.{HelpsRoot, IsRoot, later_text};
 
 use crate::hint::{Hint, Note};
-use crate::text::{bytes, joined, quoted};
+use crate::text::{bytes, quoted_in};
 use script_context::{
     Blamed, Declared, actor_end, actor_named, declared_at, is_key, is_named, is_sign, name_at,
     named_as, still_stands,
@@ -45,13 +45,8 @@ pub fn root_hint(alloc: Global, blamed: Blamed<'_>) -> Result<Hint, AllocError>
 fn later_text(alloc: Global, name: &[u8]) -> Result<Vec<u8>, AllocError>
     ensures { IfOk result (λ text. text.items ≡ later_text name.now) }
 {
-    let name = quoted(alloc, name)?;
-    let parts: [&[u8]; 3] = [
-        b"it waits for ",
-        &name,
-        b", by its method or one that it calls: declare that root first",
-    ];
-    joined(alloc, &parts)
+    let after: [&[u8]; 1] = [b", by its method or one that it calls: declare that root first"];
+    quoted_in(alloc, b"it waits for ", name, &after)
 }
 
 // Where the root is declared that is waited for: of what the root's method names, or a method that it calls, and so on.

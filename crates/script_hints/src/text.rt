@@ -19,10 +19,18 @@ pub(crate) fn joined(alloc: Global, parts: &[&[u8]]) -> Result<Vec<u8>, AllocErr
     ensures { IfOk result (λ text. text.items ≡ concat (map (λ part. part.now) parts.now)) }
 {
     let mut text = Vec::new(alloc);
+    push_all(&mut text, parts)?;
+    Ok(text)
+}
+
+// Puts parts behind a text.
+fn push_all(text: &mut Vec<u8>, parts: &[&[u8]]) -> Result<(), AllocError>
+    ensures { OnOk result (text.new.items ≡ text.old.items ++ concat (map (λ part. part.now) parts.now)) }
+{
     for part in parts {
         text.extend_from_slice(part)?;
     }
-    Ok(text)
+    Ok(())
 }
 
 /// These bytes.
@@ -46,6 +54,35 @@ pub(crate) fn quoted(alloc: Global, bytes: &[u8]) -> Result<Vec<u8>, AllocError>
 {
     let parts: [&[u8]; 3] = [b"`", bytes, b"`"];
     joined(alloc, &parts)
+}
+
+/// Bytes in back-quotes, between these words and these parts.
+///
+/// # Errors
+///
+/// `AllocError` where there is no memory for them.
+pub(crate) fn quoted_in(
+    alloc: Global,
+    before: &[u8],
+    bytes: &[u8],
+    after: &[&[u8]],
+) -> Result<Vec<u8>, AllocError>
+    ensures { IfOk result (λ text. text.items ≡ before.now ++ (quoted bytes.now ++ concat (map (λ part. part.now) after.now))) }
+{
+    let mut text = Vec::new(alloc);
+    push_quoted(&mut text, before, bytes)?;
+    push_all(&mut text, after)?;
+    Ok(text)
+}
+
+// Puts words and bytes in back-quotes behind a text.
+fn push_quoted(text: &mut Vec<u8>, before: &[u8], bytes: &[u8]) -> Result<(), AllocError>
+    ensures { OnOk result (text.new.items ≡ text.old.items ++ (before.now ++ quoted bytes.now)) }
+{
+    text.extend_from_slice(before)?;
+    text.extend_from_slice(b"`")?;
+    text.extend_from_slice(bytes)?;
+    text.extend_from_slice(b"`")
 }
 
 /// A number of things: the word for one, with an `s` where it is not 1.

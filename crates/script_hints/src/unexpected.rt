@@ -8,7 +8,7 @@ use crate::hint::{Fix, Hint, Note};
 use crate::listing::list_expected;
 use crate::mistake::{Made, Repair, filled_text, fix_of, note_of};
 use crate::mistakes::mistake_at;
-use crate::text::{bytes, counted, joined, quoted};
+use crate::text::{bytes, counted, joined, quoted_in};
 use script_context::{
     Blamed, Candidate, Expected, braces_at, few, find_expected, name_at, open_brace, within,
 };
@@ -118,9 +118,8 @@ fn meant(
 fn keyword_text(alloc: Global, keyword: Keyword) -> Result<Vec<u8>, AllocError>
     ensures { IfOk result (λ text. text.items ≡ keyword_text keyword) }
 {
-    let word = quoted(alloc, keyword.spelling())?;
-    let parts: [&[u8]; 2] = [b"a keyword is spelled nearly so: ", &word];
-    joined(alloc, &parts)
+    let before = b"a keyword is spelled nearly so: ";
+    quoted_in(alloc, before, keyword.spelling(), &[])
 }
 
 /// What helps where a text ends early: what could stand at its end, the brace that is open, and what closes all that are.

@@ -1,13 +1,12 @@
 //! Names that stand for something else than is wanted.
 
-ghost use Rattle.std.specs.Prelude.{◌≡◌, ◌∷◌, [], IfOk, IfSome, codes};
-ghost use Rattle.std.specs.List.{concat};
-ghost use Rattle.script_context.specs.Declarations.{IsNamedAs, called};
-ghost use Rattle.script_hints.specs.Helps.{HelpsConfused, quoted, value_text};
+ghost use Rattle.std.specs.Prelude.{◌≡◌, IfOk, IfSome};
+ghost use Rattle.script_context.specs.Declarations.{IsNamedAs};
+ghost use Rattle.script_hints.specs.Helps.{HelpsConfused, value_text};
 
 use crate::hint::{Fix, Hint, Note};
-use crate::names::{declared_as, other_text};
-use crate::text::{joined, quoted};
+use crate::names::{called, declared_as, other_text};
+use crate::text::quoted_in;
 use script_context::{Blamed, Declared, Wanted, could_stand, wanted_at};
 use std::alloc::{AllocError, Global};
 
@@ -53,33 +52,23 @@ fn confused_text(
     }
 }
 
-fn value_text(
+fn value_text<'a>(
     alloc: Global,
-    name: &[u8],
+    name: &'a [u8],
     kind: Declared,
-    keyword: &[u8],
+    keyword: &'a [u8],
 ) -> Result<Vec<u8>, AllocError>
     ensures { IfOk result (λ text. text.items ≡ value_text name.now kind keyword.now) }
 {
-    let head = kind_text(alloc, name, kind)?;
-    let wait = wait_text(alloc, name, keyword)?;
-    let parts: [&[u8]; 3] = [&head, b": what it gives is `let v = await ", &wait];
-    joined(alloc, &parts)
-}
-
-fn kind_text(alloc: Global, name: &[u8], kind: Declared) -> Result<Vec<u8>, AllocError>
-    ensures { IfOk result (λ text. text.items ≡ concat (quoted name.now ∷ codes " is " ∷ called kind ∷ [])) }
-{
-    let word = quoted(alloc, name)?;
-    let parts: [&[u8]; 3] = [&word, b" is ", kind.called().as_bytes()];
-    joined(alloc, &parts)
-}
-
-fn wait_text<'a>(alloc: Global, name: &'a [u8], keyword: &'a [u8]) -> Result<Vec<u8>, AllocError>
-    ensures { IfOk result (λ text. text.items ≡ concat (keyword.now ∷ name.now ∷ codes ";`" ∷ [])) }
-{
-    let parts: [&[u8]; 3] = [keyword, name, b";`"];
-    joined(alloc, &parts)
+    let after: [&[u8]; 6] = [
+        b" is ",
+        called(kind),
+        b": what it gives is `let v = await ",
+        keyword,
+        name,
+        b";`",
+    ];
+    quoted_in(alloc, b"", name, &after)
 }
 
 // The other keyword, where a task stands after `next` or a group after `task`.

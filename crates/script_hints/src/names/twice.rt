@@ -1,13 +1,12 @@
 //! Names that are taken.
 
-ghost use Rattle.std.specs.Prelude.{◌≡◌, ◌∷◌, [], IfOk, IfSome, IsTrue, codes};
-ghost use Rattle.script_context.specs.Declarations.{IsNamedAs, called};
-ghost use Rattle.std.specs.List.{concat};
-ghost use Rattle.script_hints.specs.Helps.{HelpsTwice, IsShared, quoted, taken_text};
+ghost use Rattle.std.specs.Prelude.{◌≡◌, IfOk, IfSome, IsTrue};
+ghost use Rattle.script_context.specs.Declarations.{IsNamedAs};
+ghost use Rattle.script_hints.specs.Helps.{HelpsTwice, IsShared, taken_text};
 
 use crate::hint::{Hint, Note};
-use crate::names::declared_as;
-use crate::text::{joined, quoted};
+use crate::names::{called, declared_as};
+use crate::text::quoted_in;
 use script_context::{
     Blamed, Declared, actor_end, actor_named, actor_of, declared_at, is_key, is_seen, last_key,
     name_at, named_as, still_stands,
@@ -79,33 +78,22 @@ fn shared_at(alloc: Global, blamed: Blamed<'_>, place: usize) -> Result<Hint, Al
     Hint::of(alloc, help, note, Ok(None))
 }
 
-fn taken_text(
+fn taken_text<'a>(
     alloc: Global,
-    name: &[u8],
+    name: &'a [u8],
     kind: Declared,
-    words: &[u8],
+    words: &'a [u8],
 ) -> Result<Vec<u8>, AllocError>
     ensures { IfOk result (λ text. text.items ≡ taken_text name.now kind words.now) }
 {
-    let head = head_text(alloc, name, kind)?;
-    let offer = offer_text(alloc, name, words)?;
-    let parts: [&[u8]; 2] = [&head, &offer];
-    joined(alloc, &parts)
-}
-
-fn head_text(alloc: Global, name: &[u8], kind: Declared) -> Result<Vec<u8>, AllocError>
-    ensures { IfOk result (λ text. text.items ≡ concat (quoted name.now ∷ codes " is the name of " ∷ called kind ∷ [])) }
-{
-    let word = quoted(alloc, name)?;
-    let parts: [&[u8]; 3] = [&word, b" is the name of ", kind.called().as_bytes()];
-    joined(alloc, &parts)
-}
-
-fn offer_text<'a>(alloc: Global, name: &'a [u8], words: &'a [u8]) -> Result<Vec<u8>, AllocError>
-    ensures { IfOk result (λ text. text.items ≡ concat (words.now ∷ name.now ∷ codes "2`" ∷ [])) }
-{
-    let parts: [&[u8]; 3] = [words, name, b"2`"];
-    joined(alloc, &parts)
+    let after: [&[u8]; 5] = [
+        b" is the name of ",
+        called(kind),
+        words,
+        name,
+        b"2`",
+    ];
+    quoted_in(alloc, b"", name, &after)
 }
 
 // What has the name of what is declared at the place, before it.

@@ -7,7 +7,7 @@ ghost use Rattle.script_hints.specs.Helps.{HelpsUnknown, apart_words, late_text,
 
 use crate::hint::{Fix, FixPlace, Hint, Note};
 use crate::names::{declared_as, other_text};
-use crate::text::{bytes, joined, quoted};
+use crate::text::{bytes, joined, quoted, quoted_in};
 use script_context::{
     Blamed, Declared, Wanted, actor_of, is_in_its_let, name_at, nearest, wanted_at,
 };
@@ -141,22 +141,19 @@ fn read_local(alloc: Global, blamed: Blamed<'_>, note: Option<Note>) -> Result<H
 fn local_text(alloc: Global, name: &[u8]) -> Result<Vec<u8>, AllocError>
     ensures { IfOk result (λ text. text.items ≡ local_text name.now) }
 {
-    let name = quoted(alloc, name)?;
-    let parts: [&[u8]; 2] = [&name, b" is a task local, which is read after `@`"];
-    joined(alloc, &parts)
+    let after: [&[u8]; 1] = [b" is a task local, which is read after `@`"];
+    quoted_in(alloc, b"", name, &after)
 }
 
 fn root_text(alloc: Global, name: &[u8]) -> Result<Vec<u8>, AllocError>
     ensures { IfOk result (λ text. text.items ≡ root_text name.now) }
 {
-    let word = quoted(alloc, name)?;
-    let parts: [&[u8]; 4] = [
-        &word,
+    let after: [&[u8]; 3] = [
         b" is a root, whose value is waited for: `let v = await task ",
         name,
         b";`",
     ];
-    joined(alloc, &parts)
+    quoted_in(alloc, b"", name, &after)
 }
 
 // Why what has the name can't be named at the place.
@@ -182,17 +179,14 @@ fn kept_from(
 fn late_text(alloc: Global, name: &[u8]) -> Result<Vec<u8>, AllocError>
     ensures { IfOk result (λ text. text.items ≡ late_text name.now) }
 {
-    let name = quoted(alloc, name)?;
-    let parts: [&[u8]; 2] = [&name, b" stands from the end of its `let` on"];
-    joined(alloc, &parts)
+    let after: [&[u8]; 1] = [b" stands from the end of its `let` on"];
+    quoted_in(alloc, b"", name, &after)
 }
 
 fn apart_text(alloc: Global, name: &[u8], kind: Declared) -> Result<Vec<u8>, AllocError>
     ensures { IfOk result (λ text. text.items ≡ concat (quoted name.now ∷ apart_words kind ∷ [])) }
 {
-    let name = quoted(alloc, name)?;
-    let parts: [&[u8]; 2] = [&name, apart_words(kind)];
-    joined(alloc, &parts)
+    quoted_in(alloc, b"", name, &[apart_words(kind)])
 }
 
 fn apart_words(kind: Declared) -> &'static [u8]
@@ -246,12 +240,9 @@ fn undeclared(alloc: Global, blamed: Blamed<'_>, wanted: Wanted) -> Result<Hint,
 fn undeclared_text(alloc: Global, name: &[u8], wanted: Wanted) -> Result<Vec<u8>, AllocError>
     ensures { IfOk result (λ text. text.items ≡ undeclared_text name.now wanted) }
 {
-    let name = quoted(alloc, name)?;
-    let parts: [&[u8]; 4] = [
-        b"nothing is called ",
-        &name,
+    let after: [&[u8]; 2] = [
         b": here stands the name of ",
         wanted.called().as_bytes(),
     ];
-    joined(alloc, &parts)
+    quoted_in(alloc, b"nothing is called ", name, &after)
 }
