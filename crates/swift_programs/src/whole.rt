@@ -15,12 +15,6 @@ use script_grammar::{Actor, Decl, Executor, Local, Name, Root};
 use std::alloc::{AllocError, Global};
 use swift_types::ExecutorKind;
 
-fn say_lines(page: &mut SwiftPage, lines: &[&str]) {
-    for line in lines {
-        page.end(line);
-    }
-}
-
 fn say_executor(page: &mut SwiftPage, executor: &Executor) {
     page.begin();
     page.say("static let ");
@@ -74,7 +68,7 @@ fn say_locals(page: &mut SwiftPage, decls: &[Decl]) {
 // What stands before the actors.
 fn head(alloc: Global, decls: &[Decl]) -> Result<Vec<u8>, AllocError> {
     let mut page = SwiftPage::new(alloc, 0);
-    say_lines(&mut page, &NOTES);
+    page.say(NOTES);
     say_executors(&mut page, decls);
     say_locals(&mut page, decls);
     page.into_text()
@@ -189,7 +183,7 @@ fn tail(alloc: Global, decls: &[Decl]) -> Result<Vec<u8>, AllocError> {
     let mut page = SwiftPage::new(alloc, 0);
     say_roots(&mut page, decls);
     say_main(&mut page, decls);
-    say_lines(&mut page, &PRELUDE);
+    page.say(PRELUDE);
     page.into_text()
 }
 

@@ -11,7 +11,7 @@ use script_grammar::{Actor, Field, Name};
 use std::alloc::{AllocError, Global};
 
 /// Swift's keywords, and what each program calls its own values, of the names that a script may have.
-pub const VALUES: [&[u8]; 57] = [
+pub(crate) static VALUES: [&[u8]; 57] = [
     b"_",
     b"as",
     b"associatedtype",
@@ -72,7 +72,7 @@ pub const VALUES: [&[u8]; 57] = [
 ];
 
 /// The types that each program names.
-pub const TYPES: [&[u8]; 38] = [
+pub(crate) static TYPES: [&[u8]; 38] = [
     b"Actor",
     b"Any",
     b"Bool",
