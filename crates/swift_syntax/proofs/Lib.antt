@@ -1,3 +1,4 @@
+pub mod Grown
 pub mod Numbers
 pub mod ReadSoFar
 pub mod Unique

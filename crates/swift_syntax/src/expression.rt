@@ -1,5 +1,9 @@
 //! Expressions.
 
+ghost use Rattle.std.specs.Prelude.{◌≡◌, ◌↔◌, ◌+◌, IsNone, IsSome, IsTrue, Some};
+ghost use Rattle.swift_syntax.specs.Expressions.{Reads, SpellsAtom, SpellsCalled, SpellsChoice, SpellsExpr, SpellsNamed, SpellsOperands, SpellsPrefixed, binary_of, both_form, kind_at, literal_of, opens_at, operator_in};
+ghost use Rattle.swift_syntax.specs.ReadersInside.{Grows, IsPut, taken, takes_if, tried_form};
+
 use crate::limits::DEPTH;
 use crate::reader::Reader;
 use crate::rule::Rule;
@@ -19,14 +23,18 @@ struct BinaryOperator {
 
 const COMPARISON: u32 = 2;
 
-fn found(operator: Operator, level: u32) -> Option<BinaryOperator> {
+fn found(operator: Operator, level: u32) -> Option<BinaryOperator>
+    ensures { result ≡ Some (record { operator = Some operator; level = level }) }
+{
     Some(BinaryOperator {
         operator: Some(operator),
         level,
     })
 }
 
-fn operator_of(sign: Sign) -> Option<BinaryOperator> {
+fn operator_of(sign: Sign) -> Option<BinaryOperator>
+    ensures { result ≡ binary_of sign }
+{
     match sign {
         Sign::Or => found(Operator::Or, 0),
         Sign::And => found(Operator::And, 1),
@@ -48,7 +56,9 @@ fn operator_of(sign: Sign) -> Option<BinaryOperator> {
 }
 
 // The operator at the front, if it binds at least so tightly.
-fn operator(reader: &Reader<'_>, loosest: u32) -> Option<BinaryOperator> {
+fn operator(reader: &Reader<'_>, loosest: u32) -> Option<BinaryOperator>
+    ensures { result ≡ operator_in loosest (kind_at reader.now.tokens.now reader.now.at) }
+{
     let TokenKind::Sign(sign) = reader.here().kind else {
         return None;
     };
@@ -62,7 +72,11 @@ fn operator(reader: &Reader<'_>, loosest: u32) -> Option<BinaryOperator> {
 }
 
 // Takes an operator, with as much white space as Swift wants. Its place.
-fn take_operator(reader: &mut Reader<'_>) -> usize {
+fn take_operator(reader: &mut Reader<'_>) -> usize
+    ensures place { result ≡ reader.old.at }
+    ensures taken { IsNone reader.new.refused → reader.new ≡ taken reader.old }
+    ensures grows { Grows reader.old reader.new }
+{
     let before = reader.here().after_space;
     let behind = reader.ahead(1).after_space;
     let begins_line = reader.here().begins_line;
@@ -81,21 +95,29 @@ fn take_operator(reader: &mut Reader<'_>) -> usize {
     place
 }
 
-fn both(found: BinaryOperator, left: usize, right: usize) -> ExprForm {
+fn both(found: BinaryOperator, left: usize, right: usize) -> ExprForm
+    ensures { result ≡ both_form found.operator left right }
+{
     match found.operator {
         Some(operator) => ExprForm::Binary(operator, left, right),
         None => ExprForm::Otherwise(left, right),
     }
 }
 
-fn missing(reader: &mut Reader<'_>, rule: Rule) -> usize {
+fn missing(reader: &mut Reader<'_>, rule: Rule) -> usize
+    ensures noted { IsSome reader.new.refused }
+    ensures grows { Grows reader.old reader.new }
+{
     reader.refuse(rule, reader.at);
     0
 }
 
 // Operands with operators between them that bind at least so tightly.
 #[cycle(expression)]
-fn operands(reader: &mut Reader<'_>, depth: u32, loosest: u32) -> usize {
+fn operands(reader: &mut Reader<'_>, depth: u32, loosest: u32) -> usize
+    ensures spelled { IsNone reader.new.refused → Reads (SpellsOperands reader.new.tokens.now loosest) reader.new.tree.exprs.items reader.old.at reader.new.at result }
+    ensures grows { Grows reader.old reader.new }
+{
     if depth == 0 {
         return missing(reader, Rule::TooLarge);
     }
@@ -109,11 +131,15 @@ fn operands(reader: &mut Reader<'_>, depth: u32, loosest: u32) -> usize {
         left = reader.expr(both(found, left, right), place);
         refuse_chain(reader, found.level);
     }
-    left
+    // Each turn takes an operator, so the tokens end before the turns do.
+    missing(reader, Rule::TooLarge)
 }
 
 // Comparisons are not chained.
-fn refuse_chain(reader: &mut Reader<'_>, level: u32) {
+fn refuse_chain(reader: &mut Reader<'_>, level: u32)
+    ensures same { IsNone reader.new.refused → reader.new ≡ reader.old }
+    ensures grows { Grows reader.old reader.new }
+{
     if level != COMPARISON {
         return;
     }
@@ -137,7 +163,11 @@ fn follows_operator(reader: &Reader<'_>) -> bool {
 }
 
 // Takes a prefix, which stands at its operand. Its place.
-fn take_prefix(reader: &mut Reader<'_>) -> usize {
+fn take_prefix(reader: &mut Reader<'_>) -> usize
+    ensures place { result ≡ reader.old.at }
+    ensures taken { IsNone reader.new.refused → reader.new ≡ taken reader.old }
+    ensures grows { Grows reader.old reader.new }
+{
     let is_joined = !reader.here().after_space && follows_operator(reader);
     let place = reader.take();
     if is_joined || reader.here().after_space {
@@ -162,7 +192,10 @@ fn is_numeral(tree: &Tree, place: usize, depth: u32) -> bool {
 }
 
 // Refuses a `-` at a place before a number in parentheses.
-fn refuse_numeral(reader: &mut Reader<'_>, is_covered: bool, operand: usize, place: usize) {
+fn refuse_numeral(reader: &mut Reader<'_>, is_covered: bool, operand: usize, place: usize)
+    ensures same { IsNone reader.new.refused → reader.new ≡ reader.old }
+    ensures grows { Grows reader.old reader.new }
+{
     if is_covered && is_numeral(&reader.tree, operand, DEPTH) {
         reader.refuse(Rule::NotYet, place);
     }
@@ -170,7 +203,10 @@ fn refuse_numeral(reader: &mut Reader<'_>, is_covered: bool, operand: usize, pla
 
 // An operand with at most one prefix.
 #[cycle(expression)]
-fn prefixed(reader: &mut Reader<'_>, depth: u32) -> usize {
+fn prefixed(reader: &mut Reader<'_>, depth: u32) -> usize
+    ensures spelled { IsNone reader.new.refused → Reads (SpellsPrefixed reader.new.tokens.now) reader.new.tree.exprs.items reader.old.at reader.new.at result }
+    ensures grows { Grows reader.old reader.new }
+{
     if reader.is_sign(Sign::Minus) {
         let place = take_prefix(reader);
         let is_covered = reader.is_sign(Sign::Open);
@@ -187,7 +223,9 @@ fn prefixed(reader: &mut Reader<'_>, depth: u32) -> usize {
 }
 
 // Whether the next token opens arguments of what stands before it.
-fn opens_arguments(reader: &Reader<'_>) -> bool {
+fn opens_arguments(reader: &Reader<'_>) -> bool
+    ensures { result ≡ opens_at reader.now.tokens.now reader.now.at }
+{
     reader.is_sign(Sign::Open) && !reader.here().begins_line
 }
 
@@ -199,7 +237,10 @@ fn called(
     receiver: Receiver,
     alone: ExprForm,
     name: usize,
-) -> usize {
+) -> usize
+    ensures spelled { IsNone reader.new.refused → Reads (SpellsCalled reader.new.tokens.now receiver alone name) reader.new.tree.exprs.items reader.old.at reader.new.at result }
+    ensures grows { Grows reader.old reader.new }
+{
     if !opens_arguments(reader) {
         return reader.expr(alone, name);
     }
@@ -210,7 +251,10 @@ fn called(
 
 // A name with what belongs to it.
 #[cycle(expression)]
-fn named(reader: &mut Reader<'_>, depth: u32) -> usize {
+fn named(reader: &mut Reader<'_>, depth: u32) -> usize
+    ensures spelled { IsNone reader.new.refused → Reads (SpellsNamed reader.new.tokens.now) reader.new.tree.exprs.items reader.old.at reader.new.at result }
+    ensures grows { Grows reader.old reader.new }
+{
     let first = reader.take();
     if reader.takes(Sign::Dot) {
         let member = reader.name();
@@ -221,14 +265,20 @@ fn named(reader: &mut Reader<'_>, depth: u32) -> usize {
 }
 
 // An expression of one token.
-fn take_as(reader: &mut Reader<'_>, form: ExprForm) -> usize {
+fn take_as(reader: &mut Reader<'_>, form: ExprForm) -> usize
+    ensures put { IsNone reader.new.refused → IsPut (taken reader.old) reader.new form reader.old.at result }
+    ensures grows { Grows reader.old reader.new }
+{
     let place = reader.take();
     reader.expr(form, place)
 }
 
 // An operand without a prefix.
 #[cycle(expression)]
-fn atom(reader: &mut Reader<'_>, depth: u32) -> usize {
+fn atom(reader: &mut Reader<'_>, depth: u32) -> usize
+    ensures spelled { IsNone reader.new.refused → Reads (SpellsAtom reader.new.tokens.now) reader.new.tree.exprs.items reader.old.at reader.new.at result }
+    ensures grows { Grows reader.old reader.new }
+{
     match reader.here().kind {
         TokenKind::Number(value) => take_as(reader, ExprForm::Number(value)),
         TokenKind::Text => take_as(reader, ExprForm::Text),
@@ -264,7 +314,9 @@ fn atom(reader: &mut Reader<'_>, depth: u32) -> usize {
 }
 
 // The label at the front, if there is one, or 0.
-fn label(reader: &mut Reader<'_>) -> usize {
+fn label(reader: &mut Reader<'_>) -> usize
+    ensures grows { Grows reader.old reader.new }
+{
     match reader.here().kind {
         TokenKind::Name | TokenKind::Key(_) => {
             if reader.is_sign_ahead(1, Sign::Colon) {
@@ -281,7 +333,9 @@ fn label(reader: &mut Reader<'_>) -> usize {
 
 // Arguments up to the parenthesis that closes them, which is taken too. The first one's place, or 0.
 #[cycle(expression)]
-fn arguments(reader: &mut Reader<'_>, depth: u32) -> usize {
+fn arguments(reader: &mut Reader<'_>, depth: u32) -> usize
+    ensures grows { Grows reader.old reader.new }
+{
     if reader.takes(Sign::Close) {
         return 0;
     }
@@ -303,7 +357,10 @@ fn arguments(reader: &mut Reader<'_>, depth: u32) -> usize {
 }
 
 // What a `try` at the front says.
-fn cover_of_try(reader: &mut Reader<'_>, inner: usize, place: usize, optional: bool) -> usize {
+fn cover_of_try(reader: &mut Reader<'_>, inner: usize, place: usize, optional: bool) -> usize
+    ensures put { IsNone reader.new.refused → IsPut reader.old reader.new (tried_form optional inner) place result }
+    ensures grows { Grows reader.old reader.new }
+{
     let form = if optional {
         ExprForm::TryOptional(inner)
     } else {
@@ -313,7 +370,10 @@ fn cover_of_try(reader: &mut Reader<'_>, inner: usize, place: usize, optional: b
 }
 
 // Takes the `?` of a `try?`, if it is there.
-fn is_optional(reader: &mut Reader<'_>) -> bool {
+fn is_optional(reader: &mut Reader<'_>) -> bool
+    ensures taken { reader.new ≡ takes_if result reader.old }
+    ensures found { IsTrue result → kind_at reader.old.tokens.now reader.old.at ≡ TokenKind.Sign Sign.Question }
+{
     if reader.is_sign(Sign::Question) && !reader.here().after_space {
         reader.take();
         return true;
@@ -323,7 +383,10 @@ fn is_optional(reader: &mut Reader<'_>) -> bool {
 
 // What `await` and `try` stand before.
 #[cycle(expression)]
-fn covered(reader: &mut Reader<'_>, depth: u32) -> usize {
+fn covered(reader: &mut Reader<'_>, depth: u32) -> usize
+    ensures spelled { IsNone reader.new.refused → Reads (SpellsExpr reader.new.tokens.now) reader.new.tree.exprs.items reader.old.at reader.new.at result }
+    ensures grows { Grows reader.old reader.new }
+{
     if depth == 0 {
         return missing(reader, Rule::TooLarge);
     }
@@ -343,7 +406,10 @@ fn covered(reader: &mut Reader<'_>, depth: u32) -> usize {
 
 // Operands, perhaps with a choice.
 #[cycle(expression)]
-fn choice(reader: &mut Reader<'_>, depth: u32) -> usize {
+fn choice(reader: &mut Reader<'_>, depth: u32) -> usize
+    ensures spelled { IsNone reader.new.refused → Reads (SpellsChoice reader.new.tokens.now) reader.new.tree.exprs.items reader.old.at reader.new.at result }
+    ensures grows { Grows reader.old reader.new }
+{
     if depth == 0 {
         return missing(reader, Rule::TooLarge);
     }
@@ -359,7 +425,11 @@ fn choice(reader: &mut Reader<'_>, depth: u32) -> usize {
 }
 
 // Takes the `?` or `:` of a choice, with white space on both sides. Its place.
-fn take_choice(reader: &mut Reader<'_>, sign: Sign) -> usize {
+fn take_choice(reader: &mut Reader<'_>, sign: Sign) -> usize
+    ensures place { result ≡ reader.old.at }
+    ensures taken { IsNone reader.new.refused → (kind_at reader.old.tokens.now reader.old.at ≡ TokenKind.Sign sign) × (reader.new ≡ taken reader.old) }
+    ensures grows { Grows reader.old reader.new }
+{
     let place = reader.at;
     let before = reader.here().after_space;
     reader.sign(sign);
@@ -370,7 +440,10 @@ fn take_choice(reader: &mut Reader<'_>, sign: Sign) -> usize {
 }
 
 /// An expression, perhaps with `await` and `try`. Its place.
-pub(crate) fn expression(reader: &mut Reader<'_>) -> usize {
+pub(crate) fn expression(reader: &mut Reader<'_>) -> usize
+    ensures spelled { IsNone reader.new.refused → Reads (SpellsExpr reader.new.tokens.now) reader.new.tree.exprs.items reader.old.at reader.new.at result }
+    ensures grows { Grows reader.old reader.new }
+{
     covered(reader, DEPTH)
 }
 
@@ -394,6 +467,9 @@ pub(crate) fn call_arguments(reader: &mut Reader<'_>) -> usize {
 }
 
 /// An operand of `..<` and `...`. Its place.
-pub(crate) fn bound(reader: &mut Reader<'_>) -> usize {
+pub(crate) fn bound(reader: &mut Reader<'_>) -> usize
+    ensures spelled { IsNone reader.new.refused → Reads (SpellsOperands reader.new.tokens.now 4) reader.new.tree.exprs.items reader.old.at reader.new.at result }
+    ensures grows { Grows reader.old reader.new }
+{
     operands(reader, DEPTH, 4)
 }

@@ -2,6 +2,10 @@
 //!
 //! After a refusal it stands at the end of the tokens, where nothing fits, so that what still runs ends soon.
 
+ghost use Rattle.std.specs.Prelude.{◌≡◌, ◌↔◌, true, IsNone, IsSome, IsTrue};
+ghost use Rattle.swift_syntax.specs.Expressions.{kind_at, token_at};
+ghost use Rattle.swift_syntax.specs.ReadersInside.{Grows, IsPut, taken, takes_if};
+
 use crate::rule::{Breach, Rule};
 use crate::sign::Sign;
 use crate::token::{Token, TokenKind};
@@ -37,7 +41,10 @@ impl<'a> Reader<'a> {
     }
 
     /// The token at a place; the end of the text where there is none.
-    pub(crate) fn token(&self, place: usize) -> Token {
+    pub(crate) fn token(&self, place: usize) -> Token
+        ensures token { result ≡ token_at self.now.text.now self.now.tokens.now place }
+        ensures kind { result.kind ≡ kind_at self.now.tokens.now place }
+    {
         match self.tokens.get(place) {
             Some(token) => *token,
             None => Token {
@@ -51,7 +58,10 @@ impl<'a> Reader<'a> {
     }
 
     /// The next token.
-    pub(crate) fn here(&self) -> Token {
+    pub(crate) fn here(&self) -> Token
+        ensures token { result ≡ token_at self.now.text.now self.now.tokens.now self.now.at }
+        ensures kind { result.kind ≡ kind_at self.now.tokens.now self.now.at }
+    {
         self.token(self.at)
     }
 
@@ -61,14 +71,20 @@ impl<'a> Reader<'a> {
     }
 
     /// Takes the next token. Its place.
-    pub(crate) fn take(&mut self) -> usize {
+    pub(crate) fn take(&mut self) -> usize
+        ensures place { result ≡ self.old.at }
+        ensures taken { self.new ≡ taken self.old }
+    {
         let place = self.at;
         self.at = place.saturating_add(1);
         place
     }
 
     /// Notes that a token breaks a rule, unless a refusal was noted before, and goes to the end.
-    pub(crate) fn refuse(&mut self, rule: Rule, place: usize) {
+    pub(crate) fn refuse(&mut self, rule: Rule, place: usize)
+        ensures noted { IsSome self.new.refused }
+        ensures grows { Grows self.old self.new }
+    {
         if self.refused.is_none() {
             self.refused = Some(Breach { rule, token: place });
         }
@@ -76,14 +92,20 @@ impl<'a> Reader<'a> {
     }
 
     /// Notes whether a table has grown.
-    pub(crate) fn note(&mut self, is_grown: bool) {
+    pub(crate) fn note(&mut self, is_grown: bool)
+        ensures noted { IsNone self.new.refused → (is_grown ≡ true) × (self.new ≡ self.old) }
+        ensures grows { Grows self.old self.new }
+    {
         if !is_grown {
             self.refuse(Rule::Memory, 0);
         }
     }
 
     /// Refuses the next token: by a rule of its own where it has one.
-    pub(crate) fn unexpected(&mut self) {
+    pub(crate) fn unexpected(&mut self)
+        ensures noted { IsSome self.new.refused }
+        ensures grows { Grows self.old self.new }
+    {
         let rule = match self.here().kind {
             TokenKind::Huge => Rule::OutOfRange,
             TokenKind::Text | TokenKind::Interpolated => Rule::Strings,
@@ -96,7 +118,9 @@ impl<'a> Reader<'a> {
     }
 
     /// Whether the next token is this sign.
-    pub(crate) fn is_sign(&self, sign: Sign) -> bool {
+    pub(crate) fn is_sign(&self, sign: Sign) -> bool
+        ensures { IsTrue result ↔ (kind_at self.now.tokens.now self.now.at ≡ TokenKind.Sign sign) }
+    {
         match self.here().kind {
             TokenKind::Sign(found) => found == sign,
             _ => false,
@@ -112,7 +136,9 @@ impl<'a> Reader<'a> {
     }
 
     /// Whether the next token is this keyword.
-    pub(crate) fn is_key(&self, word: Word) -> bool {
+    pub(crate) fn is_key(&self, word: Word) -> bool
+        ensures { IsTrue result ↔ (kind_at self.now.tokens.now self.now.at ≡ TokenKind.Key word) }
+    {
         match self.here().kind {
             TokenKind::Key(found) => found == word,
             _ => false,
@@ -137,7 +163,10 @@ impl<'a> Reader<'a> {
     }
 
     /// Takes a sign, if it is the next token.
-    pub(crate) fn takes(&mut self, sign: Sign) -> bool {
+    pub(crate) fn takes(&mut self, sign: Sign) -> bool
+        ensures found { IsTrue result ↔ (kind_at self.old.tokens.now self.old.at ≡ TokenKind.Sign sign) }
+        ensures taken { self.new ≡ takes_if result self.old }
+    {
         let found = self.is_sign(sign);
         if found {
             self.at = self.at.saturating_add(1);
@@ -164,7 +193,10 @@ impl<'a> Reader<'a> {
     }
 
     /// Takes this sign.
-    pub(crate) fn sign(&mut self, sign: Sign) {
+    pub(crate) fn sign(&mut self, sign: Sign)
+        ensures taken { IsNone self.new.refused → (kind_at self.old.tokens.now self.old.at ≡ TokenKind.Sign sign) × (self.new ≡ taken self.old) }
+        ensures grows { Grows self.old self.new }
+    {
         if !self.takes(sign) {
             self.unexpected();
         }
@@ -185,7 +217,10 @@ impl<'a> Reader<'a> {
     }
 
     /// Takes a name. Its place.
-    pub(crate) fn name(&mut self) -> usize {
+    pub(crate) fn name(&mut self) -> usize
+        ensures taken { IsNone self.new.refused → (kind_at self.old.tokens.now self.old.at ≡ TokenKind.Name) × (result ≡ self.old.at) × (self.new ≡ taken self.old) }
+        ensures grows { Grows self.old self.new }
+    {
         let at = self.at;
         let before = self.token(at.saturating_sub(1)).kind;
         if self.here().after_space && matches!(before, TokenKind::Sign(Sign::Dot)) {
@@ -249,7 +284,10 @@ impl<'a> Reader<'a> {
     }
 
     /// Puts an expression into its table. Its place.
-    pub(crate) fn expr(&mut self, form: ExprForm, token: usize) -> usize {
+    pub(crate) fn expr(&mut self, form: ExprForm, token: usize) -> usize
+        ensures put { IsNone self.new.refused → IsPut self.old self.new form token result }
+        ensures grows { Grows self.old self.new }
+    {
         let place = self.tree.exprs.len();
         let grown = self.tree.exprs.push(Expr { form, token }).is_ok();
         self.note(grown);
@@ -257,7 +295,10 @@ impl<'a> Reader<'a> {
     }
 
     /// Puts an argument into its table, and after another one where there is one. Its place.
-    pub(crate) fn argument(&mut self, label: usize, value: usize, last: usize) -> usize {
+    pub(crate) fn argument(&mut self, label: usize, value: usize, last: usize) -> usize
+        ensures at { IsNone self.new.refused → self.new.at ≡ self.old.at }
+        ensures grows { Grows self.old self.new }
+    {
         let place = self.tree.arguments.len();
         if last != 0 {
             if let Some(before) = self.tree.arguments.get_mut(last) {

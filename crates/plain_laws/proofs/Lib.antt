@@ -1,0 +1,4 @@
+pub mod Forward
+pub mod Operators
+pub mod Told
+pub mod Trees

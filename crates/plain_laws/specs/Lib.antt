@@ -1,0 +1,2 @@
+-- What the reader's tokens and trees are of a script's expression.
+pub mod Readings

@@ -1,0 +1,5 @@
+//! What the reader of Swift makes of what `--plain` prints.
+#![tactic(auto)]
+
+/// The laws.
+pub mod laws;
