@@ -1,4 +1,7 @@
 pub mod Forward
+pub mod Fronts
+pub mod Lexed
 pub mod Operators
+pub mod Steps
 pub mod Told
 pub mod Trees

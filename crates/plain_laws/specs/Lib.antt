@@ -1,2 +1,3 @@
 -- What the reader's tokens and trees are of a script's expression.
 pub mod Readings
+pub mod Texts

@@ -1,14 +1,15 @@
 -- What the reader's tokens and trees are of a script's expression. (Own.)
-use Rattle.std.specs.Prelude.{ℕ, ℤ, ◌≡◌, ◌≢◌, ◌-◌, List, [], ◌∷◌, Bool, true, false, Some, None, codes, drop, take, map}
+use Rattle.std.specs.Prelude.{ℕ, ℤ, ◌≡◌, ◌≢◌, ◌-◌, List, [], ◌∷◌, ◌++◌, Bool, true, false, Some, None, codes, drop, take, map}
 use Rattle.std.specs.List.{flat_map, slice_get}
 use Rattle.swift_types.specs.declared.operator.Operator.{Operator}
 use Rattle.script_tokens.specs.declared.mark.Mark.{Mark}
 use Rattle.script_tokens.specs.declared.mark.Mark.TheVariants as mark
 use Rattle.script_tokens.specs.Pieces.{TokenView, Num, Huge, Name, Key, Sign, Stray}
 use Rattle.script_grammar.specs.Tree.{ExprTree, Number, Named, IsCancelled, Negated, Inverted, Both}
-use Rattle.plain_parts.specs.Expressions.{PlainToken, expr_tokens, token_in}
+use Rattle.plain_parts.specs.Expressions.{PlainToken, expr_tokens, renamed, token_in}
 use Rattle.swift_syntax.specs.Expressions as swift
-use Rattle.swift_syntax.specs.Expressions.{SwiftTree, Leaf, Joined, after, kind_at, opens_at, operator_in, token_at}
+use Rattle.swift_syntax.specs.Expressions.{SpellsExpr, SwiftTree, Leaf, Joined, after, kind_at, opens_at, operator_in, token_at}
+use Rattle.swift_syntax.specs.Lexes.{StandAt}
 use Rattle.swift_syntax.specs.declared.sign.Sign.TheVariants as sign
 use Rattle.swift_syntax.specs.declared.token.Token.{Token}
 use Rattle.swift_syntax.specs.declared.token.TokenKind.{TokenKind}
@@ -69,6 +70,20 @@ abbrev pub AreTold : List ℕ → List Token → ℕ → List Told → ℕ → T
 AreTold text tokens i [] j = i ≡ j
 AreTold text tokens i (t ∷ ts) j = IsTold text tokens i t × AreTold text tokens (after i) ts j
 
+-- The tokens from a place on are those of the end of a text.
+pub record Rest (text : List ℕ) (tokens : List Token) (i : ℕ) (end : List ℕ) : Type 0 where
+  pub line : Bool
+  pub space : Bool
+  pub before : List ℕ
+  pub whole : text ≡ before ++ end
+  pub stands : StandAt text end line space (drop i tokens)
+
+-- The tokens from a place on are told so, and behind them stand those of the end of a text.
+pub record Lexed (text : List ℕ) (tokens : List Token) (i : ℕ) (ts : List Told) (rest : List ℕ) : Type 0 where
+  pub end : ℕ
+  pub told : AreTold text tokens i ts end
+  pub next : Rest text tokens end rest
+
 -- What stands at a place goes on with no expression before it: it is no operator, no dot, no question mark, and opens no arguments.
 pub record EndsExpr (tokens : List Token) (i : ℕ) : Type 0 where
   pub operator : operator_in 0 (kind_at tokens i) ≡ None
@@ -84,3 +99,10 @@ pub data Means (text : List ℕ) (tokens : List Token) : SwiftTree → ExprTree 
   negated : {i : ℕ} {t : SwiftTree} {e : ExprTree} → Means text tokens t e → Means text tokens (swift.Negated i t) (Negated e)
   inverted : {i : ℕ} {t : SwiftTree} {e : ExprTree} → Means text tokens t e → Means text tokens (swift.Inverted i t) (Inverted e)
   both : {i : ℕ} {t u : SwiftTree} {d e : ExprTree} (o : Operator) → Means text tokens t d → Means text tokens u e → Means text tokens (Joined (Some o) i t u) (Both o d e)
+
+-- From a place on stands an expression of a script as Swift, and `rest` behind it. What the reader takes there for an expression ends before
+-- `rest`, unless an operator or the like follows, and means the one of the script, with its names as they are written.
+pub record IsReadBack (text : List ℕ) (tokens : List Token) (f : List ℕ → List ℕ) (e : ExprTree) (i : ℕ) (rest : List ℕ) : Type 0 where
+  pub end : ℕ
+  pub next : Rest text tokens end rest
+  pub read : (to : ℕ) (tree : SwiftTree) → EndsExpr tokens end → SpellsExpr tokens i to tree → (to ≡ end) × Means text tokens tree (renamed f e)

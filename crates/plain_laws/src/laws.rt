@@ -1,16 +1,22 @@
 //! What holds of the definitions.
 
-ghost use Rattle.std.specs.Prelude.{◌≡◌, ℕ, List, true, false, None};
-ghost use Rattle.std.specs.List.{slice_get};
-ghost use Rattle.plain_parts.specs.Expressions.{reads_plain, renamed};
+ghost use Rattle.std.specs.Prelude.{◌≡◌, ◌<◌, ◌^◌, ◌++◌, ℕ, List, true, false, length};
+ghost use Rattle.plain_parts.specs.Expressions.{expr_bytes, reads_plain, renamed};
 ghost use Rattle.script_grammar.specs.Tree.{ExprTree};
 ghost use Rattle.swift_syntax.specs.Expressions.{SpellsExpr, SwiftTree};
 ghost use Rattle.swift_syntax.specs.declared.token.Token.{Token};
-ghost use Rattle.plain_laws.specs.Readings.{AreTold, EndsExpr, Means, expr_told};
+ghost use Rattle.plain_laws.specs.Readings.{AreTold, EndsExpr, IsReadBack, Means, Rest, expr_told};
+ghost use Rattle.plain_laws.specs.Texts.{IsWritable, goes_on};
 
 /// A law: where the tokens of a script's expression stand, as `--plain` writes it, the reader of Swift takes them, and no others, for an
 /// expression, and that one means what the script's does. What follows them begins with no operator, and goes on with no name. It does
 /// nothing.
 pub fn expressions_are_read()
     ensures { (text : List ℕ) (tokens : List Token) (f : List ℕ → List ℕ) (e : ExprTree) (from end to : ℕ) (tree : SwiftTree) → reads_plain e ≡ true → AreTold text tokens from (expr_told f e 5) end → EndsExpr tokens end → SpellsExpr tokens from to tree → (to ≡ end) × Means text tokens tree (renamed f e) }
+{}
+
+/// A law: where the bytes of a script's expression stand, as `--plain` writes it, the reader of Swift finds its tokens, and what it takes
+/// them for means the script's expression. The tokens are no more than a `u64` can count. It does nothing.
+pub fn expressions_are_read_back()
+    ensures { (text : List ℕ) (tokens : List Token) (f : List ℕ → List ℕ) (e : ExprTree) (i : ℕ) (rest : List ℕ) → length tokens < 2 ^ 64 → IsWritable f e → goes_on rest ≡ false → Rest text tokens i (expr_bytes f e 5 ++ rest) → IsReadBack text tokens f e i rest }
 {}

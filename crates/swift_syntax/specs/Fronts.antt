@@ -11,6 +11,22 @@ use Rattle.swift_syntax.specs.declared.token.TokenKind.{TokenKind}
 use Rattle.swift_syntax.specs.declared.token.TokenKind.TheVariants as kind
 use Rattle.swift_syntax.specs.declared.word.Word.{Word}
 
+-- what stands at the front of a text: white space or a comment, an LF, or a token
+abbrev pub Front : Type 0
+Front = Piece
+
+-- white space, or a comment
+abbrev pub a_space : Front
+a_space = Space
+
+-- an LF
+abbrev pub a_line : Front
+a_line = Line
+
+-- a token of a kind
+abbrev pub a_token : TokenKind → Front
+a_token k = Token k
+
 -- the number that decimal digits spell, after the digits of a number; `_` says nothing
 abbrev pub decimal_behind : ℕ → List ℕ → ℕ
 decimal_behind n [] = n
