@@ -1,7 +1,7 @@
 //! What holds of the definitions.
 
 ghost use Rattle.std.specs.Prelude.{◌≡◌, ◌<◌, ◌^◌, ◌++◌, ℕ, List, true, false, length};
-ghost use Rattle.plain_parts.specs.Expressions.{expr_bytes, reads_plain, renamed};
+ghost use Rattle.plain_parts.specs.Expressions.{as_test, expr_bytes, reads_plain, renamed};
 ghost use Rattle.script_grammar.specs.Tree.{ExprTree};
 ghost use Rattle.swift_syntax.specs.Expressions.{SpellsExpr, SwiftTree};
 ghost use Rattle.swift_syntax.specs.declared.token.Token.{Token};
@@ -19,4 +19,9 @@ pub fn expressions_are_read()
 /// them for means the script's expression. The tokens are no more than a `u64` can count. It does nothing.
 pub fn expressions_are_read_back()
     ensures { (text : List ℕ) (tokens : List Token) (f : List ℕ → List ℕ) (e : ExprTree) (i : ℕ) (rest : List ℕ) → length tokens < 2 ^ 64 → IsWritable f e → goes_on rest ≡ false → Rest text tokens i (expr_bytes f e 5 ++ rest) → IsReadBack text tokens f e i rest }
+{}
+
+/// A law: what `--plain` writes as a test can be written in Swift as well as the number that it tests. It does nothing.
+pub fn tests_are_writable()
+    ensures { (f : List ℕ → List ℕ) (e : ExprTree) → IsWritable f e → IsWritable f (as_test e) }
 {}

@@ -1,4 +1,6 @@
 pub mod Grown
 pub mod Numbers
 pub mod ReadSoFar
+pub mod Refused
+pub mod Spelled
 pub mod Unique

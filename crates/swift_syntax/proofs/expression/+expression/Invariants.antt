@@ -1,4 +1,6 @@
-use Rattle.std.proofs.Common.{◌+◌, ◌*◌}
+use Rattle.std.proofs.Common.{◌+◌, ◌*◌, IsNone}
+use Rattle.swift_syntax.specs.Expressions.{Reads, SpellsSome}
+use Rattle.swift_syntax.specs.ReadersInside.{Grows}
 use Rattle.swift_syntax.proofs.expression.+expression.Given as goal
 
 abbrev pub decreases-operands : goal.decreases-operands
@@ -24,3 +26,13 @@ decreases-covered l = l.depth * 8
 
 abbrev pub decreases-choice : goal.decreases-choice
 decreases-choice l = l.depth * 8 + 1
+
+abbrev pub invariant-arguments-loop : goal.invariant-arguments-loop
+invariant-arguments-loop l = Grows l.fn.reader l.reader
+
+abbrev pub invariant-operands-loop : goal.invariant-operands-loop
+invariant-operands-loop l =
+    record {
+      grows : Grows l.fn.reader l.reader;
+      spelled : IsNone l.reader.refused → Reads (SpellsSome l.reader.tokens.now l.loosest) l.reader.tree.exprs.items l.fn.reader.at l.reader.at l.left
+    }
