@@ -1,10 +1,16 @@
 //! Where values go.
 
+ghost use Rattle.std.specs.Prelude.{◌≡◌, IfNone, IsNone, IsSome};
+ghost use Rattle.swift_expressions.specs.Instructions.{IsPlaced, KeepsRefusal, Puts};
+ghost use Rattle.swift_lowering.specs.AssignmentsInside.{read_of, set_of};
+ghost use Rattle.swift_lowering.specs.Ends.{EndsInAssignment, EndsInChange, EndsInSet, operator_of};
+
 use crate::catching::{Held, begin_held};
 use crate::tasks::give_result;
 use swift_expressions::{
-    Instruction, Kind, Lowering, NONE, Returns, Standing, Typed, Value, declare, expression,
-    field_at, field_kind, field_named, kind_of, refuse_hidden, standing_at, want, with_kind,
+    Binding, Instruction, Kind, Lowering, NONE, Returns, Standing, Typed, Value, declare,
+    expression, field_at, field_kind, field_named, kind_of, refuse_hidden, standing_at, want,
+    with_kind,
 };
 use swift_syntax::{Assigning, ExprForm, Into, Rule, Stmt, StmtForm};
 use swift_types::Operator;
@@ -61,61 +67,143 @@ fn refuse_twice(lowering: &mut Lowering<'_>, name: usize) {
 }
 
 // Refuses to give a name its own value, as Swift does.
-fn refuse_self(lowering: &mut Lowering<'_>, value: usize, target: usize, name: usize) {
+fn refuse_self(lowering: &mut Lowering<'_>, value: usize, target: usize, name: usize)
+    ensures code { lowering.new.code ≡ lowering.old.code }
+    ensures refused { KeepsRefusal lowering.old lowering.new }
+{
     if value == target {
         lowering.refuse(Rule::Assigned, name);
     }
 }
 
-// Gives a name a value.
-fn set(lowering: &mut Lowering<'_>, name: usize, is_own: bool, found: Typed) {
-    if !is_own {
-        if let Some(standing) = standing_at(lowering, name) {
-            if standing.standing != Standing::Variable {
-                lowering.refuse(Rule::Assigned, name);
-            }
-            want(lowering, found, standing.kind, name);
-            if let Value::Variable(same) = lowering.value_at(found.value) {
-                refuse_self(lowering, same, standing.variable, name);
-            }
-            lowering.put(Instruction::Set(standing.variable, found.value));
-            return;
-        }
-    }
-    let actor = lowering.setting.actor;
-    let Some(field) = field_named(lowering, actor, name) else {
-        lowering.refuse(Rule::UnknownName, name);
-        return;
-    };
-    if !field_at(lowering, field).is_some_and(|f| f.is_var) {
-        lowering.refuse(Rule::Assigned, name);
-    }
-    let kind = field_kind(lowering, field);
-    want(lowering, found, kind, name);
-    if let Value::Field(same) = lowering.value_at(found.value) {
-        refuse_self(lowering, same, field, name);
-    }
-    lowering.put(Instruction::SetField(field, found.value));
+// Where an assignment goes.
+#[derive(Clone, Copy)]
+enum Destination {
+    // To a name in scope.
+    Name(Binding),
+    // To a field of the own actor.
+    Field(usize),
 }
 
-// What a name stands for that is about to be changed.
-fn current(lowering: &mut Lowering<'_>, name: usize, is_own: bool) -> Typed {
+// Where an assignment to a name goes, behind `self.` where the flag says so: to the name in scope, or else to the field. Refuses another one.
+fn destination_of(lowering: &mut Lowering<'_>, name: usize, is_own: bool) -> Option<Destination>
+    ensures unknown { IfNone result (IsSome lowering.new.refused) }
+    ensures code { lowering.new.code ≡ lowering.old.code }
+    ensures refused { KeepsRefusal lowering.old lowering.new }
+{
     if !is_own {
         if let Some(found) = standing_at(lowering, name) {
-            return with_kind(lowering, Value::Variable(found.variable), found.kind);
+            return Some(Destination::Name(found));
         }
     }
     let actor = lowering.setting.actor;
     match field_named(lowering, actor, name) {
-        Some(field) => {
+        Some(field) => Some(Destination::Field(field)),
+        None => {
+            lowering.refuse(Rule::UnknownName, name);
+            None
+        }
+    }
+}
+
+// Refuses to set what is no variable, or to a value of another type.
+fn want_set(lowering: &mut Lowering<'_>, to: Destination, found: Typed, name: usize)
+    ensures code { IsNone lowering.new.refused → lowering.new.code ≡ lowering.old.code }
+    ensures refused { KeepsRefusal lowering.old lowering.new }
+{
+    match to {
+        Destination::Name(standing) => {
+            if standing.standing != Standing::Variable {
+                lowering.refuse(Rule::Assigned, name);
+            }
+            want(lowering, found, standing.kind, name);
+        }
+        Destination::Field(field) => {
+            if !field_at(lowering, field).is_some_and(|f| f.is_var) {
+                lowering.refuse(Rule::Assigned, name);
+            }
+            let kind = field_kind(lowering, field);
+            want(lowering, found, kind, name);
+        }
+    }
+}
+
+// Gives a value to where it goes.
+fn store(lowering: &mut Lowering<'_>, to: Destination, found: Typed, name: usize)
+    ensures put { Puts lowering.old lowering.new (set_of to found.value) }
+    ensures values { IsNone lowering.new.refused → lowering.new.code.values ≡ lowering.old.code.values }
+    ensures refused { KeepsRefusal lowering.old lowering.new }
+{
+    want_set(lowering, to, found, name);
+    match to {
+        Destination::Name(standing) => {
+            if let Value::Variable(same) = lowering.value_at(found.value) {
+                refuse_self(lowering, same, standing.variable, name);
+            }
+            lowering.put(Instruction::Set(standing.variable, found.value));
+        }
+        Destination::Field(field) => {
+            if let Value::Field(same) = lowering.value_at(found.value) {
+                refuse_self(lowering, same, field, name);
+            }
+            lowering.put(Instruction::SetField(field, found.value));
+        }
+    }
+}
+
+// Gives a name a value.
+#[tactic(auto, using(crate::proofs::Changes::sets_of))]
+fn set(lowering: &mut Lowering<'_>, name: usize, is_own: bool, found: Typed)
+    ensures set { IsNone lowering.new.refused → EndsInSet lowering.old.code.instructions.items lowering.new.code found.value }
+    ensures refused { KeepsRefusal lowering.old lowering.new }
+{
+    if let Some(to) = destination_of(lowering, name, is_own) {
+        store(lowering, to, found, name);
+    }
+}
+
+// What stands there before it is changed.
+fn current(lowering: &mut Lowering<'_>, to: Destination) -> Typed
+    ensures put { IsNone lowering.new.refused → IsPlaced lowering.old.code lowering.new.code (read_of to) result.value }
+    ensures instructions { IsNone lowering.new.refused → lowering.new.code.instructions ≡ lowering.old.code.instructions }
+    ensures refused { KeepsRefusal lowering.old lowering.new }
+{
+    match to {
+        Destination::Name(found) => {
+            with_kind(lowering, Value::Variable(found.variable), found.kind)
+        }
+        Destination::Field(field) => {
             let kind = field_kind(lowering, field);
             with_kind(lowering, Value::Field(field), kind)
         }
-        None => {
-            lowering.refuse(Rule::UnknownName, name);
-            with_kind(lowering, Value::Number(0), Kind::Int)
-        }
     }
+}
+
+// How an assignment combines what was there with a value.
+fn operator_of(how: Assigning) -> Option<Operator>
+    ensures { result ≡ operator_of how }
+{
+    match how {
+        Assigning::Set => None,
+        Assigning::Add => Some(Operator::Plus),
+        Assigning::Subtract => Some(Operator::Minus),
+        Assigning::Multiply => Some(Operator::Times),
+    }
+}
+
+// Combines what a name stands for with a value that is computed already: the name is read here.
+#[tactic(auto, using(crate::proofs::Changes::changed))]
+fn change(lowering: &mut Lowering<'_>, operator: Operator, is_own: bool, found: Typed, name: usize)
+    ensures changed { IsNone lowering.new.refused → EndsInChange lowering.old.code.instructions.items lowering.new.code operator found.value }
+{
+    want(lowering, found, Kind::Int, name);
+    let Some(to) = destination_of(lowering, name, is_own) else {
+        return;
+    };
+    let before = current(lowering, to);
+    let after = Value::Binary(operator, before.value, found.value);
+    let after = with_kind(lowering, after, Kind::Int);
+    store(lowering, to, after, name);
 }
 
 /// An assignment. `x += e` reads x after e.
@@ -125,30 +213,25 @@ pub(crate) fn assign(
     is_own: bool,
     place: usize,
     name: usize,
-) {
+)
+    ensures assigned { IsNone lowering.new.refused → EndsInAssignment lowering.new.code (operator_of how) }
+{
     let found = expression(lowering, place);
-    let operator = match how {
-        Assigning::Set => {
-            set(lowering, name, is_own, found);
-            return;
-        }
-        Assigning::Add => Operator::Plus,
-        Assigning::Subtract => Operator::Minus,
-        Assigning::Multiply => Operator::Times,
-    };
-    want(lowering, found, Kind::Int, name);
-    let before = current(lowering, name, is_own);
-    let after = Value::Binary(operator, before.value, found.value);
-    let after = with_kind(lowering, after, Kind::Int);
-    set(lowering, name, is_own, after);
+    match operator_of(how) {
+        Some(operator) => change(lowering, operator, is_own, found, name),
+        None => set(lowering, name, is_own, found),
+    }
 }
 
 /// `NAME.toggle()`
 pub(crate) fn toggle(lowering: &mut Lowering<'_>, is_own: bool, name: usize) {
-    let before = current(lowering, name, is_own);
+    let Some(to) = destination_of(lowering, name, is_own) else {
+        return;
+    };
+    let before = current(lowering, to);
     want(lowering, before, Kind::Bool, name);
     let after = with_kind(lowering, Value::Not(before.value), Kind::Bool);
-    set(lowering, name, is_own, after);
+    store(lowering, to, after, name);
 }
 
 /// A value that is returned.

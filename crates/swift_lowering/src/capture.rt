@@ -1,9 +1,13 @@
 //! What closures capture.
 
+ghost use Rattle.std.specs.Prelude.{◌≡◌, IsNone};
+ghost use Rattle.swift_expressions.specs.Instructions.{KeepsRefusal};
+ghost use Rattle.swift_lowering.specs.Ends.{IsHandedOver};
+
 use crate::closure::ClosureBody;
 use swift_expressions::{
-    Lowering, NONE, Standing, Typed, Value, constant_named, declare, instance_named, refuse_hidden,
-    standing_at,
+    Binding, Lowering, NONE, Standing, Typed, Value, constant_named, declare, instance_named,
+    refuse_hidden, standing_at,
 };
 use swift_syntax::{Rule, Sign, TokenKind};
 
@@ -52,6 +56,18 @@ fn is_captured(lowering: &Lowering<'_>, from: usize, token: usize) -> bool {
         .any(|b| lowering.are_same(b.token, token))
 }
 
+// A parameter of the unit, for which the name stands from here on.
+fn receive(lowering: &mut Lowering<'_>, unit: usize, token: usize, found: Binding)
+    ensures handed_over { IsNone lowering.new.refused → IsHandedOver lowering.old lowering.new unit token }
+    ensures refused { KeepsRefusal lowering.old lowering.new }
+{
+    let outer = lowering.setting.unit;
+    lowering.setting.unit = unit;
+    let variable = lowering.variable(found.token, true);
+    lowering.setting.unit = outer;
+    declare(lowering, token, variable, found.kind, false);
+}
+
 // Captures what a name in scope stands for, as a parameter of the unit. The place of the last operand.
 fn capture(
     lowering: &mut Lowering<'_>,
@@ -78,11 +94,7 @@ fn capture(
         kind: found.kind,
     };
     let operand = lowering.operand(given, last);
-    let outer = lowering.setting.unit;
-    lowering.setting.unit = unit;
-    let variable = lowering.variable(found.token, true);
-    lowering.setting.unit = outer;
-    declare(lowering, token, variable, found.kind, false);
+    receive(lowering, unit, token, found);
     operand
 }
 

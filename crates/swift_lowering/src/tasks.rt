@@ -1,5 +1,8 @@
 //! Tasks, groups and bindings, beside their closures.
 
+ghost use Rattle.std.specs.Prelude.{IsNone};
+ghost use Rattle.swift_lowering.specs.Ends.{EndsCancelled};
+
 use crate::closure::{ClosureBody, MadeClosure, lone_value};
 use swift_expressions::{
     Binding, Instruction, Kind, Lowering, NONE, Returns, Standing, Target, Typed, Value, Wait,
@@ -161,7 +164,9 @@ fn is_awaited(lowering: &Lowering<'_>, variable: usize) -> bool {
 }
 
 /// Ends the group of an `async let`: what is left of it is cancelled and waited for.
-pub(crate) fn end_child(lowering: &mut Lowering<'_>, variable: usize, count: usize) {
+pub(crate) fn end_child(lowering: &mut Lowering<'_>, variable: usize, count: usize)
+    ensures cancelled { IsNone lowering.new.refused → EndsCancelled lowering.new.code variable }
+{
     // A child that nobody has awaited is waited for here, and may begin before it is cancelled.
     if count != variable {
         let test = has_child(lowering, count);

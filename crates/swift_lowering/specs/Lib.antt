@@ -1,0 +1,4 @@
+-- What instructions end in.
+pub mod Ends
+-- Where an assignment goes.
+pub mod AssignmentsInside
