@@ -3,5 +3,7 @@ pub mod MethodPlaces
 pub mod Names
 pub mod PlaceTexts
 pub mod Refusals
+pub mod Returns
 pub mod Translations
+pub mod Words
 pub mod WritingInside

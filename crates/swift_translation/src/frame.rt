@@ -1,5 +1,8 @@
 //! Methods that are put in where they are called.
 
+ghost use Rattle.std.specs.Prelude.{◌≡◌, IsTrue};
+ghost use Rattle.swift_translation.specs.Returns.{EndsInText, done_let, result_given};
+
 use crate::naming::{write_made, write_variable};
 use crate::step::step;
 use crate::value::write_value;
@@ -48,7 +51,9 @@ fn push(writing: &mut Writing<'_>, frame: Frame) {
 }
 
 // The variables that a method begins with: its value, and whether it has returned.
-fn begin(writing: &mut Writing<'_>, frame: Frame) {
+fn begin(writing: &mut Writing<'_>, frame: Frame)
+    ensures done { IsTrue frame.needs_done → EndsInText writing.new.out (done_let frame.serial) }
+{
     match frame.result {
         ResultPlace::Returned => {}
         ResultPlace::Own => {
@@ -95,7 +100,9 @@ fn begin_unit(writing: &mut Writing<'_>, unit: usize) {
 }
 
 // Ends the method that is written last.
-fn end(writing: &mut Writing<'_>, frame: Frame) {
+fn end(writing: &mut Writing<'_>, frame: Frame)
+    ensures returned { frame.serial ≡ 0 → frame.result ≡ ResultPlace.Own → EndsInText writing.new.out result_given }
+{
     writing.frames.pop();
     if frame.serial == 0 {
         if let ResultPlace::Own = frame.result {

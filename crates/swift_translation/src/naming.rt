@@ -6,6 +6,10 @@
 //! that are `async`, are methods of the actor `Task`, a name that no file may give, and printed values are fields of that of `main`. Closures
 //! and printed values have their lines in their names; the name of such a function has no `_line` in it.
 
+ghost use Rattle.std.specs.Prelude.{◌++◌, ◌∷◌, [], decimal};
+ghost use Rattle.swift_translation.specs.Names.{Caught, spelled};
+ghost use Rattle.swift_translation.specs.WritingInside.{GoesOn};
+
 use crate::spelling::{
     spell_caught, spell_closure, spell_function_closure, spell_made, spell_main_closure,
     spell_name, spell_spot, spell_temporary, spell_variable,
@@ -27,7 +31,9 @@ pub(crate) fn write_field_name(writing: &mut Writing<'_>, token: usize) {
 }
 
 /// A word, a number and `_`.
-pub(crate) fn write_made(writing: &mut Writing<'_>, word: &str, number: usize) {
+pub(crate) fn write_made(writing: &mut Writing<'_>, word: &str, number: usize)
+    ensures { GoesOn writing.old.out writing.new.out (word.now ++ decimal number ++ 95 ∷ []) }
+{
     let alloc = writing.alloc;
     spell_made(&mut writing.out, alloc, word, number)
 }
@@ -48,7 +54,9 @@ pub(crate) fn write_variable(writing: &mut Writing<'_>, place: usize, serial: us
 }
 
 /// The name of the task for a call whose error is caught, by the place of its instruction.
-pub(crate) fn write_caught(writing: &mut Writing<'_>, place: usize, serial: usize) {
+pub(crate) fn write_caught(writing: &mut Writing<'_>, place: usize, serial: usize)
+    ensures { GoesOn writing.old.out writing.new.out (spelled (Caught place serial)) }
+{
     let alloc = writing.alloc;
     spell_caught(&mut writing.out, alloc, place, serial)
 }

@@ -1,5 +1,10 @@
 //! Instructions as statements.
 
+ghost use Rattle.std.specs.Prelude.{◌≡◌, IsTrue};
+ghost use Rattle.swift_translation.specs.Returns.{EndsInText, IsPutIn, done_head, done_set};
+ghost use Rattle.swift_translation.specs.Words.{urgency_text};
+ghost use Rattle.swift_translation.specs.WritingInside.{GoesOn};
+
 use crate::frame::{Frame, ResultPlace, put_in, skip_to};
 use crate::naming::{
     PRECONDITION, write_field_name, write_made, write_name, write_printed, write_variable,
@@ -12,7 +17,9 @@ use swift_syntax::Rule;
 use swift_types::Priority;
 
 // Opens a block, whose end is written or not.
-fn open(writing: &mut Writing<'_>, is_written: bool) {
+fn open(writing: &mut Writing<'_>, is_written: bool)
+    ensures { writing.new.out ≡ writing.old.out }
+{
     if writing.blocks.push(is_written).is_err() {
         writing.refuse(Rule::Memory, 0);
     }
@@ -78,7 +85,9 @@ fn write_require(writing: &mut Writing<'_>, value: usize, line: usize, serial: u
 }
 
 // `at` with a priority, if there is one.
-fn write_urgency(writing: &mut Writing<'_>, urgency: Option<Priority>) {
+fn write_urgency(writing: &mut Writing<'_>, urgency: Option<Priority>)
+    ensures { GoesOn writing.old.out writing.new.out (urgency_text urgency) }
+{
     match urgency {
         Some(Priority::Background) => writing.say(" at background;"),
         Some(Priority::Low) => writing.say(" at low;"),
@@ -119,7 +128,9 @@ fn add(
 }
 
 // A value goes to where the method's value goes, and the rest of the method is passed over.
-fn give_back(writing: &mut Writing<'_>, frame: Frame, value: usize) {
+fn give_back(writing: &mut Writing<'_>, frame: Frame, value: usize)
+    ensures done { IsPutIn frame.result → IsTrue frame.needs_done → EndsInText writing.new.out (done_set frame.serial) }
+{
     match frame.result {
         ResultPlace::Returned => {
             writing.line();
@@ -201,7 +212,9 @@ fn open_bind(writing: &mut Writing<'_>, local: usize, value: usize, serial: usiz
 }
 
 // What follows is done unless the method has returned.
-fn open_rest(writing: &mut Writing<'_>, frame: Frame) {
+fn open_rest(writing: &mut Writing<'_>, frame: Frame)
+    ensures guarded { IsTrue frame.needs_done → EndsInText writing.new.out (done_head frame.serial) }
+{
     if frame.needs_done {
         writing.line();
         writing.say("if (!");

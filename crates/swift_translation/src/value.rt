@@ -1,12 +1,17 @@
 //! Values as expressions.
 
+ghost use Rattle.std.specs.Prelude.{◌≡◌};
+ghost use Rattle.swift_translation.specs.Words.{operator_text};
+
 use crate::actor::start_value;
 use crate::naming::{write_field_name, write_instance, write_name, write_variable};
 use crate::writing::Writing;
 use swift_expressions::{NONE, Value};
 use swift_types::Operator;
 
-fn spelling(operator: Operator) -> &'static str {
+fn spelling(operator: Operator) -> &'static str
+    ensures { result.now ≡ operator_text operator }
+{
     match operator {
         Operator::Or => " || ",
         Operator::And => " && ",

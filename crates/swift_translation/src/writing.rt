@@ -1,5 +1,8 @@
 //! A script that is written.
 
+ghost use Rattle.std.specs.Prelude.{◌≡◌};
+ghost use Rattle.swift_translation.specs.WritingInside.{GoesOn};
+
 use crate::frame::Frame;
 use crate::writer::Writer;
 use std::alloc::Global;
@@ -69,7 +72,9 @@ impl<'a> Writing<'a> {
     }
 
     /// Notes that a token breaks a rule, unless a refusal was noted before.
-    pub(crate) fn refuse(&mut self, rule: Rule, place: usize) {
+    pub(crate) fn refuse(&mut self, rule: Rule, place: usize)
+        ensures { self.new.out ≡ self.old.out }
+    {
         if self.refused.is_none() {
             self.refused = Some(Breach { rule, token: place });
         }
@@ -115,7 +120,9 @@ impl<'a> Writing<'a> {
     }
 
     /// Puts a text after what is there.
-    pub(crate) fn say(&mut self, text: &str) {
+    pub(crate) fn say(&mut self, text: &str)
+        ensures { GoesOn self.old.out self.new.out text.now }
+    {
         self.out.say(text);
     }
 
