@@ -5,6 +5,7 @@ use Rattle.swift_laws.proofs.HistoriesApplied.{some_root, there}
 use Rattle.swift_history.specs.Orderly.{AllAllowed, IsOrderly, job_executor, frames_executor}
 use Rattle.swift_digest.specs.Explored.{ExploredState, state_of, StartsFresh, IsNotFolded, AreExplored, IsAnyBlock, IsOutcome, FoldsNone, ExploredHasEachOutcome, ExploredHasEachOrderlyOutcome, AreRepresented, RepresentedHasEachOutcome}
 use Rattle.swift_digest.proofs.Answers.{tasks_of_is, life_of_is}
+use Rattle.swift_digest.proofs.Cards.{bare}
 use Rattle.swift_digest.proofs.SameStands.{all_push, block_stands, lead_push}
 use Rattle.swift_digest.proofs.SameLogs.{same_life}
 
@@ -68,7 +69,7 @@ made script report legal folds =
       outcome = record {
         tasks = legal.tasks ∙ tasks ∙ tasks_of_is (root_count script) s.log;
         endings = λ t y at.
-            let is = sym (life t ∙ life_of_is t s.log) in
+            let is = sym (ap bare (life t) ∙ life_of_is t s.log) in
             let says = legal.endings t y at in
             (ap (λ (l : Life). l.origin) is ∙ says.0, ap (λ (l : Life). l.ending) is ∙ says.1);
         fields = λ e f at. legal.fields e f at;
@@ -144,7 +145,7 @@ module _ (script : ScriptView) (histories : List (List Block)) (reps : AreRepres
   has_next before b stood unfolded stands orderly one =
       let h : List Block = one.0 in
       let also : AllStand script cps [] h = reps.stand cps h fresh one.1 in
-      let o = block_stands script cps before h one.2 b stands in
+      let o = block_stands script cps before h one.2 stood also b stands in
       let c : Block = o.other in
       let k = reps.next cps h c fresh one.1 (unfolded_too script cps b c o.like unfolded) o.stands (orderly_too script cps before h one.2 b c o.like orderly) in
       let lead = lead_push script cps before h one.2 b c o.like (all_push script cps before [] b stood stands) (all_push script cps h [] c also o.stands) in

@@ -5,7 +5,7 @@ pub use Rattle.std.proofs.lemmas.List.Elements.{Contains-append_cases, Contains-
 pub use Rattle.std.specs.List.{cons_option, filter, filter_map, range_with_len}
 pub use Rattle.std.specs.Option.{option_map}
 pub use Rattle.std.specs.Prelude.{unwrap_or}
-pub use Rattle.swift_digest.specs.Digests.{AreInPlace, Card, Digest, GroupCard, HasLink, IsInPlace, all_noted, cancelled_in, card_noted, card_of, close_in, digest_of, group_card_of, group_in, group_noted, is_cancelled_group_in, is_cancelled_in, no_card, no_digest, noted, one_if, open_ending, own_link, parent_in, reserved_in, room_in, said}
+pub use Rattle.swift_digest.specs.Digests.{AreInPlace, Card, Digest, GroupCard, HasLink, IsInPlace, all_noted, cancelled_in, card_noted, card_of, close_in, digest_of, group_card_of, group_in, group_noted, is_cancelled_group_in, is_cancelled_in, no_card, no_digest, noted, one_if, open_ending, own_link, parent_in, reserved_in, room_in, said, remembered}
 pub use Rattle.swift_digest.specs.Futures.{AreAlike, IsLike, LeadAlike, SameFutures, TurnsAreDetermined}
 pub use Rattle.swift_digest.specs.Plans.{FramePlan, JobPlan, TaskPlan, WaitingTaskPlan, caller_plan, frame_plans, held_plan, held_plans, job_plan, job_plans, plan_of, task_plan}
 pub use Rattle.swift_escalation.specs.Waits.{IsGiven, IsPriority, Leads, Reaches}

@@ -1,6 +1,6 @@
 -- One more event of a log is read.
 use Rattle.swift_explorer.proofs.Prelude.{◌≡◌, ℕ, ◌+◌, ◌<◌, ◌≤◌, ℤ, Bool, true, false, List, [], ◌∷◌, ◌++◌, length, take, get_or, refl, sym, ◌∙◌, ap, subst, arith, if◌then◌else◌, ◌==◌, ◌||◌, cons_option, take_more, TaskId, Event, Life, task_of, is_made, lived, unborn, own_in, waiter_in, names_task, opens, child_in, asks, closes, names_group, Digest, no_digest, digest_of, noted, card_noted, group_noted, one_if, open_ending, own_link, said, some_numbers, task_numbers, link_numbers, ended_numbers, card_numbers, group_numbers, IsWithin, other_of, group_end, IsCard, IsKeyGroup, card_of_parts, group_of_parts, KeyCard}
-use Rattle.swift_digest.specs.Digests.{Card as CardView, GroupCard as GroupView}
+use Rattle.swift_digest.specs.Digests.{Card as CardView, GroupCard as GroupView, remembered}
 use Rattle.swift_explorer.specs.declared.keys.digest.KeyGroup.{KeyGroup}
 use Rattle.swift_digest.proofs.Cards.{digest_of-push, digest_of-none}
 use Rattle.swift_explorer.proofs.Steps.{some-append}
@@ -24,7 +24,7 @@ card_none c t life links own waiters named opened =
     subst (λ (d : Digest). IsCard c (d.cards t)) (sym digest_of-none) (record { life = life; links = links; own = own; waiters = waiters; named = named; opened = opened })
 
 card_more : (t : ℕ) (d : CardView) (e : Event) (c n : KeyCard) → IsCard c d
-    → n.life ≡ (if task_of e == t then lived c.life e else c.life)
+    → n.life ≡ (if task_of e == t then remembered (lived c.life e) else c.life)
     → n.links.items ≡ c.links.items ++ some_numbers link_numbers (cons_option (own_link t e) [])
     → n.own.items ≡ c.own.items ++ some_numbers task_numbers (cons_option (own_in t e) [])
     → n.waiters.items ≡ c.waiters.items ++ some_numbers task_numbers (cons_option (waiter_in t e) [])
@@ -32,7 +32,7 @@ card_more : (t : ℕ) (d : CardView) (e : Event) (c n : KeyCard) → IsCard c d
     → n.opened ≡ c.opened + one_if (opens t e)
     → IsCard n (card_noted t d e)
 card_more t d e c n was life links own waiters named opened = record {
-  life = life ∙ ap (λ (l : Life). if task_of e == t then lived l e else l) was.life;
+  life = life ∙ ap (λ (l : Life). if task_of e == t then remembered (lived l e) else l) was.life;
   links = links ∙ ap (λ l. l ++ some_numbers link_numbers (said (own_link t) e)) was.links ∙ sym (some-append link_numbers d.links (said (own_link t) e));
   own = own ∙ ap (λ l. l ++ some_numbers task_numbers (said (own_in t) e)) was.own ∙ sym (some-append task_numbers d.own (said (own_in t) e));
   waiters = waiters ∙ ap (λ l. l ++ some_numbers task_numbers (said (waiter_in t) e)) was.waiters ∙ sym (some-append task_numbers d.waiters (said (waiter_in t) e));
@@ -41,7 +41,7 @@ card_more t d e c n was life links own waiters named opened = record {
 }
 
 pub card_step : (t : ℕ) (log : List Event) (i : ℕ) (d e : Event) (c n : KeyCard) → i < length log → get_or log i d ≡ e → IsCard c ((digest_of (take i log)).cards t)
-    → n.life ≡ (if task_of e == t then lived c.life e else c.life)
+    → n.life ≡ (if task_of e == t then remembered (lived c.life e) else c.life)
     → n.links.items ≡ c.links.items ++ some_numbers link_numbers (cons_option (own_link t e) [])
     → n.own.items ≡ c.own.items ++ some_numbers task_numbers (cons_option (own_in t e) [])
     → n.waiters.items ≡ c.waiters.items ++ some_numbers task_numbers (cons_option (waiter_in t e) [])

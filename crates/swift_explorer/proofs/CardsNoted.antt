@@ -1,6 +1,7 @@
 -- Cards of tasks while a log is read once for all of them.
 use Rattle.swift_explorer.proofs.Prelude.{◌≡◌, ℕ, ◌+◌, ◌<◌, ◌≤◌, List, [], length, set, take, get_or, refl, sym, ◌∙◌, ap, subst, arith, inl, inr, if◌then◌else◌, All, Option, Some, slice_get, unwrap_or, cases_eq, get_or_from_slice_get, slice_get-get_or, slice_get_within, Event, task_of, lived, names_task, opens, own_in, waiter_in, Digest, digest_of, own_link, link_numbers, task_numbers, other_of, AreCards, AreNoted, IsBlank, IsCard, IsNotedAt, IsPast, OpenAtMost, KeyCard}
 use Rattle.std.proofs.lemmas.List.{length-set}
+use Rattle.swift_digest.specs.Digests.{remembered}
 use Rattle.swift_groups.proofs.Lists.{slice_get_set, slice_get_set_other}
 use Rattle.swift_explorer.specs.CardsInside.{IsNoted}
 use Rattle.swift_explorer.proofs.CardSteps.{card_none, card_step, one_at_most}
@@ -23,7 +24,7 @@ open_none cs all t c there = (let b = one_there IsBlank cs t c all there in let 
 -- a card of which an event says nothing
 noted_past : (t : ℕ) (e : Event) (c : KeyCard) → IsPast t e → IsNoted t e c c
 noted_past t e c is = record {
-  life = sym (ap (λ b. if b then lived c.life e else c.life) is.task);
+  life = sym (ap (λ b. if b then remembered (lived c.life e) else c.life) is.task);
   links = numbers_stay link_numbers c.links.items (own_link t e) is.link;
   own = numbers_stay task_numbers c.own.items (own_in t e) is.own;
   waiters = numbers_stay task_numbers c.waiters.items (waiter_in t e) is.waiter;

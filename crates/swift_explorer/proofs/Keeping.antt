@@ -52,7 +52,7 @@ module _ (x : Search) (history : SearchedHistory) (key : List ℕ) (n : Node) (n
   script = arc_value x.script
 
   abbrev y : Search
-  y = record x { nodes = nodes; keys = keys; histories = z.histories }
+  y = record x { nodes = nodes; keys = keys; histories = z.histories; sums = z.sums }
 
   abbrev path : List Move
   path = path_after (paths_of x.nodes.items) n.before n.moves.items

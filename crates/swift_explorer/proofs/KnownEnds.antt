@@ -1,5 +1,6 @@
 -- What a report says of the end of a history is what is known of it.
 use Rattle.swift_explorer.proofs.Prelude.{◌≡◌, ◌<◌, ℕ, suc, List, [], ◌∷◌, length, refl, sym, subst, ap, ap₂, ◌∙◌, arith, inl, inr, None, Option, Some, slice_get, unwrap_or, slice_get_cases, Ending, ScriptView, root_count, Event, Life, Origin, tasks_of, life_of, Block, ReportView, standing, life_of_is, tasks_of_is, SearchedHistory, IsEndedAs, IsReportAfter, SomeGoesOn, AreEnded, IsHistory, rows_at}
+use Rattle.swift_digest.proofs.Cards.{bare}
 
 pub same_list : {A : Type 0} (xs ys : List A) → length xs ≡ length ys → ((i : ℕ) (x y : A) → slice_get xs i ≡ Some x → slice_get ys i ≡ Some y → x ≡ y) → xs ≡ ys
 same_list [] [] many same = refl
@@ -20,7 +21,7 @@ module _ (script : ScriptView) (bs : List Block) (log : List Event) (log_is : lo
 
   says : (t : ℕ) (x : Origin × Ending) → slice_get report.endings t ≡ Some x → IsEndedAs log t x
   says t x at =
-      let life = ap (life_of t) log_is ∙ life_of_is t (standing script bs).log in
+      let life = ap (λ (l : List Event). bare (life_of t l)) log_is ∙ life_of_is t (standing script bs).log in
       let is = of.outcome.endings t x at in
       (ap (λ (l : Life). l.origin) life ∙ is.0, ap (λ (l : Life). l.ending) life ∙ is.1)
 

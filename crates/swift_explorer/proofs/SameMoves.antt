@@ -135,7 +135,7 @@ same_from (m ∷ ms) script before others [] cs r stood other lead all also orde
 same_from (m ∷ ms) script before others (b ∷ bs) [] r stood other lead all also orderly too is does = absurd does
 same_from (m ∷ ms) script before others (b ∷ bs) (c ∷ cs) r stood other lead all also orderly too is does =
     let cps = starts script in
-    let o = block_stands script cps before others lead b all.0 in
+    let o = block_stands script cps before others lead stood other b all.0 in
     let d : Block = o.other in
     let stood_b : AllStand script cps [] (before ++ b ∷ []) = all_push script cps before [] b stood all.0 in
     let other_d : AllStand script cps [] (others ++ d ∷ []) = all_push script cps others [] d other o.stands in

@@ -23,7 +23,7 @@ pub other_block : (script : ScriptView) (blocks others : List Block) (b : Block)
 other_block script blocks others b stand also same may =
     let cps = starts script in
     let alike = same.0 in
-    let o = block_stands script cps blocks others alike b may.stands in
+    let o = block_stands script cps blocks others alike stand also b may.stands in
     let c : Block = o.other in
     record {
       block = c;

@@ -9,7 +9,7 @@ use Rattle.swift_events.specs.declared.life.Life.{Life}
 use Rattle.swift_events.specs.Lives.{lived, unborn}
 use Rattle.swift_explorer.specs.Numbers.{some_numbers, task_numbers, link_numbers, flag_numbers, wide_numbers, life_numbers}
 use Rattle.swift_explorer.specs.DigestNumbers.{ended_numbers}
-use Rattle.swift_digest.specs.Digests.{Card as CardView, Digest, GroupCard as GroupView, one_if, open_ending, own_link}
+use Rattle.swift_digest.specs.Digests.{Card as CardView, Digest, GroupCard as GroupView, one_if, open_ending, own_link, remembered}
 use Rattle.swift_explorer.specs.declared.keys.digest.KeyCard.{KeyCard}
 use Rattle.swift_explorer.specs.declared.keys.digest.KeyGroup.{KeyGroup}
 
@@ -42,7 +42,7 @@ OpenAtMost most cs = (t : ℕ) (c : KeyCard) → slice_get cs t ≡ Some c → c
 
 -- card `n` of task `t` is card `c` after one more event
 pub record IsNoted (t : ℕ) (e : Event) (c n : KeyCard) : Type 0 where
-  pub life : n.life ≡ (if task_of e == t then lived c.life e else c.life)
+  pub life : n.life ≡ (if task_of e == t then remembered (lived c.life e) else c.life)
   pub links : n.links.items ≡ c.links.items ++ some_numbers link_numbers (cons_option (own_link t e) [])
   pub own : n.own.items ≡ c.own.items ++ some_numbers task_numbers (cons_option (own_in t e) [])
   pub waiters : n.waiters.items ≡ c.waiters.items ++ some_numbers task_numbers (cons_option (waiter_in t e) [])
@@ -72,6 +72,14 @@ pub record IsKeyGroup (c : KeyGroup) (d : GroupView) : Type 0 where
 -- an event that says nothing for the card of task `t`
 pub record IsPast (t : ℕ) (e : Event) : Type 0 where
   pub task : (task_of e == t) ≡ false
+  pub link : own_link t e ≡ None
+  pub own : own_in t e ≡ None
+  pub waiter : waiter_in t e ≡ None
+  pub named : names_task t e ≡ false
+  pub opens : opens t e ≡ false
+
+-- an event that says no more for the card of task `t` than how far the task is
+pub record IsOfLife (t : ℕ) (e : Event) : Type 0 where
   pub link : own_link t e ≡ None
   pub own : own_in t e ≡ None
   pub waiter : waiter_in t e ≡ None

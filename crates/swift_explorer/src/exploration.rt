@@ -190,6 +190,7 @@ impl Exploration {
             ends: _,
             broken,
             histories: _,
+            sums: _,
             is_complete,
             met_limit,
             ran_short,

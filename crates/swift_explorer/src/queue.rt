@@ -36,14 +36,16 @@ impl KeptHistory {
     }
 }
 
-/// A copy of a history, where there is room for one more. None, too, where no memory is left for it: it is followed again then.
+/// A copy of a history, where that seems to be a new one and there is room for one more. None, too, where no memory is left for it: it is
+/// followed again then.
 pub fn spare_copy(
     histories: &HashMap<usize, KeptHistory>,
+    seems_known: bool,
     history: &SearchedHistory,
 ) -> Option<KeptHistory>
     ensures { IfSome result (λ kept. IsCopy history.now kept.history) }
 {
-    if histories.len() >= HISTORIES {
+    if seems_known || histories.len() >= HISTORIES {
         return None;
     }
     match history.copy() {

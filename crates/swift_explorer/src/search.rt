@@ -23,7 +23,7 @@ use crate::moves::Move;
 use crate::outcome::{End, RunOutcome};
 use crate::queue::{KeptHistory, put_history, spare_copy, take_history};
 use std::alloc::{AllocError, Global};
-use std::collections::HashMap;
+use std::collections::{HashMap, HashSet};
 use std::sync::Arc;
 use swift_events::Origin;
 use swift_script::Script;
@@ -55,6 +55,8 @@ pub(crate) struct Search {
     pub(crate) broken: Option<Vec<Move>>,
     // Histories of nodes that it has not gone on from, by the node's place.
     pub(crate) histories: HashMap<usize, KeptHistory>,
+    // The sums of the histories that were kept.
+    pub(crate) sums: HashSet<u64>,
     // Whether no history was left out, and each step after those that it has gone on from was tried.
     pub(crate) is_complete: bool,
     // Whether a history was left out since as many were kept as may be.
@@ -312,6 +314,7 @@ impl Search {
             ends: KeySet::new(alloc),
             broken: None,
             histories: HashMap::new(alloc),
+            sums: HashSet::new(alloc),
             is_complete: true,
             met_limit: false,
             ran_short: false,
@@ -330,7 +333,8 @@ impl Search {
         requires sound { IsSound (arc_value self.old.script) self.old }
         ensures keeps { OnOk result (Keeps self.old self.new history) }
     {
-        let spare = spare_copy(&self.histories, &history);
+        let sum = history.sum();
+        let spare = spare_copy(&self.histories, self.sums.contains(&sum), &history);
         let key = key_of(self.alloc, history)?;
         if self.keys.contains(&key) {
             return Ok(());
@@ -343,6 +347,7 @@ impl Search {
         self.keys.add(key)?;
         let place = self.nodes.len();
         self.nodes.push(Node { before, moves })?;
+        self.sums.insert(sum)?;
         put_history(&mut self.histories, place, spare)
     }
 

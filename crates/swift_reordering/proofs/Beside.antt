@@ -1,5 +1,5 @@
 -- Logs that are one but for which job one task has, where it waits for nothing, and whether and how it has ended, where nobody looks.
-use Rattle.swift_reordering.proofs.Prelude.{◌≡◌, ◌≢◌, ℕ, ◌+◌, List, [], ◌∷◌, ◌++◌, refl, sym, ◌∙◌, ap, ap₂, subst, Bool, true, false, inl, inr, append-nil, arith, Option, Some, None, ◌==◌, ◌&&◌, ◌||◌, if◌then◌else◌, AllByRecursion, cons_option, cases_eq, eq-eqb, false≢true, ne_eqb, Event, Begin, Apply, End, Give, Life, JobStage, Given, Begun, Applied, Waits, Asks, Closes, task_of, later, is_made, life_of, lived, stage_in, ending_in, is_among, TaskId, Ending, Card, GroupCard, Digest, digest_of, noted, card_noted, group_noted, one_if, open_ending, digest_of-push, life_of_is, stage_at, IsApart, IsOther}
+use Rattle.swift_reordering.proofs.Prelude.{◌≡◌, ◌≢◌, ℕ, ◌+◌, List, [], ◌∷◌, ◌++◌, refl, sym, ◌∙◌, ap, ap₂, subst, Bool, true, false, inl, inr, append-nil, arith, Option, Some, None, ◌==◌, ◌&&◌, ◌||◌, if◌then◌else◌, AllByRecursion, cons_option, cases_eq, eq-eqb, false≢true, ne_eqb, Event, Begin, Apply, End, Give, Life, JobStage, Given, Begun, Applied, Waits, Asks, Closes, task_of, later, is_made, life_of, lived, stage_in, ending_in, is_among, TaskId, Ending, Card, GroupCard, Digest, digest_of, noted, card_noted, group_noted, one_if, open_ending, digest_of-push, bare, bare_remembered, current_in_digest, remembered, remembered_is, AreInPlace, is_current, Resume, life_of_is, stage_at, IsApart, IsOther}
 use Rattle.swift_escalation.specs.declared.waits.PriorityEvent.{PriorityEvent as Link}
 use Rattle.swift_reordering.proofs.Sights.{waited, IsSight, seen, AreSeen, seen_life}
 
@@ -36,8 +36,14 @@ pub again_if : (ends b : Bool) (l : Life) → (if b then rested ends l else l) �
 again_if ends true l = ap₂ (λ (s : Option JobStage) (o : Option Ending). record l { given = None; stage = s; ending = o }) (waited_twice l.stage) (hidden_twice ends l.ending)
 again_if ends false l = refl
 
-pub on_if : (ends b : Bool) (l : Life) (e : Event) → (if b then rested ends (lived l e) else lived l e) ≡ (if b then rested ends (lived (if b then rested ends l else l) e) else lived (if b then rested ends l else l) e)
-on_if ends true l e = ap₂ (λ (s : Option JobStage) (o : Option Ending). record (lived l e) { given = None; stage = s; ending = o }) (waited_later (stage_in e) l.stage) (hidden_later ends (ending_in e) l.ending)
+rested_remembered : (ends : Bool) (l : Life) → rested ends (remembered l) ≡ rested ends l
+rested_remembered ends l = ap (rested ends) (bare_remembered l)
+
+pub on_if : (ends b : Bool) (l : Life) (e : Event) → (if b then rested ends (remembered (lived l e)) else remembered (lived l e)) ≡ (if b then rested ends (remembered (lived (if b then rested ends l else l) e)) else remembered (lived (if b then rested ends l else l) e))
+on_if ends true l e =
+    rested_remembered ends (lived l e)
+    ∙ ap₂ (λ (s : Option JobStage) (o : Option Ending). record (lived l e) { given = None; stage = s; ending = o }) (waited_later (stage_in e) l.stage) (hidden_later ends (ending_in e) l.ending)
+    ∙ sym (rested_remembered ends (lived (rested ends l) e))
 on_if ends false l e = refl
 
 pub origin_if : (ends b : Bool) (l : Life) → (if b then rested ends l else l).origin ≡ l.origin
@@ -64,10 +70,18 @@ besides_sight ends t = record {
 }
 
 -- the lives of other tasks are seen whole
-pub other_life : (ends : Bool) (t : ℕ) (a b : List Event) → AreSeen (besides ends t) a b → (u : ℕ) → u ≢ t → life_of u a ≡ life_of u b
-other_life ends t a b same u ne =
+
+other_card : (ends : Bool) (t : ℕ) (a b : List Event) → AreSeen (besides ends t) a b → (u : ℕ) → u ≢ t → ((digest_of a).cards u).life ≡ ((digest_of b).cards u).life
+other_card ends t a b same u ne =
     let whole : (l : Life) → besides ends t u l ≡ l = λ l. ap (λ (x : Bool). if x then rested ends l else l) (ne_eqb u t ne) in
-    sym (whole (life_of u a)) ∙ seen_life (besides ends t) (besides_sight ends t) a b same u ∙ whole (life_of u b)
+    sym (whole ((digest_of a).cards u).life) ∙ seen_life (besides ends t) (besides_sight ends t) a b same u ∙ whole ((digest_of b).cards u).life
+
+pub other_life : (ends : Bool) (t : ℕ) (a b : List Event) → AreSeen (besides ends t) a b → (u : ℕ) → u ≢ t → bare (life_of u a) ≡ bare (life_of u b)
+other_life ends t a b same u ne = life_of_is u a ∙ ap bare (other_card ends t a b same u ne) ∙ sym (life_of_is u b)
+
+pub other_current : (ends : Bool) (t : ℕ) (a b : List Event) → AreSeen (besides ends t) a b → AreInPlace a → AreInPlace b → (u n : ℕ) (resume : Resume) → u ≢ t → is_current (life_of u a) n resume ≡ is_current (life_of u b) n resume
+other_current ends t a b same new_a new_b u n resume ne =
+    current_in_digest u a n resume new_a ∙ ap (λ (l : Life). is_current l n resume) (other_card ends t a b same u ne) ∙ sym (current_in_digest u b n resume new_b)
 
 -- events of a task's own job, and, where `ends` says so, its end
 
@@ -92,9 +106,9 @@ no_link : (b : Bool) → cons_option (if b then none_said else none_said) [] ≡
 no_link true = refl
 no_link false = refl
 
-card_local : (ends : Bool) (t u : ℕ) (c : Card) (e : Event) → IsOfJob ends t e → card_noted u c e ≡ record c { life = if task_of e == u then lived c.life e else c.life }
+card_local : (ends : Bool) (t u : ℕ) (c : Card) (e : Event) → IsOfJob ends t e → card_noted u c e ≡ record c { life = if task_of e == u then remembered (lived c.life e) else c.life }
 card_local ends t u c (Begin v n env) is = λ k. record {
-  life = if v.0 == u then lived c.life (Begin v n env) else c.life;
+  life = if v.0 == u then remembered (lived c.life (Begin v n env)) else c.life;
   links = (ap (λ (l : List Link). c.links ++ l) (no_link (v.0 == u)) ∙ append-nil c.links) k;
   own = append-nil c.own k;
   waiters = append-nil c.waiters k;
@@ -102,7 +116,7 @@ card_local ends t u c (Begin v n env) is = λ k. record {
   opened = none_more c.opened k;
 }
 card_local ends t u c (Apply v n) is = λ k. record {
-  life = if v.0 == u then lived c.life (Apply v n) else c.life;
+  life = if v.0 == u then remembered (lived c.life (Apply v n)) else c.life;
   links = (ap (λ (l : List Link). c.links ++ l) (no_link (v.0 == u)) ∙ append-nil c.links) k;
   own = append-nil c.own k;
   waiters = append-nil c.waiters k;
@@ -110,7 +124,7 @@ card_local ends t u c (Apply v n) is = λ k. record {
   opened = none_more c.opened k;
 }
 card_local ends t u c (Give v n r) is = λ k. record {
-  life = if v.0 == u then lived c.life (Give v n r) else c.life;
+  life = if v.0 == u then remembered (lived c.life (Give v n r)) else c.life;
   links = (ap (λ (l : List Link). c.links ++ l) (no_link (v.0 == u)) ∙ append-nil c.links) k;
   own = append-nil c.own k;
   waiters = append-nil c.waiters k;
@@ -118,7 +132,7 @@ card_local ends t u c (Give v n r) is = λ k. record {
   opened = none_more c.opened k;
 }
 card_local ends t u c (End v ending) is = λ k. record {
-  life = if v.0 == u then lived c.life (End v ending) else c.life;
+  life = if v.0 == u then remembered (lived c.life (End v ending)) else c.life;
   links = (ap (λ (l : List Link). c.links ++ l) (no_link (v.0 == u)) ∙ append-nil c.links) k;
   own = append-nil c.own k;
   waiters = append-nil c.waiters k;
@@ -173,12 +187,12 @@ of_task ends t (Give v n r) is = is
 of_task ends t (End v x) is = is.0
 of_task ends t e is = absurd is
 
-life_local : (ends : Bool) (t u : ℕ) (l : Life) (e : Event) → IsOfJob ends t e → (u ≡ t → waited l.stage ≡ None) → besides ends t u (if task_of e == u then lived l e else l) ≡ besides ends t u l
+life_local : (ends : Bool) (t u : ℕ) (l : Life) (e : Event) → IsOfJob ends t e → (u ≡ t → waited l.stage ≡ None) → besides ends t u (if task_of e == u then remembered (lived l e) else l) ≡ besides ends t u l
 life_local ends t u l e is none = elim (cases_eq u t) [
   | inl same ↦
       let here : (task_of e == u) ≡ true = eq-eqb (task_of e) u (of_task ends t e is ∙ sym same) in
       let there : (u == t) ≡ true = eq-eqb u t same in
-      rw (here, there) (rested_local ends t l e is (none same))
+      rw (here, there) (rested_remembered ends (lived l e) ∙ rested_local ends t l e is (none same))
   | inr ne ↦ (let other : (task_of e == u) ≡ false = ne_eqb (task_of e) u (λ q. ne (sym q ∙ of_task ends t e is)) in rw other refl)
 ]
 
@@ -195,11 +209,11 @@ seen_local ends t log e is none apart =
     by_parts d none apart = λ k. record { made = made_local ends t d.made e is k; cards = λ u. card_part d u none k; groups = λ o g. group_local ends t o g (d.groups o g) e is (λ over. (apart over).children o g) k }
 
 -- logs that are one but for the life of a task, and have that too, have one digest
-pub one_digest : (ends : Bool) (t : ℕ) (a b : List Event) → AreSeen (besides ends t) a b → life_of t a ≡ life_of t b → digest_of a ≡ digest_of b
-one_digest ends t a b same life =
+pub one_digest : (ends : Bool) (t : ℕ) (a b : List Event) → AreSeen (besides ends t) a b → AreInPlace a → AreInPlace b → life_of t a ≡ life_of t b → digest_of a ≡ digest_of b
+one_digest ends t a b same new_a new_b life =
     let each : (u : ℕ) → ((digest_of a).cards u).life ≡ ((digest_of b).cards u).life = λ u. elim (cases_eq u t) [
-      | inl one ↦ subst (λ (v : ℕ). ((digest_of a).cards v).life ≡ ((digest_of b).cards v).life) (sym one) (sym (life_of_is t a) ∙ life ∙ life_of_is t b)
-      | inr ne ↦ sym (life_of_is u a) ∙ other_life ends t a b same u ne ∙ life_of_is u b
+      | inl one ↦ subst (λ (v : ℕ). ((digest_of a).cards v).life ≡ ((digest_of b).cards v).life) (sym one) (remembered_is t a new_a ∙ ap remembered life ∙ sym (remembered_is t b new_b))
+      | inr ne ↦ other_card ends t a b same u ne
     ] in
     let card : (u : ℕ) → (digest_of a).cards u ≡ (digest_of b).cards u = λ u.
     ap₂ (λ (d : Digest) (l : Life). record (d.cards u) { life = l }) same (each u) in

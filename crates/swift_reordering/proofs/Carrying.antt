@@ -51,7 +51,7 @@ module _ (script : ScriptView) (cps : List CheckpointView) where
     lead = subst₂ (LeadAlike script cps) (sym (append-nil before)) (sym (append-nil others)) lead;
   }
   carry (b ∷ bs) before others all also lead stand may late =
-      let o = block_stands script cps before others lead b stand.0 in
+      let o = block_stands script cps before others lead all also b stand.0 in
       let c : Block = o.other in
       let all_b : AllStand script cps [] (before ++ b ∷ []) = all_push script cps before [] b all stand.0 in
       let also_c : AllStand script cps [] (others ++ c ∷ []) = all_push script cps others [] c also o.stands in

@@ -12,7 +12,7 @@ use Rattle.swift_reordering.proofs.Others.{IsNotOf, KeepsJob, begin_keeps_job, g
 use Rattle.swift_reordering.proofs.Keeping.{block_keeps_job}
 use Rattle.swift_reordering.proofs.SilentSteps.{GoesOnAlone, WayOut, goes, over, goes_alone, is_over, life_by, InvariantsHold, AfterAlone, silent_after, silent_fields, no_effects, played, alone_apart, alone_seen, alone_life, alone_job, alone_jobs}
 use Rattle.swift_reordering.proofs.Rooms.{total, sum_total}
-use Rattle.swift_reordering.proofs.Beside.{besides, besides_sight, other_life, one_digest}
+use Rattle.swift_reordering.proofs.Beside.{besides, besides_sight, other_current, other_life, one_digest}
 
 -- the room of turns, where the job of one task is not seen, and has reserved as much
 
@@ -44,14 +44,14 @@ pub record AreBeside (ends : Bool) (t : ℕ) (z s : Standing) : Type 0 where
   pub jobs : (u : ℕ) → u ≢ t → z.jobs u ≡ s.jobs u
 
 module _ (script : ScriptView) (ends : Bool) (t : ℕ) (s z : Standing) (beside : AreBeside ends t z s) where
-  turn_beside : (executor u n : ℕ) (effects : List EffectView) (exit : ExitView) (job : JobFacts) (env : Env) (frame : FrameView) → u ≢ t → TurnStands script s executor u n effects exit job env frame
+  turn_beside : AreInPlace s.log → AreInPlace z.log → (executor u n : ℕ) (effects : List EffectView) (exit : ExitView) (job : JobFacts) (env : Env) (frame : FrameView) → u ≢ t → TurnStands script s executor u n effects exit job env frame
       → TurnStands script z executor u n effects exit job env frame
-  turn_beside executor u n effects exit job env frame ne stands =
+  turn_beside now_s now_z executor u n effects exit job env frame ne stands =
       let life = other_life ends t z.log s.log beside.near u ne in
       record {
         given = beside.jobs u ne ∙ stands.given;
         number = stands.number;
-        current = ap (λ (l : Life). is_current l n job.resume) life ∙ stands.current;
+        current = other_current ends t z.log s.log beside.near now_z now_s u n job.resume ne ∙ stands.current;
         has_begun = ap (λ (l : Life). l.stage) life ∙ stands.has_begun;
         fits = seen_fits (besides ends t) (besides_sight ends t) z.log s.log beside.near script u effects (counters u z.log env.room) exit
             ∙ ap (λ (c : Counters). fits_turn script u s.log c effects exit) (seen_counters (besides ends t) (besides_sight ends t) z.log s.log beside.near script u env.room) ∙ stands.fits;
@@ -60,14 +60,14 @@ module _ (script : ScriptView) (ends : Bool) (t : ℕ) (s z : Standing) (beside 
       }
 
   -- and leaves the two beside each other, and the job of the task where it is
-  turn_leaves : (executor u n : ℕ) (effects : List EffectView) (exit : ExitView) (after : Option FrameView) (job : JobFacts) (env : Env) (frame : FrameView) → u ≢ t → TurnStands script s executor u n effects exit job env frame
+  turn_leaves : AreInPlace s.log → AreInPlace z.log → (executor u n : ℕ) (effects : List EffectView) (exit : ExitView) (after : Option FrameView) (job : JobFacts) (env : Env) (frame : FrameView) → u ≢ t → TurnStands script s executor u n effects exit job env frame
       → TurnShown (besides_sight ends t).hides (root_count script) u n (begun_priority (stage_at z.log u)) z.log effects exit → AreCounted (root_count script) s.log s.held → is_under_way (stage_at s.log t) ≡ true → AreInPlace (turn_applied script z u n effects exit after).log → AreInPlace (turn_applied script s u n effects exit after).log
       → AreSeen (besides ends t) (turn_applied script z u n effects exit after).log (turn_applied script s u n effects exit after).log
       × ((turn_applied script z u n effects exit after).held ≡ (turn_applied script s u n effects exit after).held)
       × ((v : ℕ) → v ≢ t → (turn_applied script z u n effects exit after).jobs v ≡ (turn_applied script s u n effects exit after).jobs v)
       × KeepsJob z (turn_applied script z u n effects exit after) t
   unfolding turn_beside
-  turn_leaves executor u n effects exit after job env frame ne stands shown counted under new_z new_s =
+  turn_leaves now_s now_z executor u n effects exit after job env frame ne stands shown counted under new_z new_s =
       let callers : List FrameView = stands.runs.0 in
       let adv : Advanced = advanced script (left_as frame effects after) callers job.frames.outer exit in
       let is_s = applied_is script s u n job frame callers effects exit after stands.given stands.runs.1 in
@@ -84,7 +84,7 @@ module _ (script : ScriptView) (ends : Bool) (t : ℕ) (s z : Standing) (beside 
       let jobs : x.jobs ≡ (end_s s.held).jobs = e.jobs ∙ ap (λ (a : TurnEnd). a.jobs) same in
       let none : AllByRecursion (IsNotOf t) x.jobs = subst (AllByRecursion (IsNotOf t)) (sym jobs) (gives_others script s executor u n effects exit after job env frame stands counted t ne under) in
       let keeps : KeepsJob z (turn_applied script z u n effects exit after) t =
-      turn_keeps_by script z executor u n effects exit after job env frame (turn_beside executor u n effects exit job env frame ne stands) t ne none in
+      turn_keeps_by script z executor u n effects exit after job env frame (turn_beside now_s now_z executor u n effects exit job env frame ne stands) t ne none in
       let three : AreSeen (besides ends t) (turn_applied script z u n effects exit after).log (turn_applied script s u n effects exit after).log
       × ((turn_applied script z u n effects exit after).held ≡ (turn_applied script s u n effects exit after).held)
       × ((v : ℕ) → v ≢ t → (turn_applied script z u n effects exit after).jobs v ≡ (turn_applied script s u n effects exit after).jobs v) =
@@ -136,6 +136,12 @@ module _ (script : ScriptView) (cps : List CheckpointView) (ends : Bool) (t : �
       subst₂ Beside (sym (after_push script (at_first script) others b)) (sym (after_push script (at_first script) before b)) is in
       record { stands = stands; near = both.0; held = both.1; jobs = both.2; keeps = both.3 }
 
+  now_s : AreInPlace s.log
+  now_s = histories_new script cps before stand
+
+  now_z : AreInPlace z.log
+  now_z = histories_new script cps others also
+
   counted : AreCounted (root_count script) s.log s.held
   counted = all_keep script cps [] before stand (first_counted script)
 
@@ -160,16 +166,15 @@ module _ (script : ScriptView) (cps : List CheckpointView) (ends : Bool) (t : �
         root_keeps_job script z r t (λ is. (let none = unbegun (counted.each t) (ap (λ (u : ℕ). (life_of u s.log).origin) (sym is) ∙ stands.1) in false≢true (sym none ∙ under))),
       )
   block_beside (begun u m env) stands of_other =
-      let life = other_life ends t z.log s.log beside.near u of_other in
       let is_env : IsEnv (root_count script) (task u) z.log env = record {
         priority = same_priority (links_of s.log) (links_of z.log) (seen_links (besides ends t) (besides_sight ends t) s.log z.log (sym beside.near)) (seen_links (besides ends t) (besides_sight ends t) z.log s.log beside.near) (task u) env.priority stands.3.priority;
         cancelled = stands.3.cancelled ∙ sym (seen_cancelled (besides ends t) (besides_sight ends t) z.log s.log beside.near u);
         room = stands.3.room ∙ sym (seen_room ends t (root_count script) u z.log s.log beside.near beside.room);
       } in
-      leaves (begun u m env) (stands.0, beside.jobs u of_other ∙ stands.1, ap (λ (l : Life). is_current l m stands.0.resume) life ∙ stands.2, is_env)
+      leaves (begun u m env) (stands.0, beside.jobs u of_other ∙ stands.1, other_current ends t z.log s.log beside.near now_z now_s u m stands.0.resume of_other ∙ stands.2, is_env)
       (seen_on (besides ends t) (besides_sight ends t) z.log s.log (Begin (task u) m env ∷ []) (Begin (task u) m env ∷ []) beside.near refl, beside.held, beside.jobs, record { same = begin_keeps_job z u m env t of_other; job = refl })
   block_beside (ran k q) stands of_other =
-      let turn = turn_beside script ends t s z beside k q.task q.number q.effects q.exit stands.job q.env q.frame of_other stands.stands in
+      let turn = turn_beside script ends t s z beside now_s now_z k q.task q.number q.effects q.exit stands.job q.env q.frame of_other stands.stands in
       let stands_z : Stands script cps others (ran k q) = record {
         job = stands.job;
         stands = turn;
@@ -179,7 +184,7 @@ module _ (script : ScriptView) (cps : List CheckpointView) (ends : Bool) (t : �
       } in
       let new_z = subst (λ (a : Standing). AreInPlace a.log) (after_push script (at_first script) others (ran k q)) (histories_new script cps (others ++ ran k q ∷ []) (all_push script cps others [] (ran k q) also stands_z)) in
       let new_s = subst (λ (a : Standing). AreInPlace a.log) (after_push script (at_first script) before (ran k q)) (histories_new script cps (before ++ ran k q ∷ []) (all_push script cps before [] (ran k q) stand stands)) in
-      leaves (ran k q) stands_z (turn_leaves script ends t s z beside k q.task q.number q.effects q.exit q.after stands.job q.env q.frame of_other stands.stands (shown k q stands.job stands_z turn) counted under new_z new_s)
+      leaves (ran k q) stands_z (turn_leaves script ends t s z beside now_s now_z k q.task q.number q.effects q.exit q.after stands.job q.env q.frame of_other stands.stands (shown k q stands.job stands_z turn) counted under new_z new_s)
 
 -- after the silent turn, and before it
 
@@ -467,7 +472,8 @@ module _ (script : ScriptView) (cps : List CheckpointView) (before : List Block)
   pub both_lead : LeadAlike script cps then_first first_then
   both_lead = record {
     standing = record {
-      digest = one_digest ended t (at then_first).log (at first_then).log both_seen both_lives;
+      digest = one_digest ended t (at then_first).log (at first_then).log both_seen (histories_new script cps then_first (all_push script cps (hb ++ c ∷ []) [] (ran e later_turn) mid_b_stand runs_later))
+          (histories_new script cps first_then (all_push script cps after [] b after_stand stands_after)) both_lives;
       held = ap (held_plans script) (alone_two.held ∙ sym block_after.held);
       jobs = λ u. ap (option_map (job_plan script)) (both_jobs u);
     };

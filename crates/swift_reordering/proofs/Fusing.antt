@@ -233,9 +233,9 @@ module _ (script : ScriptView) (cps : List CheckpointView) (May : ℕ → Type 0
     seats_too : (t : ℕ) → ((u : ℕ) → job_executor script (s.jobs u) ≡ job_executor script (s.jobs t) → is_begun (stage_at s.log u) ≡ false) → (u : ℕ) → job_executor script (z.jobs u) ≡ job_executor script (z.jobs t) → is_begun (stage_at z.log u) ≡ false
     seats_too t free u same = not_begun_there u (free u (ap (job_executor script) (same_jobs u) ∙ same ∙ ap (job_executor script) (sym (same_jobs t))))
 
-    pub begin_on : (t n : ℕ) (env : Env) → Stands script cps before (begun t n env) → IsOrderly script before (begun t n env)
+    pub begin_on : IsCourse script cps before → (t n : ℕ) (env : Env) → Stands script cps before (begun t n env) → IsOrderly script before (begun t n env)
         → room_of (root_count script) t s.log ≡ room_of (root_count script) t z.log → ArePutOff (before ++ begun t n env ∷ []) (others ++ begun t n env ∷ [])
-    begin_on t n env stands orderly room =
+    begin_on course t n env stands orderly room =
         let x : Standing = after_block script s (begun t n env) in
         let y : Standing = after_block script z (begun t n env) in
         let is_env : IsEnv (root_count script) (task t) z.log env = record {
@@ -243,7 +243,7 @@ module _ (script : ScriptView) (cps : List CheckpointView) (May : ℕ → Type 0
           cancelled = stands.3.cancelled ∙ near_cancelled s.log z.log near t;
           room = stands.3.room ∙ room;
         } in
-        let stands_z : Stands script cps others (begun t n env) = (stands.0, sym (same_jobs t) ∙ stands.1, sym (near_current s.log z.log near t n stands.0.resume) ∙ stands.2, is_env) in
+        let stands_z : Stands script cps others (begun t n env) = (stands.0, sym (same_jobs t) ∙ stands.1, sym (near_current s.log z.log near (histories_new script cps before course.stand) (histories_new script cps others was.course.stand) t n stands.0.resume) ∙ stands.2, is_env) in
         let orderly_z : IsOrderly script others (begun t n env) = (roots_too orderly.0, seats_too t orderly.1) in
         let same : (u : ℕ) → t ≢ u → SameOrPutOff s z u → SameOrPutOff x y u = λ u ne o. elim o [
           | inl one ↦ inl (begin_other t n env s.log u ne ∙ one ∙ sym (begin_other t n env z.log u ne))
@@ -288,7 +288,7 @@ module _ (script : ScriptView) (cps : List CheckpointView) (May : ℕ → Type 0
       let x : Standing = after_block script s (ran e r) in
       let y : Standing = after_block script z (ran e q) in
       let stands_z : Stands script cps others (ran e q) =
-      record_stands_too script s z close (fields_of script cps e others) e r other may has_begun (subst (λ (f : List (List ℤ)). RecordStands script s f e r) (fields e) stands) in
+      record_stands_too script s z close (histories_new script cps before course.stand) (histories_new script cps others course_z.stand) (fields_of script cps e others) e r other may has_begun (subst (λ (f : List (List ℤ)). RecordStands script s f e r) (fields e) stands) in
       let now : IsCourse script cps (before ++ ran e r ∷ []) = course_push script cps before (ran e r) course stands tt in
       let now_z : IsCourse script cps (others ++ ran e q ∷ []) = course_push script cps others (ran e q) course_z stands_z tt in
       let new_s : AreInPlace x.log = subst (λ (a : Standing). AreInPlace a.log) (at_push script cps before (ran e r)) (histories_new script cps (before ++ ran e r ∷ []) now.stand) in
@@ -372,7 +372,7 @@ module _ (script : ScriptView) (cps : List CheckpointView) (May : ℕ → Type 0
         let same_env : p.env ≡ r.env = cc (sym p.has_begun ∙ stands.stands.has_begun) in
         let room : r.env.room ≡ other.room = ap (λ (x : Env). x.room) (sym same_env) ∙ p.room ∙ sym (room_there before others few was t) ∙ sym env.1.room in
         let looks : LooksAwayIn script r.frame r.env other = record { cancelled = p.cancelled; away = frame; told = λ is. ap (λ (x : Env). x.cancelled) (sym same_env) ∙ (p.flag is).0 ∙ sym (env.1.cancelled ∙ flag is) } in
-        let stands_b : Stands script cps others b = (job, given_z, sym (near_current s.log z.log was.close.near t n job.resume) ∙ stands.stands.current, env.1) in
+        let stands_b : Stands script cps others b = (job, given_z, sym (near_current s.log z.log was.close.near (histories_new script cps before course.stand) (histories_new script cps others was.course.stand) t n job.resume) ∙ stands.stands.current, env.1) in
         let orderly_b : IsOrderly script others b = (
           roots_too before others was (all_roots script cps before course t (ap is_begun stands.stands.has_begun)),
           λ u same. elim (cases_Bool (is_begun (stage_at z.log u))) [
@@ -426,7 +426,7 @@ module _ (script : ScriptView) (cps : List CheckpointView) (May : ℕ → Type 0
             more = begun t n env ∷ [];
             step = inr (same_look before others was t ∙ looks);
             has = λ k p is. absurd (cc is);
-            put_off = begin_on before others was t n env stands orderly (room ∙ sym (room_there before others few was t));
+            put_off = begin_on before others was course t n env stands orderly (room ∙ sym (room_there before others few was t));
           }
         ]
     goes_on before others (ran e r) course few was unfolded stands orderly = elim (was.stages r.task) [

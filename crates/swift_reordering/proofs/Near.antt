@@ -1,5 +1,5 @@
 -- Digests that are one but for which turns under way have begun, and in which environments.
-use Rattle.swift_reordering.proofs.Prelude.{◌≡◌, ℕ, ◌+◌, List, [], ◌∷◌, ◌++◌, refl, sym, ◌∙◌, ap, ap₂, subst, Bool, true, false, append-nil, arith, Option, Some, None, ◌==◌, ◌||◌, ◌&&◌, ◌-◌, ◌^◌, nat_lt, if◌then◌else◌, eqb-true, Env, Resume, Event, Begin, Life, LastJob, JobStage, Given, Begun, Applied, Waits, Asks, Closes, later, tasks_of, life_of, lived, stage_in, opened_by, is_closed, is_cancelled, links_of, is_under_way, is_current, was_given, task, Card, GroupCard, Digest, digest_of, noted, card_noted, group_noted, digest_of-push, life_of_is, blurred_stage, blurred_life, blurred, AreNear, AreWithin, cons_option}
+use Rattle.swift_reordering.proofs.Prelude.{◌≡◌, ℕ, ◌+◌, List, [], ◌∷◌, ◌++◌, refl, sym, ◌∙◌, ap, ap₂, subst, Bool, true, false, append-nil, arith, Option, Some, None, ◌==◌, ◌||◌, ◌&&◌, ◌-◌, ◌^◌, nat_lt, if◌then◌else◌, eqb-true, Env, Resume, Event, Begin, Life, LastJob, JobStage, Given, Begun, Applied, Waits, Asks, Closes, later, tasks_of, life_of, lived, stage_in, opened_by, is_closed, is_cancelled, links_of, is_under_way, is_current, was_given, task, Card, GroupCard, Digest, digest_of, noted, card_noted, group_noted, digest_of-push, bare, current_in_digest, remembered, AreInPlace, life_of_is, blurred_stage, blurred_life, blurred, AreNear, AreWithin, cons_option}
 use Rattle.swift_escalation.specs.declared.waits.PriorityEvent.{PriorityEvent as Link}
 use Rattle.swift_reordering.proofs.Sights.{waited, IsSight, seen_on, seen_tasks, seen_life, seen_origin, seen_ending, seen_opened, seen_closed, seen_cancelled, seen_links}
 
@@ -30,11 +30,32 @@ waits_blurred (Some (Waits t)) = refl
 waits_blurred (Some (Asks g)) = refl
 waits_blurred (Some (Closes g)) = refl
 
+under_way_blurred : (s : Option JobStage) → is_under_way s ≡ is_under_way (blurred_stage s)
+under_way_blurred None = refl
+under_way_blurred (Some (Begun env)) = refl
+under_way_blurred (Some Given) = refl
+under_way_blurred (Some Applied) = refl
+under_way_blurred (Some (Waits t)) = refl
+under_way_blurred (Some (Asks g)) = refl
+under_way_blurred (Some (Closes g)) = refl
+
+blurred_if : (b : Bool) (l : Life) → blurred_life (if b then l else bare l) ≡ (if b then blurred_life l else bare (blurred_life l))
+blurred_if true l = refl
+blurred_if false l = refl
+
+blurred_remembered : (l : Life) → blurred_life (remembered l) ≡ remembered (blurred_life l)
+blurred_remembered l = blurred_if (is_under_way l.stage) l ∙ ap (λ (b : Bool). if b then blurred_life l else bare (blurred_life l)) (under_way_blurred l.stage)
+
+pub blurred_on : (l : Life) (e : Event) → blurred_life (remembered (lived l e)) ≡ blurred_life (remembered (lived (blurred_life l) e))
+blurred_on l e =
+    blurred_remembered (lived l e) ∙ ap (λ (s : Option JobStage). remembered (record (lived l e) { stage = s })) (later_blurred (stage_in e) l.stage)
+    ∙ sym (blurred_remembered (lived (blurred_life l) e))
+
 abbrev pub blurs_sight : IsSight blurs
 blurs_sight = record {
   hides = λ u. false;
   again = λ u l. ap (λ (s : Option JobStage). record l { stage = s }) (blurred_twice l.stage);
-  on = λ u l e. ap (λ (s : Option JobStage). record (lived l e) { stage = s }) (later_blurred (stage_in e) l.stage);
+  on = λ u l e. blurred_on l e;
   origin = λ u l. refl;
   ending = λ u l shown. refl;
   waits = λ u l. waits_blurred l.stage;
@@ -53,11 +74,11 @@ module _ (a b : List Event) (same : AreNear a b) where
   pub near_ending : (t : ℕ) → (life_of t a).ending ≡ (life_of t b).ending
   near_ending t = seen_ending blurs blurs_sight a b same t refl
 
-  pub near_given : (t : ℕ) → (life_of t a).given ≡ (life_of t b).given
-  near_given t = ap (λ (l : Life). l.given) (seen_life blurs blurs_sight a b same t)
+  near_card : (t : ℕ) → blurred_life ((digest_of a).cards t).life ≡ blurred_life ((digest_of b).cards t).life
+  near_card t = seen_life blurs blurs_sight a b same t
 
   pub near_stage : (t : ℕ) → blurred_stage (life_of t a).stage ≡ blurred_stage (life_of t b).stage
-  near_stage t = ap (λ (l : Life). l.stage) (seen_life blurs blurs_sight a b same t)
+  near_stage t = ap (λ (l : Life). blurred_stage l.stage) (life_of_is t a) ∙ ap (λ (l : Life). l.stage) (near_card t) ∙ ap (λ (l : Life). blurred_stage l.stage) (sym (life_of_is t b))
 
   pub near_opened : (t : ℕ) → opened_by t a ≡ opened_by t b
   near_opened = seen_opened blurs blurs_sight a b same
@@ -99,7 +120,7 @@ under_blurred (Some (Closes g)) under = absurd (cc under)
 life_begun : (l : Life) (t n : ℕ) (env : Env) → is_under_way l.stage ≡ true → blurred_life (lived l (Begin (task t) n env)) ≡ blurred_life l
 life_begun l t n env under = ap (λ (s : Option JobStage). record l { stage = s }) (sym (under_blurred l.stage under))
 
-life_if : (b : Bool) (l : Life) (t n : ℕ) (env : Env) → (b ≡ true → is_under_way l.stage ≡ true) → blurred_life (if b then lived l (Begin (task t) n env) else l) ≡ blurred_life l
+life_if : (b : Bool) (l : Life) (t n : ℕ) (env : Env) → (b ≡ true → is_under_way l.stage ≡ true) → blurred_life (if b then remembered (lived l (Begin (task t) n env)) else l) ≡ blurred_life l
 life_if true l t n env under = life_begun l t n env (under refl)
 life_if false l t n env under = refl
 
@@ -136,18 +157,15 @@ near_begin log t n env under =
 
 -- whether a turn is under way, and current, is seen
 
-under_way_blurred : (s : Option JobStage) → is_under_way s ≡ is_under_way (blurred_stage s)
-under_way_blurred None = refl
-under_way_blurred (Some (Begun env)) = refl
-under_way_blurred (Some Given) = refl
-under_way_blurred (Some Applied) = refl
-under_way_blurred (Some (Waits t)) = refl
-under_way_blurred (Some (Asks g)) = refl
-under_way_blurred (Some (Closes g)) = refl
-
 pub near_under : (a b : List Event) → AreNear a b → (t : ℕ) → is_under_way (life_of t a).stage ≡ is_under_way (life_of t b).stage
 near_under a b same t = under_way_blurred (life_of t a).stage ∙ ap is_under_way (near_stage a b same t) ∙ sym (under_way_blurred (life_of t b).stage)
 
-pub near_current : (a b : List Event) → AreNear a b → (t n : ℕ) (resume : Resume) → is_current (life_of t a) n resume ≡ is_current (life_of t b) n resume
-near_current a b same t n resume =
-    ap₂ (λ (g : Option LastJob) (x : Bool). was_given g n resume && (nat_lt n (2 ^ 32 - 1) && x)) (near_given a b same t) (near_under a b same t)
+pub near_current : (a b : List Event) → AreNear a b → AreInPlace a → AreInPlace b → (t n : ℕ) (resume : Resume) → is_current (life_of t a) n resume ≡ is_current (life_of t b) n resume
+near_current a b same new_a new_b t n resume =
+    let one : Life = ((digest_of a).cards t).life in
+    let other : Life = ((digest_of b).cards t).life in
+    let card = near_card a b same t in
+    let under : is_under_way one.stage ≡ is_under_way other.stage = under_way_blurred one.stage ∙ ap (λ (l : Life). is_under_way l.stage) card ∙ sym (under_way_blurred other.stage) in
+    current_in_digest t a n resume new_a
+    ∙ ap₂ (λ (g : Option LastJob) (x : Bool). was_given g n resume && (nat_lt n (2 ^ 32 - 1) && x)) (ap (λ (l : Life). l.given) card) under
+    ∙ sym (current_in_digest t b n resume new_b)

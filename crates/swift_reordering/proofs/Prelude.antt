@@ -17,7 +17,7 @@ pub use Rattle.std.specs.List.{AllByRecursion, cons_option, filter, range_with_l
 pub use Rattle.std.specs.Option.{option_map}
 pub use Rattle.std.specs.Prelude.{unwrap_or}
 pub use Rattle.swift_digest.proofs.Answers.{close_of_is, group_of_is, is_cancelled_group_is, is_cancelled_is, is_closed_is, life_of_is, opened_by_is, own_tasks_is, parent_of_is, tasks_of_is, waiters_of_is}
-pub use Rattle.swift_digest.proofs.Cards.{digest_of-append, digest_of-push}
+pub use Rattle.swift_digest.proofs.Cards.{bare, bare_remembered, current_in_digest, digest_of-append, digest_of-push, remembered_is}
 pub use Rattle.swift_digest.proofs.Determined.{determined, determined_exit}
 pub use Rattle.swift_digest.proofs.Lines.{one_env}
 pub use Rattle.swift_digest.proofs.Links.{AreWithin, link_in_digest, link_in_log, same_priority}
@@ -25,7 +25,7 @@ pub use Rattle.swift_digest.proofs.NewChildren.{histories_new}
 pub use Rattle.swift_digest.proofs.Outcomes.{Made, NoneFolded, lead_on, made, none_in, not_folded, orderly_too, outcome_too, unfolded_too}
 pub use Rattle.swift_digest.proofs.SameLogs.{asked_open, new_prefix, same_cancelled, same_life, same_tasks}
 pub use Rattle.swift_digest.proofs.SameStands.{all_push, block_stands, fields_push, front_none, lead_push, records_push, same_futures}
-pub use Rattle.swift_digest.specs.Digests.{AreInPlace, Card, Digest, GroupCard, HasLink, all_noted, cancelled_in, card_noted, close_in, digest_of, group_in, group_noted, is_cancelled_group_in, is_cancelled_in, noted, one_if, open_ending, parent_in, said}
+pub use Rattle.swift_digest.specs.Digests.{AreInPlace, Card, Digest, GroupCard, HasLink, all_noted, cancelled_in, card_noted, close_in, digest_of, group_in, group_noted, is_cancelled_group_in, is_cancelled_in, noted, one_if, open_ending, parent_in, said, remembered}
 pub use Rattle.swift_digest.specs.Explored.{FoldsNone, IsNotFolded, IsOutcome, StartsFresh, state_of}
 pub use Rattle.swift_digest.specs.Futures.{AreLike, IsLike, LeadAlike}
 pub use Rattle.swift_digest.specs.Plans.{FramePlan, JobPlan, caller_plan, frame_plans, held_plans, job_plan, plan_of}

@@ -1,5 +1,5 @@
 -- Silent turns run ahead of a history: each step that may follow the history may follow after them, or is one of them.
-use Rattle.swift_reordering.proofs.Prelude.{◌≡◌, ◌≢◌, ◌⊎◌, ℕ, List, [], ◌∷◌, ◌++◌, map, refl, sym, ◌∙◌, ap, ap₂, subst, subst₂, Bool, true, inl, inr, append_assoc, append-nil, Option, Some, is_some, ◌||◌, option_map, cases_eq, Env, ScriptView, root_count, executor_invariants, FrameView, ExitView, all_hold, calling, waiting, asking_next, closing, yielding, returning, failing, RecordView, CheckpointView, Life, Given, life_of, is_under_way, JobFacts, task, Block, added, begun, ran, folded, Standing, at_first, after_blocks, checkpoint_at, Stands, AllStand, AllAllowed, IsOrderly, current_is, FramePlan, JobPlan, plan_of, caller_plan, frame_plans, job_plan, LeadAlike, IsLike, AreLike, determined, determined_exit, one_env, lead_on, orderly_too, same_life, all_push, block_stands, lead_push, turn_looks_away, stage_at, OneTurn, after_turn, after_turns, RunsSilently, AllRunSilently, LeadAsOne, goes_on_alone, code_is_silent, frame_is_silent, Commutes, IsApart, ends_task, IsOfOther}
+use Rattle.swift_reordering.proofs.Prelude.{◌≡◌, ◌≢◌, ◌⊎◌, ℕ, List, [], ◌∷◌, ◌++◌, map, refl, sym, ◌∙◌, ap, ap₂, subst, subst₂, Bool, true, inl, inr, append_assoc, append-nil, Option, Some, is_some, ◌||◌, option_map, cases_eq, Env, ScriptView, root_count, executor_invariants, FrameView, ExitView, all_hold, calling, waiting, asking_next, closing, yielding, returning, failing, RecordView, CheckpointView, Life, Given, life_of, is_under_way, JobFacts, task, Block, added, begun, ran, folded, Standing, at_first, after_blocks, checkpoint_at, Stands, AllStand, AllAllowed, IsOrderly, current_is, FramePlan, JobPlan, plan_of, caller_plan, frame_plans, job_plan, LeadAlike, IsLike, AreLike, determined, determined_exit, one_env, lead_on, orderly_too, same_life, bare, all_push, block_stands, lead_push, turn_looks_away, stage_at, OneTurn, after_turn, after_turns, RunsSilently, AllRunSilently, LeadAsOne, goes_on_alone, code_is_silent, frame_is_silent, Commutes, IsApart, ends_task, IsOfOther}
 use Rattle.swift_reordering.proofs.Bringing.{number_one}
 use Rattle.swift_reordering.proofs.Closed.{same_away}
 use Rattle.swift_reordering.proofs.Beside.{other_life}
@@ -106,7 +106,7 @@ module _ (script : ScriptView) (cps : List CheckpointView) where
   pub carry_same : (more h k : List Block) → AllStand script cps [] h → AllStand script cps [] k → Same h k → AllStand script cps h more → AllAllowed (IsOrderly script) h more → Carried h k more
   carry_same [] h k all also same stand may = record { rest = []; like = tt; stand = tt; orderly = tt; same = subst₂ Same (sym (append-nil h)) (sym (append-nil k)) same }
   carry_same (b ∷ bs) h k all also same stand may =
-      let o = block_stands script cps h k same.0 b stand.0 in
+      let o = block_stands script cps h k same.0 all also b stand.0 in
       let c : Block = o.other in
       let all_b : AllStand script cps [] (h ++ b ∷ []) = all_push script cps h [] b all stand.0 in
       let also_c : AllStand script cps [] (k ++ c ∷ []) = all_push script cps k [] c also o.stands in
@@ -146,12 +146,12 @@ module _ (script : ScriptView) (cps : List CheckpointView) where
   turn_too h k x all also same runs =
       let b : Block = begun x.task x.number x.env in
       let silent = runs.silent in
-      let o = block_stands script cps h k same.0 b silent.begins in
+      let o = block_stands script cps h k same.0 all also b silent.begins in
       let begins : Stands script cps k b = subst (Stands script cps k) (sym o.like) o.stands in
       let all_b = all_push script cps h [] b all silent.begins in
       let also_b = all_push script cps k [] b also begins in
       let mid : Same (h ++ b ∷ []) (k ++ b ∷ []) = same_push h k b b same refl all_b also_b in
-      let p = block_stands script cps (h ++ b ∷ []) (k ++ b ∷ []) mid.0 (ran x.executor x.turn) silent.runs in
+      let p = block_stands script cps (h ++ b ∷ []) (k ++ b ∷ []) mid.0 all_b also_b (ran x.executor x.turn) silent.runs in
       let frame : FrameView = p.like.0 in
       let q : RecordView = record x.turn { frame = frame } in
       let ran_k : Stands script cps (k ++ b ∷ []) (ran x.executor q) = subst (Stands script cps (k ++ b ∷ [])) p.like.2 p.stands in
@@ -340,7 +340,7 @@ other_add u (x ∷ xs) script cps = (tt, other_add u xs script cps)
 module _ (script : ScriptView) (cps : List CheckpointView) (hold : (e : ℕ) → all_hold (executor_invariants script e) (checkpoint_at cps e).fields ≡ true) where
   -- a silent turn leaves how another task looks away, and its life
   past_turn : (h : List Block) (x : OneTurn) (u : ℕ) → AllStand script cps [] h → RunsSilently script cps h x → u ≢ x.task
-      → (turn_looks_away script (at script cps (after_turn h x)) u ≡ turn_looks_away script (at script cps h) u) × (life_of u (at script cps (after_turn h x)).log ≡ life_of u (at script cps h).log)
+      → (turn_looks_away script (at script cps (after_turn h x)) u ≡ turn_looks_away script (at script cps h) u) × (bare (life_of u (at script cps (after_turn h x)).log) ≡ bare (life_of u (at script cps h).log))
   past_turn h x u all runs ne =
       let silent = runs.silent in
       let one = silent_after script cps h x.task x.number x.env x.executor x.turn silent (hold_always script cps x.executor (hold x.executor) h all) in

@@ -1,5 +1,5 @@
 -- Digests that are one as far as one looks at lives: which parts of a life count may depend on the task.
-use Rattle.swift_reordering.proofs.Prelude.{◌≡◌, inl, inr, ℕ, zero, suc, ◌+◌, List, [], ◌∷◌, ◌++◌, refl, sym, ◌∙◌, ap, ap₂, subst, Bool, true, false, Option, Some, None, ◌==◌, ◌||◌, is_some, not, if◌then◌else◌, AllByRecursion, filter, TaskId, Ending, GroupView, next_of, Event, Life, JobStage, Waits, Asks, Closes, task_of, tasks_of, is_made, life_of, lived, own_tasks, waiters_of, opened_by, is_closed, group_of, parent_by, parent_of, of_parent, is_cancelled, is_cancelled_group, links_of, of_parent_same, next_events, Digest, digest_of, all_noted, noted, card_noted, group_noted, one_if, AreInPlace, HasLink, parent_in, group_in, close_in, cancelled_in, is_cancelled_in, is_cancelled_group_in, digest_of-append, tasks_of_is, life_of_is, own_tasks_is, opened_by_is, waiters_of_is, is_closed_is, group_of_is, close_of_is, is_cancelled_is, is_cancelled_group_is, AreWithin, link_in_digest, link_in_log, asked_open, new_prefix}
+use Rattle.swift_reordering.proofs.Prelude.{◌≡◌, inl, inr, ℕ, zero, suc, ◌+◌, List, [], ◌∷◌, ◌++◌, refl, sym, ◌∙◌, ap, ap₂, subst, Bool, true, false, Option, Some, None, ◌==◌, ◌||◌, is_some, not, if◌then◌else◌, AllByRecursion, filter, TaskId, Ending, GroupView, next_of, Event, Life, JobStage, Waits, Asks, Closes, task_of, tasks_of, is_made, life_of, lived, own_tasks, waiters_of, opened_by, is_closed, group_of, parent_by, parent_of, of_parent, is_cancelled, is_cancelled_group, links_of, of_parent_same, next_events, Digest, digest_of, remembered, all_noted, noted, card_noted, group_noted, one_if, AreInPlace, HasLink, parent_in, group_in, close_in, cancelled_in, is_cancelled_in, is_cancelled_group_in, digest_of-append, tasks_of_is, life_of_is, own_tasks_is, opened_by_is, waiters_of_is, is_closed_is, group_of_is, close_of_is, is_cancelled_is, is_cancelled_group_is, AreWithin, link_in_digest, link_in_log, asked_open, new_prefix}
 use Rattle.swift_groups.specs.Close.{close_among, close_of}
 
 -- of how far a job is, only what its task waits for
@@ -13,7 +13,7 @@ waited _ = None
 pub record IsSight (sees : ℕ → Life → Life) : Type 0 where
   pub hides : ℕ → Bool
   pub again : (u : ℕ) (l : Life) → sees u l ≡ sees u (sees u l)
-  pub on : (u : ℕ) (l : Life) (e : Event) → sees u (lived l e) ≡ sees u (lived (sees u l) e)
+  pub on : (u : ℕ) (l : Life) (e : Event) → sees u (remembered (lived l e)) ≡ sees u (remembered (lived (sees u l) e))
   pub origin : (u : ℕ) (l : Life) → (sees u l).origin ≡ l.origin
   pub ending : (u : ℕ) (l : Life) → hides u ≡ false → (sees u l).ending ≡ l.ending
   pub waits : (u : ℕ) (l : Life) → waited (sees u l).stage ≡ waited l.stage
@@ -34,7 +34,7 @@ abbrev pub ChildrenShown : (ℕ → Bool) → List Event → Type 0
 ChildrenShown hides log = (o g : ℕ) → AllByRecursion (IsShown hides) ((digest_of log).groups o g).children
 
 module _ (sees : ℕ → Life → Life) (sight : IsSight sees) where
-  life_seen : (u : ℕ) (b : Bool) (l : Life) (e : Event) → sees u (if b then lived l e else l) ≡ sees u (if b then lived (sees u l) e else sees u l)
+  life_seen : (u : ℕ) (b : Bool) (l : Life) (e : Event) → sees u (if b then remembered (lived l e) else l) ≡ sees u (if b then remembered (lived (sees u l) e) else sees u l)
   life_seen u true l e = sight.on u l e
   life_seen u false l e = sight.again u l
 
@@ -83,17 +83,29 @@ module _ (sees : ℕ → Life → Life) (sight : IsSight sees) where
     pub seen_tasks : (roots : ℕ) → tasks_of roots a ≡ tasks_of roots b
     seen_tasks roots = tasks_of_is roots a ∙ ap (λ (d : Digest). roots + d.made) same ∙ sym (tasks_of_is roots b)
 
-    pub seen_life : (t : ℕ) → sees t (life_of t a) ≡ sees t (life_of t b)
-    seen_life t = ap (sees t) (life_of_is t a) ∙ ap (λ (d : Digest). (d.cards t).life) same ∙ ap (sees t) (sym (life_of_is t b))
+    abbrev card_a : ℕ → Life
+    card_a t = ((digest_of a).cards t).life
+
+    abbrev card_b : ℕ → Life
+    card_b t = ((digest_of b).cards t).life
+
+    pub seen_life : (t : ℕ) → sees t (card_a t) ≡ sees t (card_b t)
+    seen_life t = ap (λ (d : Digest). (d.cards t).life) same
 
     pub seen_origin : (t : ℕ) → (life_of t a).origin ≡ (life_of t b).origin
-    seen_origin t = sym (sight.origin t (life_of t a)) ∙ ap (λ (l : Life). l.origin) (seen_life t) ∙ sight.origin t (life_of t b)
+    seen_origin t =
+        ap (λ (l : Life). l.origin) (life_of_is t a) ∙ sym (sight.origin t (card_a t)) ∙ ap (λ (l : Life). l.origin) (seen_life t)
+        ∙ sight.origin t (card_b t) ∙ ap (λ (l : Life). l.origin) (sym (life_of_is t b))
 
     pub seen_ending : (t : ℕ) → sight.hides t ≡ false → (life_of t a).ending ≡ (life_of t b).ending
-    seen_ending t shown = sym (sight.ending t (life_of t a) shown) ∙ ap (λ (l : Life). l.ending) (seen_life t) ∙ sight.ending t (life_of t b) shown
+    seen_ending t shown =
+        ap (λ (l : Life). l.ending) (life_of_is t a) ∙ sym (sight.ending t (card_a t) shown) ∙ ap (λ (l : Life). l.ending) (seen_life t)
+        ∙ sight.ending t (card_b t) shown ∙ ap (λ (l : Life). l.ending) (sym (life_of_is t b))
 
     pub seen_waits : (t : ℕ) → waited (life_of t a).stage ≡ waited (life_of t b).stage
-    seen_waits t = sym (sight.waits t (life_of t a)) ∙ ap (λ (l : Life). waited l.stage) (seen_life t) ∙ sight.waits t (life_of t b)
+    seen_waits t =
+        ap (λ (l : Life). waited l.stage) (life_of_is t a) ∙ sym (sight.waits t (card_a t)) ∙ ap (λ (l : Life). waited l.stage) (seen_life t)
+        ∙ sight.waits t (card_b t) ∙ ap (λ (l : Life). waited l.stage) (sym (life_of_is t b))
 
     pub seen_parent : (t : ℕ) → parent_of t a ≡ parent_of t b
     seen_parent t = ap parent_by (seen_origin t)

@@ -27,12 +27,12 @@ owns_are o u env other effects one two (inl same) = inl (ap begun_priority one �
 owns_are o u env other effects one two (inr none) = inr none
 
 module _ (script : ScriptView) (s z : Standing) (close : AreClose s z) where
-  pub turn_stands_too : (executor t n : ℕ) (effects : List EffectView) (exit : ExitView) (job : JobFacts) (env other : Env) (frame : FrameView) → stage_at z.log t ≡ Some (Begun other) → env.room ≡ other.room
+  pub turn_stands_too : AreInPlace s.log → AreInPlace z.log → (executor t n : ℕ) (effects : List EffectView) (exit : ExitView) (job : JobFacts) (env other : Env) (frame : FrameView) → stage_at z.log t ≡ Some (Begun other) → env.room ≡ other.room
       → TurnStands script s executor t n effects exit job env frame → TurnStands script z executor t n effects exit job other frame
-  turn_stands_too executor t n effects exit job env other frame has_begun room stands = record {
+  turn_stands_too new_s new_z executor t n effects exit job env other frame has_begun room stands = record {
     given = ap (λ (f : ℕ → Option JobFacts). f t) (sym close.jobs) ∙ stands.given;
     number = stands.number;
-    current = sym (near_current s.log z.log close.near t n job.resume) ∙ stands.current;
+    current = sym (near_current s.log z.log close.near new_s new_z t n job.resume) ∙ stands.current;
     has_begun = has_begun;
     fits = sym (seen_fits blurs blurs_sight s.log z.log close.near script t effects (counters t s.log env.room) exit
         ∙ ap (λ (c : Counters). fits_turn script t z.log c effects exit) (seen_counters blurs blurs_sight s.log z.log close.near script t env.room ∙ ap (counters t z.log) room)) ∙ stands.fits;
@@ -92,11 +92,11 @@ module _ (script : ScriptView) (fields : List (List ℤ)) (r : RecordView) (othe
   pub takes_none : IsLawfulRecord script fields r → (r.env ≡ other) ⊎ AllByRecursion TakesNone r.effects
   takes_none lawful = free_by may.same lawful
 
-pub record_stands_too : (script : ScriptView) (s z : Standing) → AreClose s z → (fields : List (List ℤ)) (executor : ℕ) (r : RecordView) (other : Env) → MayPlayIn script r.frame r.env other → stage_at z.log r.task ≡ Some (Begun other)
+pub record_stands_too : (script : ScriptView) (s z : Standing) → AreClose s z → AreInPlace s.log → AreInPlace z.log → (fields : List (List ℤ)) (executor : ℕ) (r : RecordView) (other : Env) → MayPlayIn script r.frame r.env other → stage_at z.log r.task ≡ Some (Begun other)
     → RecordStands script s fields executor r → RecordStands script z fields executor (record r { env = other })
-record_stands_too script s z close fields executor r other may has_begun stands = record {
+record_stands_too script s z close new_s new_z fields executor r other may has_begun stands = record {
   job = stands.job;
-  stands = turn_stands_too script s z close executor r.task r.number r.effects r.exit stands.job r.env other r.frame has_begun may.room stands.stands;
+  stands = turn_stands_too script s z close new_s new_z executor r.task r.number r.effects r.exit stands.job r.env other r.frame has_begun may.room stands.stands;
   resume = stands.resume;
   outer = stands.outer;
   lawful = same_record script fields r other may stands.lawful;

@@ -66,7 +66,7 @@ module _ (script : ScriptView) (cps : List CheckpointView) (before : List Block)
   next_by : (x : Block) → Stands script cps (before ++ c ∷ []) x → IsOrderly script (before ++ c ∷ []) x → IsOfOther t x → ArePutOff script cps Mine ((before ++ c ∷ []) ++ x ∷ []) (before ++ x ∷ [])
   next_by (added r) stands may other = root_on script cps Mine (before ++ c ∷ []) before put_off r stands may
   next_by (begun u m e) stands may other =
-      begin_on script cps Mine (before ++ c ∷ []) before put_off u m e stands may (room_free script cps (before ++ c ∷ []) course_c on few_c u ∙ sym (room_free script cps before course on few u))
+      begin_on script cps Mine (before ++ c ∷ []) before put_off course_c u m e stands may (room_free script cps (before ++ c ∷ []) course_c on few_c u ∙ sym (room_free script cps before course on few u))
   next_by (ran e r) stands may other = elim (put_off.stages r.task) [
     | inl same ↦ run_on script cps Mine (before ++ c ∷ []) before e r r.env course_c course stands (in_own script r.frame r.env) (sym same ∙ stands.stands.has_begun) put_off.close put_off.fields put_off.done (λ u ne. put_off.stages u)
     | inr p ↦ absurd (other p.may)

@@ -7,9 +7,10 @@ ghost use Rattle.swift_events.specs.Events.{is_made, task_of};
 ghost use Rattle.swift_events.specs.Lives.{lived};
 ghost use Rattle.swift_events.specs.Relations.{asks, child_in, closes, ending_among, names_group, names_task, opens, own_in, waiter_in};
 ghost use Rattle.swift_groups.specs.Groups.{is_among};
-ghost use Rattle.swift_explorer.specs.CardsInside.{AreCards, AreNoted, IsBlank, IsKeyGroup, IsNotedAt, IsPastGroup, OpenAtMost, card_of_parts, group_of_parts};
+ghost use Rattle.swift_explorer.specs.CardsInside.{AreCards, AreNoted, IsBlank, IsKeyGroup, IsNotedAt, IsOfLife, IsPastGroup, OpenAtMost, card_of_parts, group_of_parts};
 ghost use Rattle.swift_explorer.specs.DigestNumbers.{IsWithin, IsWritten, card_numbers, ended_numbers, group_end, groups_numbers, head_numbers, other_of};
-ghost use Rattle.swift_digest.specs.Digests.{digest_of, one_if, open_ending, own_link};
+ghost use Rattle.swift_history.specs.Checks.{is_under_way};
+ghost use Rattle.swift_digest.specs.Digests.{digest_of, one_if, open_ending, own_link, remembered};
 ghost use Rattle.swift_explorer.specs.Numbers.{each_numbers, link_numbers, some_numbers, task_numbers};
 
 use crate::keys::values::{
@@ -17,7 +18,7 @@ use crate::keys::values::{
 };
 use std::alloc::{AllocError, Global};
 use swift_escalation::PriorityEvent as Link;
-use swift_events::{Event, Life};
+use swift_events::{Event, JobStage, Life};
 use swift_types::{Ending, TaskId};
 
 // What was read of a task so far. Of lists there are the numbers.
@@ -220,6 +221,28 @@ fn group_end(event: Event) -> u64
     }
 }
 
+// Whether an event may say more for a task's card than how far the task is.
+fn may_change_cards(event: Event) -> bool
+    ensures { result ≡ false → (t : ℕ) → IsOfLife t event }
+{
+    match event {
+        Event::Root(_, _)
+        | Event::Free { .. }
+        | Event::Child { .. }
+        | Event::Open(_, _)
+        | Event::CancelTask(_)
+        | Event::Wait(_, _) => true,
+        Event::Begin { .. }
+        | Event::Apply(_, _)
+        | Event::Give { .. }
+        | Event::Skip(_, _)
+        | Event::CancelGroup(_, _)
+        | Event::Next(_, _)
+        | Event::Close(_, _)
+        | Event::End(_, _) => false,
+    }
+}
+
 // Whether an event may say something for a group's card.
 fn may_change_groups(event: Event) -> bool
     ensures { result ≡ false → (o g : ℕ) (closed : Bool) (children : List TaskId) → IsPastGroup o g closed children event }
@@ -242,13 +265,38 @@ fn may_change_groups(event: Event) -> bool
     }
 }
 
+// Whether a turn is under way at this stage.
+fn is_under_way(stage: Option<JobStage>) -> bool
+    ensures { result ≡ is_under_way stage }
+{
+    match stage {
+        Some(JobStage::Given) | Some(JobStage::Begun(_)) => true,
+        None
+        | Some(JobStage::Applied)
+        | Some(JobStage::Waits(_))
+        | Some(JobStage::Asks(_))
+        | Some(JobStage::Closes(_)) => false,
+    }
+}
+
+// What counts of a life: what the last job began with is forgotten once that was applied.
+fn remembered(life: Life) -> Life
+    ensures { result ≡ remembered life }
+{
+    let mut rest = life;
+    if !is_under_way(life.stage) {
+        rest.given = None;
+    }
+    rest
+}
+
 // What is there once one more event was read.
 
 fn life_noted(life: Life, task: TaskId, event: Event) -> Life
-    ensures { result ≡ (if task_of event == task.0 then lived life event else life) }
+    ensures { result ≡ (if task_of event == task.0 then remembered (lived life event) else life) }
 {
     if event.task().0 == task.0 {
-        life.after(event)
+        remembered(life.after(event))
     } else {
         life
     }
@@ -330,7 +378,7 @@ fn push_some(tasks: &mut Vec<TaskId>, task: Option<TaskId>) -> Result<(), AllocE
 impl KeyCard {
     fn note(&mut self, task: TaskId, event: Event) -> Result<(), AllocError>
         requires { self.old.opened < 2 ^ 63 }
-        ensures life { OnOk result (self.new.life ≡ (if task_of event == task.0 then lived self.old.life event else self.old.life)) }
+        ensures life { OnOk result (self.new.life ≡ (if task_of event == task.0 then remembered (lived self.old.life event) else self.old.life)) }
         ensures links { OnOk result (self.new.links.items ≡ self.old.links.items ++ some_numbers link_numbers (cons_option (own_link task.0 event) [])) }
         ensures own { OnOk result (self.new.own.items ≡ self.old.own.items ++ some_numbers task_numbers (cons_option (own_in task.0 event) [])) }
         ensures waiters { OnOk result (self.new.waiters.items ≡ self.old.waiters.items ++ some_numbers task_numbers (cons_option (waiter_in task.0 event) [])) }
@@ -338,6 +386,9 @@ impl KeyCard {
         ensures opened { OnOk result (self.new.opened ≡ self.old.opened + one_if (opens task.0 event)) }
     {
         self.life = life_noted(self.life, task, event);
+        if !may_change_cards(event) {
+            return Ok(());
+        }
         put_some_link(&mut self.links, own_link(task, event))?;
         put_some_task(&mut self.own, own_in(task, event))?;
         put_some_task(&mut self.waiters, waiter_in(task, event))?;

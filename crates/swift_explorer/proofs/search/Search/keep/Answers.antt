@@ -18,7 +18,7 @@ returns c =
     let key = c.in_ok-key.key.bytes.items in
     let n : Node = record { before = c.args.before; moves = c.args.moves } in
     let room : length x.nodes.items < x.limit = omega (arith, c.if-len-self.false, c.len.ensures) in
-    let z : Search = record x { histories = c.put_history.new.histories } in
+    let z : Search = record x { histories = c.put_history.new.histories; sums = c.insert.new.self } in
     record {
       keeps = on_ok_weaker c.put_history.result (λ there.
           keeps_new x c.args.history key n c.push.new.self c.add.new.self c.requires.sound c.in_ok-key.ensures c.requires.before c.requires.path c.in_ok-push.ensures.items (λ k has. (c.in_ok-add.ensures.ok k).0 has) room

@@ -1,0 +1,100 @@
+//! Sums of histories. Two that go on alike have the same sum mostly, and others have others: so it tells, before there is a key, whether a
+//! history seems to be a new one. Nothing rests on it but time.
+
+use crate::history::SearchedHistory;
+use swift_steps::NextTurn;
+use swift_types::{Ending, Env, Resume, TaskId};
+
+// A sum with one more number.
+fn with(sum: u64, number: u64) -> u64 {
+    (sum ^ number).wrapping_mul(0x9E37_79B9_7F4A_7C15)
+}
+
+fn with_numbers(sum: u64, numbers: &[i64]) -> u64 {
+    let mut sum = with(sum, numbers.len() as u64);
+    for number in numbers {
+        sum = with(sum, number.cast_unsigned());
+    }
+    sum
+}
+
+fn with_rows(sum: u64, rows: &[Vec<i64>]) -> u64 {
+    let mut sum = sum;
+    for row in rows {
+        sum = with_numbers(sum, row);
+    }
+    sum
+}
+
+// What a turn begins with.
+fn with_resume(sum: u64, resume: Resume) -> u64 {
+    match resume {
+        Resume::Start | Resume::Go => with(sum, 0),
+        Resume::Value(value) => with(with(sum, 1), value.cast_unsigned()),
+        Resume::Fault(_) => with(sum, 2),
+    }
+}
+
+fn with_turn(sum: u64, ready: &NextTurn) -> u64 {
+    let sum = with(sum, u64::from(ready.number));
+    let sum = with_resume(sum, ready.resume);
+    if !ready.body.is_running() {
+        return sum;
+    }
+    let frame = ready.body.top();
+    let sum = with(sum, u64::from(frame.method.0));
+    let sum = with(sum, u64::from(frame.instruction));
+    with_numbers(sum, &frame.variables)
+}
+
+// What its next turn begins with, if it has one.
+fn with_next(sum: u64, ready: &Option<NextTurn>) -> u64 {
+    match ready {
+        Some(ready) => with_turn(with(sum, 1), ready),
+        None => with(sum, 0),
+    }
+}
+
+// Whether its turn is under way, and knows that it is cancelled.
+fn with_begun(sum: u64, begun: Option<Env>) -> u64 {
+    match begun {
+        Some(env) => with(sum, 1 + u64::from(env.cancelled)),
+        None => with(sum, 0),
+    }
+}
+
+// How it has ended, if it has.
+fn with_end(sum: u64, ending: Option<Ending>) -> u64 {
+    match ending {
+        Some(Ending::Value(value)) => with(with(sum, 1), value.cast_unsigned()),
+        Some(Ending::Fault(_)) => with(sum, 2),
+        None => with(sum, 0),
+    }
+}
+
+impl SearchedHistory {
+    // What is known of a task.
+    fn with_task(&self, sum: u64, task: TaskId) -> u64 {
+        let sum = with_begun(sum, self.steps.book.begun(task));
+        with_end(sum, self.steps.book.ending(task))
+    }
+
+    /// The sum of a history: of how much has happened, of its fields, of what its next turns begin with, and of which tasks are under way or
+    /// have ended.
+    pub(crate) fn sum(&self) -> u64 {
+        let mut sum = with(0, self.steps.book.log().len() as u64);
+        for rows in &self.steps.fields {
+            sum = with_rows(sum, rows);
+        }
+        for ready in &self.steps.tasks {
+            sum = with_next(sum, ready);
+        }
+        let Ok(tasks) = u32::try_from(self.steps.tasks.len()) else {
+            return sum;
+        };
+        for place in 0..tasks {
+            sum = self.with_task(sum, TaskId(place));
+        }
+        sum
+    }
+}
