@@ -21,11 +21,11 @@ done_set serial = spelled (Done serial) ++ codes " = 1;"
 
 -- the head of a block that is done unless the method has returned
 abbrev pub done_head : ℕ → List ℕ
-done_head serial = (codes "if (!" ++ spelled (Done serial)) ++ codes ") {"
+done_head serial = codes "if (!" ++ spelled (Done serial) ++ codes ") {"
 
 -- the statement that ends a method which returns out of a group's block
-abbrev pub result_given : List ℕ
-result_given = (codes "return " ++ spelled (Result 0)) ++ codes ";"
+abbrev pub result_given : ℕ → List ℕ
+result_given serial = codes "return " ++ spelled (Result serial) ++ codes ";"
 
 -- What is written ends in these bytes, unless memory runs out.
 abbrev pub EndsInText : Writer → List ℕ → Type 0

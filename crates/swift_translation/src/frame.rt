@@ -3,7 +3,7 @@
 ghost use Rattle.std.specs.Prelude.{◌≡◌, IsTrue};
 ghost use Rattle.swift_translation.specs.Returns.{EndsInText, done_let, result_given};
 
-use crate::naming::{write_made, write_variable};
+use crate::naming::{write_made, write_made_between, write_variable};
 use crate::step::step;
 use crate::value::write_value;
 use crate::writing::Writing;
@@ -101,15 +101,13 @@ fn begin_unit(writing: &mut Writing<'_>, unit: usize) {
 
 // Ends the method that is written last.
 fn end(writing: &mut Writing<'_>, frame: Frame)
-    ensures returned { frame.serial ≡ 0 → frame.result ≡ ResultPlace.Own → EndsInText writing.new.out result_given }
+    ensures returned { frame.serial ≡ 0 → frame.result ≡ ResultPlace.Own → EndsInText writing.new.out (result_given frame.serial) }
 {
     writing.frames.pop();
     if frame.serial == 0 {
         if let ResultPlace::Own = frame.result {
             writing.line();
-            writing.say("return ");
-            write_made(writing, "result", 0);
-            writing.say(";");
+            write_made_between(writing, "return ", "result", frame.serial, ";");
         }
     }
 }

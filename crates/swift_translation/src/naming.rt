@@ -38,6 +38,21 @@ pub(crate) fn write_made(writing: &mut Writing<'_>, word: &str, number: usize)
     spell_made(&mut writing.out, alloc, word, number)
 }
 
+/// The same between two texts.
+pub(crate) fn write_made_between(
+    writing: &mut Writing<'_>,
+    front: &str,
+    word: &str,
+    number: usize,
+    back: &str,
+)
+    ensures { GoesOn writing.old.out writing.new.out (front.now ++ (word.now ++ decimal number ++ 95 ∷ []) ++ back.now) }
+{
+    writing.say(front);
+    write_made(writing, word, number);
+    writing.say(back)
+}
+
 /// The name of a variable of a method that was put in.
 pub(crate) fn write_variable(writing: &mut Writing<'_>, place: usize, serial: usize) {
     let alloc = writing.alloc;

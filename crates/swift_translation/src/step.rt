@@ -7,7 +7,8 @@ ghost use Rattle.swift_translation.specs.WritingInside.{GoesOn};
 
 use crate::frame::{Frame, ResultPlace, put_in, skip_to};
 use crate::naming::{
-    PRECONDITION, write_field_name, write_made, write_name, write_printed, write_variable,
+    PRECONDITION, write_field_name, write_made, write_made_between, write_name, write_printed,
+    write_variable,
 };
 use crate::value::write_value;
 use crate::wait::{begin_set, wait, write_callee};
@@ -217,11 +218,11 @@ fn open_rest(writing: &mut Writing<'_>, frame: Frame)
 {
     if frame.needs_done {
         writing.line();
-        writing.say("if (!");
-        write_made(writing, "done", frame.serial);
-        writing.say(") {");
+        write_made_between(writing, "if (!", "done", frame.serial, ") {");
+        open(writing, true);
+    } else {
+        open(writing, false);
     }
-    open(writing, frame.needs_done);
 }
 
 // A word and what is named.
