@@ -1,5 +1,5 @@
 -- A turn that looks away plays the same in each environment with the same room, and, where it is settled, with the same flag.
-use Rattle.swift_reordering.proofs.Prelude.{◌≡◌, ℕ, zero, suc, ℤ, List, [], ◌∷◌, ◌++◌, refl, ◌∙◌, ap, ap₂, subst, Bool, true, false, Option, Some, None, ◌||◌, is_some, pos, if◌then◌else◌, nat_lt, ◌^◌, neg_ℤ, AllByRecursion, Fault, Turns, Invariant, Resume, Start, Go, Value, STEPS, Priority, Env, Term, CallTarget, Wanted, Operation, Code, Scene, and_then, joined, ev, evs, in_front, is_zero, flag, within, NextAction, first, ends, does, tests, NumberPlace, Variable, Field, ScriptView, FrameView, InvocationView, EffectView, spawning, detaching, opening, adding, cancelling_task, cancelling_group, ExitView, returning, failing, TurnStateView, TurnInputView, AfterStatement, goes, leaves, Played, standing, scene, with_value, invoked, with_invocation, put, given, keep, with_room, numbered, make, add_child, open_group, close_group, cancels, wait_for, perform, act, settled, at_limit, on, end_of, caught, raised_by, received, taken_by, whole_turn, left_by, exits, undoes, all_hold, kept_of, kept, kept_turn, invariants_at, state_at, all_append, both, term_looks_away, terms_look_away, term_if_looks_away, wanted_looks_away, operation_looks_away, code_looks_away, frame_looks_away, ends_turn, Cancelled}
+use Rattle.swift_reordering.proofs.Prelude.{◌≡◌, ℕ, zero, suc, ℤ, List, [], ◌∷◌, ◌++◌, refl, ◌∙◌, ap, ap₂, subst, Bool, true, false, Option, Some, None, ◌||◌, is_some, pos, if◌then◌else◌, nat_lt, ◌^◌, neg_ℤ, AllByRecursion, Fault, Turns, Invariant, Resume, Start, Go, Value, STEPS, Priority, Env, Term, CallTarget, Wanted, Operation, Code, Scene, and_then, joined, ev, evs, in_front, is_zero, flag, within, NextAction, first, ends, does, tests, NumberPlace, Variable, Field, ScriptView, FrameView, InvocationView, EffectView, spawning, opening, ExitView, failing, TurnStateView, TurnInputView, AfterStatement, goes, leaves, Played, standing, scene, with_value, invoked, with_invocation, given, make, close_group, wait_for, perform, act, settled, at_limit, on, end_of, caught, raised_by, taken_by, whole_turn, left_by, exits, undoes, all_hold, kept_of, kept, kept_turn, invariants_at, state_at, all_append, both, term_looks_away, terms_look_away, term_if_looks_away, wanted_looks_away, operation_looks_away, code_looks_away, frame_looks_away, ends_turn, Cancelled}
 use Rattle.swift_types.specs.declared.outcome.Fault.TheVariants.{Cancelled as WasCancelled}
 use Rattle.swift_types.specs.declared.outcome.Resume.TheVariants.{Fault as Raise}
 use Rattle.script_code.specs.Tree as code

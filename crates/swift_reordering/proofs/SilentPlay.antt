@@ -1,5 +1,5 @@
 -- A silent turn plays the same on all fields and with any room, and leaves the fields.
-use Rattle.swift_reordering.proofs.Prelude.{◌≡◌, ℕ, zero, suc, ℤ, List, [], ◌∷◌, refl, sym, ap, ap₂, subst, subst₂, Bool, true, false, Option, Some, None, ◌||◌, is_some, pos, if◌then◌else◌, neg_ℤ, slice_set, false≢true, Fault, Turns, Steps, Resume, Start, Go, Value, STEPS, Env, Term, CallTarget, Wanted, Operation, Code, code_at, Scene, and_then, joined, within, flag, ev, evs, in_front, is_zero, NextAction, first, ends, does, tests, NumberPlace, Variable, Field, ScriptView, method_code, FrameView, InvocationView, EffectView, ExitView, returning, failing, TurnStateView, TurnInputView, AfterStatement, goes, leaves, Played, standing, scene, with_value, invoked, with_invocation, given, close_group, wait_for, perform, act, settled, at_limit, on, end_of, caught, raised_by, received, taken_by, whole_turn, left_by, exits, undoes, all_hold, kept_of, kept, kept_turn, invariants_at, state_at, both, term_is_own, terms_are_own, term_if_is_own, wanted_is_own, place_is_own, operation_is_silent, code_is_silent, ends_turn}
+use Rattle.swift_reordering.proofs.Prelude.{◌≡◌, ℕ, zero, suc, ℤ, List, [], ◌∷◌, refl, sym, ap, ap₂, subst, subst₂, Bool, true, false, Option, Some, None, ◌||◌, is_some, pos, if◌then◌else◌, neg_ℤ, slice_set, false≢true, Fault, Turns, Steps, Resume, Start, Go, Value, STEPS, Env, Term, CallTarget, Wanted, Operation, Code, code_at, Scene, and_then, joined, within, flag, ev, evs, in_front, is_zero, NextAction, first, ends, does, tests, NumberPlace, Variable, Field, ScriptView, method_code, FrameView, InvocationView, ExitView, failing, TurnStateView, TurnInputView, AfterStatement, goes, leaves, Played, standing, scene, with_value, invoked, with_invocation, given, close_group, wait_for, perform, act, settled, at_limit, on, end_of, caught, raised_by, taken_by, whole_turn, left_by, exits, undoes, all_hold, kept_of, kept, kept_turn, invariants_at, state_at, both, term_is_own, terms_are_own, term_if_is_own, wanted_is_own, place_is_own, operation_is_silent, code_is_silent, ends_turn}
 use Rattle.swift_types.specs.declared.outcome.Resume.TheVariants.{Fault as Raise}
 use Rattle.script_code.specs.Tree as code
 use Rattle.swift_interpreter.specs.Turn.{turn, taken}
