@@ -1,7 +1,6 @@
 -- What expressions that are put behind others leave as it was.
-use Rattle.std.proofs.Common.{◌≡◌, ℕ, ◌+◌, ◌<◌, List, [], ◌∷◌, ◌++◌, length, Some, get_or, refl, sym, ap, ◌∙◌, subst, arith}
+use Rattle.std.proofs.Common.{◌≡◌, ℕ, ◌<◌, List, [], ◌∷◌, ◌++◌, length, Some, refl, sym, ap, ◌∙◌, subst, arith}
 use Rattle.std.specs.List.{slice_get}
-use Rattle.std.specs.Prelude.{IsNone}
 use Rattle.std.proofs.lemmas.Option.{slice_get_within, slice_get-get_or, get_or_from_slice_get}
 use Rattle.std.proofs.lemmas.List.{get_or_append_left, length-append, append_assoc, append-nil}
 use Rattle.std.proofs.Math.Seq.{get_or-append_seam}
@@ -41,7 +40,7 @@ grows_on {r} {s} {t} g h =
       refused = λ n. g.refused (h.refused n);
       tokens = h.tokens ∙ g.tokens;
       more = g.more ++ h.more;
-      exprs = h.exprs ∙ (ap (λ xs. xs ++ h.more) g.exprs ∙ append_assoc r.tree.exprs.items g.more h.more)
+      exprs = h.exprs ∙ (ap (λ xs. xs ++ h.more) g.exprs ∙ append_assoc r.tree.exprs.items g.more h.more);
     }
 
 -- what stood at a place stands there still

@@ -1,5 +1,5 @@
 -- What refusals say of readers.
-use Rattle.std.proofs.Common.{◌≡◌, Bool, true, false, Option, sym, subst, ◌∙◌}
+use Rattle.std.proofs.Common.{◌≡◌, true, false, Option, sym, subst, ◌∙◌}
 use Rattle.std.specs.Prelude.{IsNone, IsSome}
 use Rattle.std.proofs.lemmas.Bool.{false≢true}
 use Rattle.swift_syntax.specs.declared.reader.Reader.{Reader}

@@ -14,7 +14,6 @@ use Rattle.swift_syntax.specs.declared.tree.ExprForm.{ExprForm}
 use Rattle.swift_syntax.specs.declared.tree.ExprForm.TheVariants as form
 use Rattle.swift_syntax.specs.declared.tree.Receiver.{Receiver}
 use Rattle.swift_syntax.specs.declared.tree.Receiver.TheVariants as receiver
-use Rattle.swift_syntax.specs.declared.word.Word.{Word}
 use Rattle.swift_syntax.specs.declared.word.Word.TheVariants as word
 
 -- a token that was looked for; the end of the text where there is none

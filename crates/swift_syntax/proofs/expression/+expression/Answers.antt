@@ -1,4 +1,4 @@
-use Rattle.std.proofs.Common.{◌≡◌, ◌≢◌, Bool, true, false, Option, Some, None, refl, sym, ap, subst, ◌∙◌, arith, rules, w64, to_z, of_z, suc, ◌≤◌}
+use Rattle.std.proofs.Common.{◌≡◌, ◌≢◌, true, false, None, refl, sym, ap, subst, ◌∙◌, arith, rules, w64, to_z, of_z, suc}
 use Rattle.std.proofs.lemmas.Bool.{false≢true}
 use Rattle.swift_syntax.specs.Expressions.{kind_at, literal_of, opens_at, operator_in}
 use Rattle.swift_syntax.specs.ReadersInside.{Grows, IsPut, taken}
@@ -6,8 +6,7 @@ use Rattle.swift_syntax.specs.declared.sign.Sign.TheVariants as sign
 use Rattle.swift_syntax.specs.declared.token.TokenKind.TheVariants as kind
 use Rattle.swift_syntax.specs.declared.tree.ExprForm.TheVariants as form
 use Rattle.swift_syntax.specs.declared.word.Word.TheVariants as word
-use Rattle.swift_syntax.proofs.Grown.{grows_on, grows_same}
-use Rattle.swift_syntax.proofs.Refused.{clash, grows_taken}
+use Rattle.swift_syntax.proofs.Grown.{grows_on}
 use Rattle.swift_syntax.proofs.Spelled.{literal_read, own_read, case_read, parenthesis_read, name_read, alone_read, call_read, member_read, lone_read, negated_read, inverted_read, unprefixed_read, awaited_read, tried_read, tried_grows, operands_alone_read, choice_read, uncovered_read, first_read, all_read, next_read, low_level}
 use Rattle.swift_syntax.proofs.expression.+expression.Goals.{arguments-else-loop-test, arguments-then-loop-test+then-not-takes}
 use Rattle.swift_syntax.proofs.expression.+expression.Goals as goal
@@ -144,7 +143,7 @@ pub operands-loop-init : goal.operands-loop-init
 operands-loop-init t c =
     record {
       grows = c.prefixed-left.ensures.grows;
-      spelled = λ n. first_read c.args.reader.now c.prefixed-left.new.reader c.args.loosest (c.prefixed-left.ensures.spelled n)
+      spelled = λ n. first_read c.args.reader.now c.prefixed-left.new.reader c.args.loosest (c.prefixed-left.ensures.spelled n);
     }
 
 pub operands-loop-preserved : goal.operands-loop-preserved
@@ -158,5 +157,5 @@ operands-loop-preserved t c =
           let n3 = c.expr-left.ensures.grows.refused n4 in
           let n2 = c.operands-right.ensures.grows.refused n3 in
           let n1 = c.take_operator-place.ensures.grows.refused n2 in
-          next_read c.args.reader.now c.loop.reader c.take_operator-place.new.reader c.operands-right.new.reader c.expr-left.new.self c.refuse_chain.new.reader c.in-Some.found (c.loop.invariant.spelled n1) (sym c.in-Some.ensures) c.take_operator-place.ensures.place (c.take_operator-place.ensures.taken n2) c.operands-right.ensures.grows level (c.operands-right.ensures.spelled n3) (subst (λ f. IsPut c.operands-right.new.reader c.expr-left.new.self f c.take_operator-place.result c.expr-left.result) c.both.ensures (c.expr-left.ensures.put n4)) c.expr-left.ensures.grows (c.refuse_chain.ensures.same n5)
+          next_read c.args.reader.now c.loop.reader c.take_operator-place.new.reader c.operands-right.new.reader c.expr-left.new.self c.refuse_chain.new.reader c.in-Some.found (c.loop.invariant.spelled n1) (sym c.in-Some.ensures) c.take_operator-place.ensures.place (c.take_operator-place.ensures.taken n2) c.operands-right.ensures.grows level (c.operands-right.ensures.spelled n3) (subst (λ f. IsPut c.operands-right.new.reader c.expr-left.new.self f c.take_operator-place.result c.expr-left.result) c.both.ensures (c.expr-left.ensures.put n4)) c.expr-left.ensures.grows (c.refuse_chain.ensures.same n5);
     }

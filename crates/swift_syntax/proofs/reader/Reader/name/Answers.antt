@@ -1,4 +1,3 @@
-use Rattle.std.proofs.Common.{◌≡◌}
 use Rattle.swift_syntax.specs.ReadersInside.{Grows}
 use Rattle.swift_syntax.proofs.Grown.{grows_on, grows_same}
 use Rattle.swift_syntax.proofs.Refused.{clash, grows_taken}
