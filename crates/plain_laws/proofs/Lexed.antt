@@ -1,5 +1,5 @@
 -- The bytes of an expression consist of its tokens.
-use Rattle.std.proofs.Common.{◌≡◌, ℕ, ℤ, pos, negsuc, ◌<◌, ◌+◌, ◌-◌, ◌^◌, ◌&&◌, ◌||◌, ◌==◌, Bool, true, false, nat_lt, List, [], ◌∷◌, ◌++◌, length, codes, None, refl, sym, ap, subst, ◌∙◌, arith}
+use Rattle.std.proofs.Common.{◌≡◌, ℕ, pos, negsuc, ◌<◌, ◌-◌, ◌^◌, ◌&&◌, ◌||◌, ◌==◌, Bool, true, false, nat_lt, List, [], ◌∷◌, ◌++◌, length, codes, refl, sym, ap, subst, ◌∙◌, arith}
 use Rattle.std.specs.Fmt.{decimal}
 use Rattle.std.specs.List.{flat_map, list_all}
 use Rattle.std.proofs.lemmas.Bool.Decides.{nat_tests}
@@ -14,14 +14,14 @@ use Rattle.script_tokens.specs.Pieces.{Num, Name, Key, Sign}
 use Rattle.script_tokens.specs.Spelling.{mark_spelling}
 use Rattle.script_grammar.specs.Grammar.{mark_of, precedence_of}
 use Rattle.script_grammar.specs.Tree.{ExprTree, Number, Named, Local, OwnPriority, IsCancelled, Negated, Inverted, Both}
-use Rattle.plain_parts.specs.Expressions.{PlainToken, Bare, Spaced, left_of, enclosed, expr_tokens, expr_bytes, is_made_of_parts, reads_plain, said, swift_of}
+use Rattle.plain_parts.specs.Expressions.{PlainToken, Bare, Spaced, left_of, enclosed, expr_tokens, expr_bytes, is_made_of_parts, reads_plain, said}
 use Rattle.swift_syntax.specs.Bytes.{is_digit, is_letter, is_name_byte}
 use Rattle.swift_syntax.specs.Fronts.{a_token, front_of, front_at, sign_at, slashed_at}
 use Rattle.swift_syntax.specs.declared.sign.Sign.TheVariants as sign
 use Rattle.swift_syntax.specs.declared.token.Token.{Token}
 use Rattle.swift_syntax.specs.declared.token.TokenKind.TheVariants as kind
 use Rattle.swift_syntax.specs.Expressions.{after}
-use Rattle.plain_laws.specs.Readings.{Told, Of, AreTold, Lexed, Rest, expr_told, told_mark, told_plain}
+use Rattle.plain_laws.specs.Readings.{Told, Of, AreTold, Lexed, Rest, expr_told, told_plain}
 use Rattle.plain_laws.specs.Texts.{IsName, IsWritable, begins_name, goes_on}
 use Rattle.plain_laws.proofs.Fronts.{begins_operand, bang_front, close_front, minus_front, name_front, number_front, numerals, open_front, operator_front, space_front}
 use Rattle.plain_laws.proofs.Operators.{is_told, sign_of}

@@ -1,5 +1,5 @@
 -- How tightly operators bind, for the printer and for the reader.
-use Rattle.std.proofs.Common.{◌≡◌, ◌≢◌, ℕ, ◌+◌, ◌-◌, ◌<◌, ◌≤◌, suc, Bool, true, false, List, [], ◌∷◌, Option, Some, None, nat_lt, refl, sym, ◌∙◌, ap, arith}
+use Rattle.std.proofs.Common.{◌≡◌, ℕ, ◌-◌, ◌<◌, ◌≤◌, suc, Bool, true, false, [], ◌∷◌, Option, Some, None, nat_lt, refl, sym, ◌∙◌, ap, arith}
 use Rattle.std.proofs.lemmas.Bool.{false≢true, le-ltb, lt-ltb}
 use Rattle.std.proofs.lemmas.Bool.Decides.{nat_tests}
 use Rattle.swift_types.specs.declared.operator.Operator.{Operator}
@@ -11,7 +11,7 @@ use Rattle.swift_syntax.specs.declared.sign.Sign.TheVariants as sign
 use Rattle.swift_syntax.specs.declared.token.TokenKind.{TokenKind}
 use Rattle.swift_syntax.specs.declared.token.TokenKind.TheVariants as kind
 use Rattle.swift_syntax.specs.Expressions.{Binary, binary_of, if_tight, is_open, operator_in}
-use Rattle.plain_laws.specs.Readings.{Told, Of, told_mark}
+use Rattle.plain_laws.specs.Readings.{Of, told_mark}
 
 abbrev pub sign_of : Operator → Sign
 sign_of op.Or = sign.Or

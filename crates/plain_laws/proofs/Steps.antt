@@ -1,12 +1,12 @@
 -- One token of a text after the other.
-use Rattle.std.proofs.Common.{◌≡◌, ℕ, ◌<◌, ◌≤◌, ◌+◌, ◌-◌, ◌^◌, suc, Bool, true, false, List, [], ◌∷◌, ◌++◌, length, take, drop, get_or, drop-cons, Option, Some, refl, sym, ap, subst, ◌∙◌, arith}
+use Rattle.std.proofs.Common.{◌≡◌, ℕ, ◌<◌, ◌+◌, ◌-◌, ◌^◌, suc, Bool, true, false, List, [], ◌∷◌, ◌++◌, length, take, drop, get_or, drop-cons, Some, refl, sym, ap, subst, ◌∙◌, arith}
 use Rattle.std.specs.List.{slice_get}
 use Rattle.std.proofs.lemmas.Bool.{lt-ltb}
 use Rattle.std.proofs.lemmas.List.{length-append, length-drop, append_assoc}
 use Rattle.std.proofs.lemmas.Option.{slice_get-get_or}
-use Rattle.swift_syntax.specs.Expressions.{after, kind_at, kind_in, or_end, token_at}
-use Rattle.swift_syntax.specs.Fronts.{Front, a_line, a_space, a_token, front_of}
-use Rattle.swift_syntax.specs.Lexes.{StandAt, none_left, space_here, line_here, one_here, token_between}
+use Rattle.swift_syntax.specs.Expressions.{after, kind_at, kind_in, or_end}
+use Rattle.swift_syntax.specs.Fronts.{a_line, a_space, a_token, front_of}
+use Rattle.swift_syntax.specs.Lexes.{StandAt, space_here, line_here, one_here, token_between}
 use Rattle.swift_syntax.specs.declared.token.Token.{Token}
 use Rattle.swift_syntax.specs.declared.token.TokenKind.{TokenKind}
 use Rattle.plain_laws.specs.Readings.{Rest, bytes_at}
@@ -32,7 +32,7 @@ first_token {text} {bs} {rest} {b} {k} {line} {space} h (one_here {rest = r} {k 
     record {
       others = ts;
       is = subst (λ n. token_between text (b ∷ bs) r found line space ∷ ts ≡ token_between text (b ∷ bs) r n line space ∷ ts) z refl ∙ ap (λ n. token_between text (b ∷ bs) n k line space ∷ ts) y;
-      stands = subst (λ n. StandAt text n false false ts) y d
+      stands = subst (λ n. StandAt text n false false ts) y d;
     }
 
 -- white space stands at the front
@@ -98,7 +98,7 @@ step {text} {tokens} {i} b w bs k long h r =
     record {
       kind = ap kind_in g.at;
       bytes = ap (λ o. take ((or_end text o).to - (or_end text o).from) (drop (or_end text o).from text)) g.at ∙ between_is text r.before (b ∷ w) bs r.whole;
-      next = record { line = false; space = false; before = r.before ++ (b ∷ w); whole = whole; stands = subst (λ ts. StandAt text bs false false ts) (sym (ap (λ n. drop n tokens) (after_is i (length tokens) g.within long) ∙ g.behind)) f.stands }
+      next = record { line = false; space = false; before = r.before ++ (b ∷ w); whole = whole; stands = subst (λ ts. StandAt text bs false false ts) (sym (ap (λ n. drop n tokens) (after_is i (length tokens) g.within long) ∙ g.behind)) f.stands };
     }
 
 pub step_space : {text : List ℕ} {tokens : List Token} {i : ℕ} (bs : List ℕ) → front_of (32 ∷ bs) ≡ (a_space, bs) → Rest text tokens i (32 ∷ bs) → Rest text tokens i bs

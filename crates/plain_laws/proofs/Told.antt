@@ -8,14 +8,14 @@ use Rattle.script_tokens.specs.declared.mark.Mark.TheVariants as mark
 use Rattle.script_tokens.specs.Pieces.{Sign}
 use Rattle.script_grammar.specs.Grammar.{mark_of, precedence_of}
 use Rattle.script_grammar.specs.Tree.{ExprTree, Number, Named, Local, OwnPriority, IsCancelled, Negated, Inverted, Both}
-use Rattle.plain_parts.specs.Expressions.{PlainToken, Bare, Spaced, left_of, enclosed, expr_tokens, is_made_of_parts, reads_plain}
+use Rattle.plain_parts.specs.Expressions.{PlainToken, Bare, Spaced, left_of, enclosed, expr_tokens, reads_plain}
 use Rattle.swift_syntax.specs.declared.sign.Sign.TheVariants as sign
 use Rattle.swift_syntax.specs.declared.token.Token.{Token}
 use Rattle.swift_syntax.specs.declared.token.TokenKind.{TokenKind}
 use Rattle.swift_syntax.specs.declared.token.TokenKind.TheVariants as kind
 use Rattle.swift_syntax.specs.declared.word.Word.{Word}
 use Rattle.swift_syntax.specs.Expressions.{after, kind_at}
-use Rattle.plain_laws.specs.Readings.{Told, Of, AreTold, IsTold, expr_told, told_plain, told_mark}
+use Rattle.plain_laws.specs.Readings.{Told, Of, AreTold, expr_told, told_plain, told_mark}
 use Rattle.plain_laws.proofs.Operators.{sign_of, is_told}
 
 record Parted (text : List ℕ) (tokens : List Token) (i : ℕ) (xs ys : List Told) (j : ℕ) : Type 0 where

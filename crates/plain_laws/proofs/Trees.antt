@@ -1,12 +1,12 @@
 -- What the tokens of a script's expression spell.
-use Rattle.std.proofs.Common.{◌≡◌, ◌≢◌, ◌<◌, ◌≤◌, ◌+◌, ◌-◌, ℕ, ℤ, suc, Bool, true, false, nat_lt, List, [], ◌∷◌, ◌++◌, codes, Option, Some, None, refl, sym, subst, ap, ◌∙◌, arith}
+use Rattle.std.proofs.Common.{◌≡◌, ◌≢◌, ◌≤◌, ◌-◌, ℕ, ℤ, suc, Bool, true, false, nat_lt, List, ◌∷◌, ◌++◌, codes, Option, Some, None, refl, sym, subst, ap, ◌∙◌, arith}
 use Rattle.std.proofs.lemmas.Bool.{false≢true}
 use Rattle.std.specs.List.{flat_map, slice_get}
 use Rattle.swift_types.specs.declared.operator.Operator.{Operator}
 use Rattle.script_tokens.specs.Pieces.{Sign}
 use Rattle.script_grammar.specs.Grammar.{mark_of, precedence_of}
 use Rattle.script_grammar.specs.Tree.{ExprTree, Number, Named, Local, OwnPriority, IsCancelled, Negated, Inverted, Both}
-use Rattle.plain_parts.specs.Expressions.{PlainToken, Bare, Spaced, left_of, enclosed, expr_tokens, is_made_of_parts, reads_plain, renamed}
+use Rattle.plain_parts.specs.Expressions.{PlainToken, Spaced, left_of, enclosed, expr_tokens, is_made_of_parts, reads_plain, renamed}
 use Rattle.swift_syntax.specs.declared.sign.Sign.TheVariants as sign
 use Rattle.swift_syntax.specs.declared.token.Token.{Token}
 use Rattle.swift_syntax.specs.declared.token.TokenKind.{TokenKind}
@@ -169,7 +169,7 @@ close_ends {tokens} {i} h =
       operator = ap (operator_in 0) h;
       dot = λ e. (let x : kind.Sign sign.Close ≡ kind.Sign sign.Dot = sym h ∙ e in absurd cc);
       question = λ e. (let x : kind.Sign sign.Close ≡ kind.Sign sign.Question = sym h ∙ e in absurd cc);
-      opens = not_open (slice_get tokens i) (kind.Sign sign.Close) h refl
+      opens = not_open (slice_get tokens i) (kind.Sign sign.Close) h refl;
     }
 
 in_parenthesis : {text : List ℕ} {tokens : List Token} {e : ExprTree} {i end to : ℕ} {t : SwiftTree} (ts : List PlainToken) → Strips text tokens ts e 0 → ((k : ℕ) → AreTold text tokens (after i) (flat_map told_plain ts) k → IsNoKey (kind_at tokens (after i))) → AreTold text tokens i (flat_map told_plain (enclosed true ts)) end → SpellsAtom tokens i to t → Spelled text tokens e end to t
@@ -208,7 +208,7 @@ stepped {tokens} {m} {at} {to} {left} {tree} o h hm n (go {j = j} {b = b} found 
       behind = j;
       right = b;
       operands = subst (λ x. SpellsOperands tokens (suc x.level) (after at) j b) (sym q) d;
-      goes = subst (λ x. Goes tokens m j (Joined x.operator at left b) to tree) (sym q) g
+      goes = subst (λ x. Goes tokens m j (Joined x.operator at left b) to tree) (sym q) g;
     }
 
 sign_follows : {tokens : List Token} {i : ℕ} (o : Operator) (least : ℕ) → level_of o ≤ least → kind_at tokens i ≡ kind.Sign (sign_of o) → Follows tokens (suc least) i
@@ -216,7 +216,7 @@ sign_follows {tokens} {i} o least h e =
     record {
       operator = ap (operator_in (suc least)) e ∙ left_at o (suc least) (omega (arith, h));
       dot = λ d. no_dot o (sym e ∙ d);
-      opens = not_open (slice_get tokens i) (kind.Sign (sign_of o)) e (no_open o)
+      opens = not_open (slice_get tokens i) (kind.Sign (sign_of o)) e (no_open o);
     }
 
 both_strips : {text : List ℕ} {tokens : List Token} {a b : ExprTree} (ls rs : List PlainToken) (o : Operator) (least : ℕ) → least ≤ level_of o → Strips text tokens ls a (sides o).left → Strips text tokens rs b (sides o).right → Strips text tokens (ls ++ Spaced (Sign (mark_of o)) ∷ rs) (Both o a b) least
@@ -231,7 +231,7 @@ both_strips {text} {tokens} {a} {b} ls rs o least ho sa sb m i end mid to left t
     record {
       left = Joined (Some o) w.mid x.left s.right;
       means = means.both o x.means y.means;
-      goes = subst (λ z. Goes tokens m z (Joined (Some o) w.mid x.left s.right) to tree) y.ends s.goes
+      goes = subst (λ z. Goes tokens m z (Joined (Some o) w.mid x.left s.right) to tree) y.ends s.goes;
     }
 
 framed_strips : {text : List ℕ} {tokens : List Token} {e : ExprTree} (v : Bool) (ts : List PlainToken) (least : ℕ) → ((i k : ℕ) → AreTold text tokens i (flat_map told_plain ts) k → IsNoKey (kind_at tokens i)) → Strips text tokens ts e 0 → (v ≡ false → Strips text tokens ts e least) → Strips text tokens (enclosed v ts) e least
