@@ -1,3 +1,4 @@
+pub mod Ends
 pub mod Forward
 pub mod Fronts
 pub mod Lexed

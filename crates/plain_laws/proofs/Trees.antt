@@ -159,7 +159,7 @@ expr_from ts strips k told f (swift.tried_optional e q d) = absurd (k word.Try e
 expr_from ts strips k told f (swift.awaited e d) = absurd (k word.Await e)
 expr_from ts strips k told f (swift.uncovered d) = choice_from ts strips told f d
 
-not_open : (o : Option Token) (k : TokenKind) → kind_in o ≡ k → is_open k ≡ false → opens_in o ≡ false
+pub not_open : (o : Option Token) (k : TokenKind) → kind_in o ≡ k → is_open k ≡ false → opens_in o ≡ false
 not_open None k e h = refl
 not_open (Some t) k e h = rw (e, h) refl
 

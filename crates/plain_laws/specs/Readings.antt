@@ -1,5 +1,5 @@
 -- What the reader's tokens and trees are of a script's expression. (Own.)
-use Rattle.std.specs.Prelude.{ℕ, ℤ, ◌≡◌, ◌≢◌, ◌-◌, List, [], ◌∷◌, ◌++◌, Bool, false, Some, None, codes, drop, take}
+use Rattle.std.specs.Prelude.{true, ℕ, ℤ, ◌≡◌, ◌≢◌, ◌-◌, List, [], ◌∷◌, ◌++◌, Bool, false, Some, None, codes, drop, take}
 use Rattle.std.specs.List.{flat_map}
 use Rattle.swift_types.specs.declared.operator.Operator.{Operator}
 use Rattle.script_tokens.specs.declared.mark.Mark.{Mark}
@@ -90,6 +90,18 @@ pub record EndsExpr (tokens : List Token) (i : ℕ) : Type 0 where
   pub dot : kind_at tokens i ≢ kind.Sign sign.Dot
   pub question : kind_at tokens i ≢ kind.Sign sign.Question
   pub opens : opens_at tokens i ≡ false
+
+-- whether a token ends what stands before it: a name, a keyword, the end of the text, or a sign that opens a block, closes or separates
+abbrev pub ends_before : TokenKind → Bool
+ends_before kind.Name = true
+ends_before (kind.Key w) = true
+ends_before kind.End = true
+ends_before (kind.Sign sign.Close) = true
+ends_before (kind.Sign sign.OpenBrace) = true
+ends_before (kind.Sign sign.CloseBrace) = true
+ends_before (kind.Sign sign.Comma) = true
+ends_before (kind.Sign sign.Semicolon) = true
+ends_before _ = false
 
 -- An expression of Swift means one of a script, of the same numbers, names and operators.
 pub data Means (text : List ℕ) (tokens : List Token) : SwiftTree → ExprTree → Type 0 where

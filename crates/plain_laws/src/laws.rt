@@ -3,9 +3,9 @@
 ghost use Rattle.std.specs.Prelude.{◌≡◌, ◌<◌, ◌^◌, ◌++◌, ℕ, List, true, false, length};
 ghost use Rattle.plain_parts.specs.Expressions.{as_test, expr_bytes, reads_plain, renamed};
 ghost use Rattle.script_grammar.specs.Tree.{ExprTree};
-ghost use Rattle.swift_syntax.specs.Expressions.{SpellsExpr, SwiftTree};
+ghost use Rattle.swift_syntax.specs.Expressions.{SpellsExpr, SwiftTree, kind_at};
 ghost use Rattle.swift_syntax.specs.declared.token.Token.{Token};
-ghost use Rattle.plain_laws.specs.Readings.{AreTold, EndsExpr, IsReadBack, Means, Rest, expr_told};
+ghost use Rattle.plain_laws.specs.Readings.{AreTold, EndsExpr, IsReadBack, Means, Rest, ends_before, expr_told};
 ghost use Rattle.plain_laws.specs.Texts.{IsWritable, goes_on};
 
 /// A law: where the tokens of a script's expression stand, as `--plain` writes it, the reader of Swift takes them, and no others, for an
@@ -24,4 +24,10 @@ pub fn expressions_are_read_back()
 /// A law: what `--plain` writes as a test can be written in Swift as well as the number that it tests. It does nothing.
 pub fn tests_are_writable()
     ensures { (f : List ℕ → List ℕ) (e : ExprTree) → IsWritable f e → IsWritable f (as_test e) }
+{}
+
+/// A law: behind what `--plain` writes of an expression stands a name or a keyword of the next line, a brace, a parenthesis that closes, a
+/// comma, or the end of the text: with none of them an expression goes on. It does nothing.
+pub fn expressions_end()
+    ensures { (tokens : List Token) (i : ℕ) → ends_before (kind_at tokens i) ≡ true → EndsExpr tokens i }
 {}
