@@ -3,7 +3,7 @@
 ghost use Rattle.std.specs.Prelude.{◌≡◌, IfNone, IsNone, IsSome};
 ghost use Rattle.swift_expressions.specs.Instructions.{IsPlaced, KeepsRefusal, Puts};
 ghost use Rattle.swift_lowering.specs.AssignmentsInside.{read_of, set_of};
-ghost use Rattle.swift_lowering.specs.Ends.{EndsInAssignment, EndsInChange, EndsInSet, operator_of};
+ghost use Rattle.swift_lowering.specs.EndsInside.{EndsInAssignment, EndsInChange, EndsInSet, operator_of};
 
 use crate::catching::{Held, begin_held};
 use crate::tasks::give_result;

@@ -2,7 +2,7 @@
 
 ghost use Rattle.std.specs.Prelude.{◌≡◌, IsNone};
 ghost use Rattle.swift_expressions.specs.Instructions.{KeepsRefusal};
-ghost use Rattle.swift_lowering.specs.Ends.{IsHandedOver};
+ghost use Rattle.swift_lowering.specs.EndsInside.{IsHandedOver};
 
 use crate::closure::ClosureBody;
 use swift_expressions::{

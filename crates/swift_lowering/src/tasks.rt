@@ -1,7 +1,7 @@
 //! Tasks, groups and bindings, beside their closures.
 
 ghost use Rattle.std.specs.Prelude.{IsNone};
-ghost use Rattle.swift_lowering.specs.Ends.{EndsCancelled};
+ghost use Rattle.swift_lowering.specs.EndsInside.{EndsCancelled};
 
 use crate::closure::{ClosureBody, MadeClosure, lone_value};
 use swift_expressions::{

@@ -1,7 +1,7 @@
 //! Methods that are put in where they are called.
 
 ghost use Rattle.std.specs.Prelude.{◌≡◌, IsTrue};
-ghost use Rattle.swift_translation.specs.Returns.{EndsInText, done_let, result_given};
+ghost use Rattle.swift_translation.specs.ReturnsInside.{EndsInText, done_let, result_given};
 
 use crate::naming::{write_made, write_made_between, write_variable};
 use crate::step::step;

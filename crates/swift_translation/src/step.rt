@@ -1,8 +1,8 @@
 //! Instructions as statements.
 
 ghost use Rattle.std.specs.Prelude.{◌≡◌, IsTrue};
-ghost use Rattle.swift_translation.specs.Returns.{EndsInText, IsPutIn, done_head, done_set};
-ghost use Rattle.swift_translation.specs.Words.{urgency_text};
+ghost use Rattle.swift_translation.specs.ReturnsInside.{EndsInText, IsPutIn, done_head, done_set};
+ghost use Rattle.swift_translation.specs.WordsInside.{urgency_text};
 ghost use Rattle.swift_translation.specs.WritingInside.{GoesOn};
 
 use crate::frame::{Frame, ResultPlace, put_in, skip_to};

@@ -1,7 +1,7 @@
 //! Values as expressions.
 
 ghost use Rattle.std.specs.Prelude.{◌≡◌};
-ghost use Rattle.swift_translation.specs.Words.{operator_text};
+ghost use Rattle.swift_translation.specs.WordsInside.{operator_text};
 
 use crate::actor::start_value;
 use crate::naming::{write_field_name, write_instance, write_name, write_variable};

@@ -1,5 +1,5 @@
 use Rattle.std.proofs.Common.{rules}
-use Rattle.swift_lowering.specs.Ends.{operator_of}
+use Rattle.swift_lowering.specs.EndsInside.{operator_of}
 use Rattle.swift_lowering.proofs.Changes.{assigned_change, assigned_set}
 use Rattle.swift_lowering.proofs.assignment.assign.Goals as goal
 
