@@ -1,4 +1,4 @@
 -- What instructions end in.
-pub mod Ends
+pub mod EndsInside
 -- Where an assignment goes.
 pub mod AssignmentsInside

@@ -3,7 +3,7 @@ pub mod MethodPlaces
 pub mod Names
 pub mod PlaceTexts
 pub mod Refusals
-pub mod Returns
+pub mod ReturnsInside
 pub mod Translations
-pub mod Words
+pub mod WordsInside
 pub mod WritingInside
