@@ -9,8 +9,8 @@
 
 use script_code::laws::{written_code_counts, written_code_implements, written_code_joins};
 use script_code::{
-    Act, Binding, FieldPlace, Formula, Instruction, Sight, holds, link, push_instruction, renumber,
-    value,
+    Act, Binding, FieldPlace, Formula, Instruction, Sight, holds, instructions_of, push_act,
+    push_loop, value,
 };
 use std::alloc::{AllocError, Global};
 use swift_locals::Bindings;
@@ -167,17 +167,13 @@ fn valued(alloc: Global, words: &mut Words<'_>, out: &mut Said) -> Result<(), Ca
     Ok(())
 }
 
-// The end, a place for the test, and the body.
+// The instructions of a loop whose body yields.
 fn while_code(alloc: Global) -> Result<Vec<Instruction>, AllocError> {
-    let mut lines = Vec::new(alloc);
-    push_instruction(&mut lines, Act::End, 0, 0)?;
-    push_instruction(&mut lines, Act::End, 0, 0)?;
-    push_instruction(&mut lines, Act::Yield, 1, 1)?;
-    if lines.len() == 3 {
-        link(&mut lines, 1, Act::Test(Formula::Number(1)), 2, 0);
-        renumber(&mut lines, 1);
-    }
-    Ok(lines)
+    let mut body = Vec::new(alloc);
+    push_act(&mut body, Act::Yield)?;
+    let mut statements = Vec::new(alloc);
+    push_loop(&mut statements, Formula::Number(1), body)?;
+    instructions_of(alloc, statements)
 }
 
 // The followers of each instruction.
