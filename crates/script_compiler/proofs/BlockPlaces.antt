@@ -1,5 +1,5 @@
 -- The places that a block's code names are below the number of places.
-use Rattle.script_compiler.proofs.Prelude.{◌≡◌, ◌<◌, ℕ, suc, List, [], ◌∷◌, map, Option, Some, None, IfSome, refl, sym, subst, arith, ◌==◌, AllByRecursion, cond_both, ExprTree, Number, Named, Local, OwnPriority, IsCancelled, Negated, Inverted, Both, CallTree, AwaitedTree, Called, TaskOf, NextOf, WaitTree, ValueTree, Computed, Waited, MakeTree, Spawned, Detached, ActionTree, Let, LetTask, Assign, Await, Makes, Adds, Cancel, Return, Throw, Check, Yield, HeadTree, If, While, Bind, Group, Assume, StmtTree, Do, Headed, IfElse, BlockTree, nothing, first_then, NameKind, place_of, ScopeView, meaning_of, past, past_awaited, past_head, past_stmt, past_block, at_name, number_fault, group_fault, bind_fault, or_else, new_fault, declared_fault, expression_error, expressions_error, optional_error, target_error, call_error, awaited_error, wait_error, value_error, make_error, action_error, head_error, stmt_error, block_error, scope_after, scope_within, NumberPlace, Variable, Field, Code, end, act, followed, PlaceCounts, PlanView, executor_at, numbers_in, handles_in, handle_place, place_named, term_at, lowered, lowered_if, target_of, task_named, wanted_of, wait_to, set_at, value_to, make_to, cancelled_named, action_code, headed_code, stmt_code, block_code, counts_of, counts_after, counts_within, most_in, most_of, TermBelow, PlaceBelow, TargetBelow, WantedBelow, CancelledBelow, OperationBelow, PlacesBelow, HoldsNoField}
+use Rattle.script_compiler.proofs.Prelude.{◌≡◌, ◌<◌, ℕ, suc, List, [], ◌∷◌, map, Option, Some, None, IfSome, refl, sym, subst, arith, ◌==◌, AllByRecursion, cond_both, ExprTree, Number, Named, Local, OwnPriority, IsCancelled, Negated, Inverted, Both, CallTree, AwaitedTree, Called, TaskOf, NextOf, WaitTree, ValueTree, Computed, Waited, MakeTree, Spawned, Detached, ActionTree, Let, LetTask, Assign, Await, Makes, Adds, Cancel, Return, Throw, Check, Yield, HeadTree, If, While, Bind, Group, Assume, StmtTree, Do, Headed, IfElse, BlockTree, nothing, first_then, NameKind, place_of, ScopeView, meaning_of, past, past_awaited, past_head, past_stmt, past_block, at_name, number_fault, group_fault, bind_fault, or_else, new_fault, declared_fault, expression_error, expressions_error, optional_error, target_error, call_error, awaited_error, wait_error, value_error, make_error, action_error, head_error, stmt_error, block_error, scope_after, scope_within, NumberPlace, Variable, Field, Code, end, act, PlaceCounts, PlanView, executor_at, numbers_in, handles_in, handle_place, place_named, term_at, lowered, lowered_if, target_of, task_named, wanted_of, wait_to, set_at, value_to, make_to, cancelled_named, action_code, headed_code, stmt_code, block_code, counts_of, counts_after, counts_within, most_in, most_of, TermBelow, PlaceBelow, TargetBelow, WantedBelow, CancelledBelow, OperationBelow, PlacesBelow, HoldsNoField}
 use Rattle.script_names.specs.declared.scope.NameKind.TheVariants as kind
 use Rattle.script_code.specs.Tree as code
 use Rattle.script_compiler.proofs.Clear.{earlier_none, at_name_none, or_else_none, is_group}

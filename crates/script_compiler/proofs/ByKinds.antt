@@ -1,8 +1,8 @@
 -- The plan of a script is that of its declarations by kinds.
-use Rattle.script_compiler.proofs.Prelude.{◌≡◌, ℕ, ◌+◌, ℤ, Bool, true, false, Option, Some, None, List, [], ◌∷◌, length, map, refl, sym, ap, ◌∙◌, if◌then◌else◌, MethodTree, ActorTree, DeclTree, Executes, Binds, Acts, Roots, is_among, place_of, method_key, DirectoryView, with_method, with_methods, with_actor, with_names, with_decl, with_decls, nothing_declared, directory_of, executors_in, PlanView, plan_of, defaults_in, on_executor, ScriptView, declarations_of, script_in, plan_in, IsChecked, executors_on, plan_from}
+use Rattle.script_compiler.proofs.Prelude.{◌≡◌, ◌≤◌, ℕ, suc, ◌+◌, ℤ, Bool, true, false, Option, Some, None, List, [], ◌∷◌, length, map, take, take_all, refl, sym, ap, ◌∙◌, arith, if◌then◌else◌, ACTORS, MethodTree, ActorTree, DeclTree, Executes, Binds, Acts, Roots, is_among, place_of, method_key, DirectoryView, with_method, with_methods, with_actor, with_names, with_decl, with_decls, nothing_declared, directory_of, executors_in, actors_in, names_error, PlanView, plan_of, defaults_in, on_executor, ScriptView, declarations_of, script_in, plan_in, executors_on}
 use Rattle.script_compiler.specs.Plan.{executors_from}
 use Rattle.script_printing.proofs.ByKind.{script_again}
-use Rattle.script_compiler.proofs.LoweredInOrder.{same_executors}
+use Rattle.script_compiler.proofs.LoweredInOrder.{actors_are_few, same_executors}
 
 -- what a directory has beside actors
 record Named : Type 0 where
@@ -121,15 +121,23 @@ plan_kinds xs =
 pub same_plan : (xs : List DeclTree) → plan_of xs ≡ plan_in (script_in xs)
 same_plan xs = plan_kinds xs ∙ ap plan_by (sym (script_again (script_in xs))) ∙ sym (plan_kinds (declarations_of (script_in xs)))
 
--- the plan that is made of declarations by kinds
-pub plan_made : (s : ScriptView) (d : DirectoryView) → IsChecked s d → plan_from d s.locals s.actors ≡ plan_in s
-plan_made s d c =
-    let xs = c.decls in
-    let t = script_in xs in
-    let from : DirectoryView → List (List ℕ) → PlanView = λ x names. record { directory = x; defaults = map (λ l. l.default) t.locals; executors = executors_on names (length names) t.actors } in
-    ap (λ (u : ScriptView). plan_from d u.locals u.actors) c.is
-    ∙ ap (from d) (same_executors d xs c.declared c.names ∙ names_kinds xs)
-    ∙ ap (λ (x : DirectoryView). from x (map (λ e. e.name) t.executors)) (c.declared ∙ directory_kinds xs)
-    ∙ sym (plan_kinds xs)
-    ∙ same_plan xs
-    ∙ ap plan_in (sym c.is)
+on_length : (declared : List (List ℕ)) (own : ℕ) (on : Option (List ℕ)) (f : ℕ → List ℕ) (n : ℕ) → ((k : ℕ) → length (f k) ≡ n) → length (on_executor declared own on f) ≡ suc n
+on_length declared own None f n h = ap suc (h (own + 1))
+on_length declared own (Some name) f n h = ap suc (h own)
+
+as_many : (declared : List (List ℕ)) (own : ℕ) (xs : List DeclTree) → length (executors_from declared own xs) ≡ length (actors_in xs)
+as_many declared own [] = refl
+as_many declared own (Executes x ∷ xs) = as_many declared own xs
+as_many declared own (Binds l ∷ xs) = as_many declared own xs
+as_many declared own (Acts a ∷ xs) = on_length declared own a.executor (λ next. executors_from declared next xs) (length (actors_in xs)) (λ k. as_many declared k xs)
+as_many declared own (Roots r ∷ xs) = as_many declared own xs
+
+-- the plan that is made of what is declared, and of the first actors, where the names of a script are in order
+pub plan_made : (xs : List DeclTree) (p : PlanView) → names_error xs ≡ None → p.directory ≡ directory_of xs → p.defaults ≡ defaults_in xs
+    → p.executors ≡ take ACTORS (executors_from (directory_of xs).executors (length (directory_of xs).executors) xs) → p ≡ plan_in (script_in xs)
+plan_made xs p e declared defaults executors =
+    let names : (directory_of xs).executors ≡ executors_in xs = same_executors (directory_of xs) xs refl e in
+    let all = executors_from (executors_in xs) (length (executors_in xs)) xs in
+    let few : length all ≤ ACTORS = omega (arith, as_many (executors_in xs) (length (executors_in xs)) xs, actors_are_few (directory_of xs) xs e) in
+    let every : p.executors ≡ all = executors ∙ ap (λ (ns : List (List ℕ)). take ACTORS (executors_from ns (length ns) xs)) names ∙ take_all ACTORS all few in
+    (λ i. record { directory = declared i; defaults = defaults i; executors = every i }) ∙ same_plan xs

@@ -1,6 +1,7 @@
 -- Executors, by how many actors there are and by the actors.
-use Rattle.script_compiler.proofs.Prelude.{◌≡◌, ℕ, suc, ◌+◌, Option, Some, List, [], ◌∷◌, ◌++◌, length, map, refl, sym, ap, subst, ◌∙◌, add-zero, arith, ◌==◌, if◌then◌else◌, All, length-map, ExecutorTree, ActorTree, PlanView, executor_at, Formula, Term, term_of, terms_of, term_if_lent, CompiledActor, CompiledExecutor, ActorView, ExecutorView, members_from, executors_from, actors_from, term_list, actor_view, executor_view, HasInvariants, members_below, executors_by}
+use Rattle.script_compiler.proofs.Prelude.{◌≡◌, ◌≤◌, ℕ, suc, ◌+◌, Option, Some, List, [], ◌∷◌, ◌++◌, length, map, take, refl, sym, ap, subst, ◌∙◌, take-append-le, ACTORS, add-zero, arith, ◌==◌, if◌then◌else◌, All, length-map, ExecutorTree, ActorTree, DeclTree, Decl, view_decl, PlanView, executor_at, Formula, Term, term_of, terms_of, term_if_lent, CompiledActor, CompiledExecutor, ActorView, ExecutorView, members_from, executors_from, actors_from, term_list, actor_view, executor_view, HasInvariants, members_below, executors_by}
 use denote.Bor.{Bor}
+use Rattle.script_compiler.specs.Plan.{executors_from as executor_list}
 
 same_members : (p : PlanView) (e k : ℕ) (ts : List ActorTree) → members_below p e k (length ts) ≡ members_from p e k ts
 same_members p e k [] = refl
@@ -62,3 +63,8 @@ copy_made all more o b f is same pushed =
     ∙ pushed_term all f
     ∙ ap (λ (t : Term). terms_of all ++ t ∷ []) same
     ∙ ap (λ (p : Option (Bor Formula)). terms_of all ++ term_list (term_if_lent p)) (sym is)
+
+-- where there are as many as there may be, the executor of one actor more does not count
+pub executor_passed : (names : List (List ℕ)) (own : ℕ) (x : Decl) (rest : List DeclTree) (done whole : List ℕ) → ACTORS ≤ length done
+    → take ACTORS (done ++ executor_list names own (view_decl x ∷ rest)) ≡ whole → take ACTORS (done ++ executor_list names own rest) ≡ whole
+executor_passed names own x rest done whole many before = take-append-le ACTORS done _ many ∙ sym (take-append-le ACTORS done _ many) ∙ before

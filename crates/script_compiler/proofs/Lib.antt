@@ -6,8 +6,7 @@ pub mod Operations
 pub mod WaitsSame
 pub mod ExecutorsMade
 pub mod ByKinds
-pub mod RootsMade
-pub mod CallsMade
+pub mod PartsMade
 pub mod InOrder
 pub mod CallsThere
 pub mod MethodsFit
@@ -23,10 +22,10 @@ pub mod Named
 pub mod BlockPlaces
 pub mod Callable
 pub mod Parameters
+pub mod Standing
 pub mod BlockCalls
 pub mod Agreed
 pub mod BlockHandles
-pub mod New
 pub mod WholeScripts
 pub mod LoweredInOrder
 pub mod Room

@@ -1,12 +1,8 @@
 -- Where the names of a script are in order, few executors and actors are declared.
-use Rattle.script_compiler.proofs.Prelude.{◌≡◌, ◌<◌, ◌≤◌, ◌+◌, ℕ, suc, Bool, true, false, nat_le, List, [], ◌∷◌, length, None, ap, refl, ◌∙◌, arith, leb-false, ACTORS, EXECUTORS, DeclTree, Executes, Binds, Acts, Roots, NameErrorKind, TooMany, DirectoryView, directory_of, executors_in, actors_in, SeenView, at_name, where_so, repeat_error, executor_error, actor_error, decl_error, past_decl, seen_after, declarations_error, names_error, nothing_left_out}
-use Rattle.script_compiler.proofs.Clear.{earlier_none, at_name_none}
+use Rattle.script_compiler.proofs.Prelude.{◌≡◌, ◌<◌, ◌≤◌, ◌+◌, ℕ, suc, nat_le, List, [], ◌∷◌, length, None, ap, ◌∙◌, arith, leb-false, ACTORS, EXECUTORS, DeclTree, Executes, Binds, Acts, Roots, TooMany, DirectoryView, directory_of, executors_in, actors_in, SeenView, at_name, where_so, repeat_error, executor_error, actor_error, decl_error, past_decl, seen_after, declarations_error, names_error, nothing_left_out}
+use Rattle.script_compiler.proofs.Clear.{earlier_none, at_name_none, not_so}
 
-not_so : (b : Bool) (k : NameErrorKind) → where_so b k ≡ None → b ≡ false
-not_so true k e = absurd (cc)
-not_so false k e = refl
-
-below : (limit n at : ℕ) → at_name at (where_so (nat_le limit n) TooMany) ≡ None → n < limit
+pub below : (limit n at : ℕ) → at_name at (where_so (nat_le limit n) TooMany) ≡ None → n < limit
 below limit n at e = leb-false limit n (not_so (nat_le limit n) TooMany (at_name_none at _ e))
 
 -- the errors of the first declaration and of those after it

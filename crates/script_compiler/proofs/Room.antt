@@ -1,64 +1,86 @@
 -- How much a script that is no larger than its text declares, and how many names stand and how many instructions are written in it.
-use Rattle.script_compiler.proofs.Prelude.{◌≡◌, ◌≤◌, ◌<◌, ◌+◌, ◌*◌, ℕ, zero, suc, List, [], ◌∷◌, ◌++◌, length, map, drop, get_or, ap, subst, sym, ◌∙◌, arith, length-append, Bool, true, false, cond, if◌then◌else◌, count_by, slice_get, unwrap_or, None, length-map, sum_by-cons, BYTES, Stmt, Computed, Waited, ActionTree, Let, LetTask, Assign, HeadTree, If, While, Bind, Group, Assume, StmtTree, Do, Headed, IfElse, BlockTree, nothing, first_then, block_tree, view_stmt, MethodTree, DeclTree, Executes, Binds, Acts, Roots, stmt_size, block_size, methods_size, script_size, NameKind, DirectoryView, directory_of, declared_in, locals_in, roots_in, actors_in, fields_in, ScopeView, with_standing, names_error, scope_after, scope_within, with_parameters, nothing_left_out, Code, act, end, unbind, close_group, assume, isolated, count, count_then, PlanView, is_number, is_handle, action_code, headed_code, stmt_code, block_code}
+use Rattle.script_compiler.proofs.Prelude.{◌≡◌, ◌≤◌, ◌<◌, ◌+◌, ◌*◌, ℕ, zero, suc, List, [], ◌∷◌, ◌++◌, length, map, drop, get_or, ap, arith, length-append, Bool, true, false, cond, if◌then◌else◌, count_by, slice_get, unwrap_or, length-map, sum_by-cons, cond_both, BYTES, Stmt, Name, text_of, Computed, Waited, ActionTree, Let, LetTask, Assign, HeadTree, If, While, Bind, Group, Assume, StmtTree, Do, Headed, IfElse, BlockTree, nothing, first_then, block_tree, view_stmt, MethodTree, ActorTree, DeclTree, Executes, Binds, Acts, Roots, stmt_size, block_size, methods_size, actor_size, decl_size, script_size, NameKind, is_among, with_name, method_key, DirectoryView, fields_at, fields_alone, field_names, with_names, with_method, with_methods, with_actor, with_decl, with_decls, nothing_declared, directory_of, ScopeView, with_standing, scope_after, scope_within, with_parameters, Code, act, end, unbind, close_group, assume, isolated, count, count_then, PlanView, is_number, is_handle, action_code, headed_code, stmt_code, block_code, HasFewNames}
 use Rattle.script_names.specs.declared.scope.NameKind.TheVariants as kind
-use Rattle.script_names.specs.Directory.{methods_from}
-use Rattle.script_compiler.specs.Few.{HasFewNames}
 use Rattle.script_compiler.proofs.Blocks.{at_item}
-
--- no more task locals, roots, actors and methods than the script is large
-few_locals : (xs : List DeclTree) → length (locals_in xs) ≤ script_size xs
-few_locals [] = omega arith
-few_locals (Executes x ∷ xs) = omega (arith, few_locals xs)
-few_locals (Binds l ∷ xs) = omega (arith, few_locals xs)
-few_locals (Acts a ∷ xs) = omega (arith, few_locals xs)
-few_locals (Roots r ∷ xs) = omega (arith, few_locals xs)
-
-few_roots : (xs : List DeclTree) → length (roots_in xs) ≤ script_size xs
-few_roots [] = omega arith
-few_roots (Executes x ∷ xs) = omega (arith, few_roots xs)
-few_roots (Binds l ∷ xs) = omega (arith, few_roots xs)
-few_roots (Acts a ∷ xs) = omega (arith, few_roots xs)
-few_roots (Roots r ∷ xs) = omega (arith, few_roots xs)
-
-few_actors : (xs : List DeclTree) → length (actors_in xs) ≤ script_size xs
-few_actors [] = omega arith
-few_actors (Executes x ∷ xs) = omega (arith, few_actors xs)
-few_actors (Binds l ∷ xs) = omega (arith, few_actors xs)
-few_actors (Acts a ∷ xs) = omega (arith, few_actors xs)
-few_actors (Roots r ∷ xs) = omega (arith, few_actors xs)
 
 pub few_in : (ms : List MethodTree) → length ms ≤ methods_size ms
 few_in [] = omega arith
 few_in (m ∷ ms) = omega (arith, few_in ms)
 
-few_methods : (k : ℕ) (xs : List DeclTree) → length (methods_from k xs) ≤ script_size xs
-few_methods k [] = omega arith
-few_methods k (Executes x ∷ xs) = omega (arith, few_methods k xs)
-few_methods k (Binds l ∷ xs) = omega (arith, few_methods k xs)
-few_methods k (Acts a ∷ xs) =
-    let key = λ (m : MethodTree). k ∷ m.name in
-    omega (arith, few_methods (k + 1) xs, few_in a.methods, length-map a.methods key, length-append (map key a.methods) (methods_from (k + 1) xs))
-few_methods k (Roots r ∷ xs) = omega (arith, few_methods k xs)
+-- No more executors, task locals, roots, actors and methods are declared than this, and no actor has more fields.
+record AreFew (n : ℕ) (d : DirectoryView) : Type 0 where
+  executors : length d.executors ≤ n
+  locals : length d.locals ≤ n
+  roots : length d.roots ≤ n
+  actors : length d.actors ≤ n
+  methods : length d.methods ≤ n
+  fields : (actor : ℕ) → length (fields_at d actor) ≤ n
 
-few_fields : (xs : List DeclTree) (k : ℕ) → length (unwrap_or (slice_get (fields_in xs) k) []) ≤ script_size xs
-few_fields [] k = omega arith
-few_fields (Executes x ∷ xs) k = omega (arith, few_fields xs k)
-few_fields (Binds l ∷ xs) k = omega (arith, few_fields xs k)
-few_fields (Acts a ∷ xs) zero = omega (arith, length-map a.fields (λ f. f.name))
-few_fields (Acts a ∷ xs) (suc k) = omega (arith, few_fields xs k)
-few_fields (Roots r ∷ xs) k = omega (arith, few_fields xs k)
-
-declares_few : (xs : List DeclTree) → script_size xs ≤ BYTES → HasFewNames (declared_in xs)
-declares_few xs h = record {
-  locals = omega (arith, h, few_locals xs);
-  roots = omega (arith, h, few_roots xs);
-  actors = omega (arith, h, few_actors xs);
-  methods = omega (arith, h, few_methods 0 xs);
-  fields = λ k. omega (arith, h, few_fields xs k);
+wider : (m n : ℕ) (d : DirectoryView) → m ≤ n → AreFew m d → AreFew n d
+wider m n d le h = record {
+  executors = omega (arith, le, h.executors);
+  locals = omega (arith, le, h.locals);
+  roots = omega (arith, le, h.roots);
+  actors = omega (arith, le, h.actors);
+  methods = omega (arith, le, h.methods);
+  fields = λ k. let f = h.fields k in omega (arith, le, f);
 }
 
-pub few_names : (d : DirectoryView) (xs : List DeclTree) → d ≡ directory_of xs → names_error xs ≡ None → script_size xs ≤ BYTES → HasFewNames d
-few_names d xs is e h = subst HasFewNames (sym (is ∙ nothing_left_out xs e)) (declares_few xs h)
+one_name : (names : List (List ℕ)) (name : List ℕ) → length (with_name names name) ≤ length names + 1
+one_name names name =
+    cond_both (is_among names name) names (names ++ name ∷ []) (λ (xs : List (List ℕ)). length xs ≤ length names + 1) (λ _. omega arith) (λ _. omega (arith, length-append names (name ∷ [])))
+
+some_names : (seen names : List (List ℕ)) → length (with_names seen names) ≤ length seen + length names
+some_names seen [] = omega arith
+some_names seen (n ∷ ns) = omega (arith, some_names (with_name seen n) ns, one_name seen n)
+
+method_more : (k : ℕ) (m : MethodTree) (n : ℕ) (d : DirectoryView) → AreFew n d → AreFew (suc n) (with_method k m d)
+method_more k m n d h =
+    let key = method_key k m.name in
+    let more = record d { methods = d.methods ++ key ∷ []; params = d.params ++ length m.params ∷ [] } in
+    let here = wider n (suc n) d (omega arith) h in
+    cond_both (is_among d.methods key) d more (AreFew (suc n)) (λ _. here)
+    (λ _. record { executors = here.executors; locals = here.locals; roots = here.roots; actors = here.actors; methods = omega (arith, h.methods, length-append d.methods (key ∷ [])); fields = here.fields })
+
+methods_more : (k : ℕ) (ms : List MethodTree) (n : ℕ) (d : DirectoryView) → AreFew n d → AreFew (n + methods_size ms) (with_methods k ms d)
+methods_more k [] n d h = wider n (n + 0) d (omega arith) h
+methods_more k (m ∷ ms) n d h =
+    wider (suc n + methods_size ms) (n + methods_size (m ∷ ms)) (with_methods k (m ∷ ms) d) (omega arith) (methods_more k ms (suc n) (with_method k m d) (method_more k m n d h))
+
+fields_more : (xs : List (List (List ℕ))) (y : List (List ℕ)) (k n : ℕ) → ((j : ℕ) → length (unwrap_or (slice_get xs j) []) ≤ n) → length y ≤ n → length (unwrap_or (slice_get (xs ++ y ∷ []) k) []) ≤ n
+fields_more [] y zero n h l = l
+fields_more [] y (suc k) n h l = omega arith
+fields_more (x ∷ xs) y zero n h l = h zero
+fields_more (x ∷ xs) y (suc k) n h l = fields_more xs y k n (λ j. h (suc j)) l
+
+actor_more : (a : ActorTree) (n : ℕ) (d : DirectoryView) → AreFew n d → AreFew (n + actor_size a) (with_actor a d)
+actor_more a n d h =
+    let own = with_names [] (field_names a.fields) in
+    let alone = record d { actors = d.actors ++ a.name ∷ []; fields = d.fields ++ own ∷ [] } in
+    let m = n + suc (length a.fields) in
+    let here = wider n m d (omega arith) h in
+    let few : length own ≤ m = omega (arith, some_names [] (field_names a.fields), length-map a.fields (λ f. f.name)) in
+    let one : AreFew m alone =
+    record { executors = here.executors; locals = here.locals; roots = here.roots; actors = omega (arith, h.actors, length-append d.actors (a.name ∷ [])); methods = here.methods; fields = λ k. fields_more d.fields own k m here.fields few } in
+    cond_both (is_among d.actors a.name) d (with_methods (length d.actors) a.methods alone) (AreFew (n + actor_size a)) (λ _. wider n (n + actor_size a) d (omega arith) h)
+    (λ _. wider (m + methods_size a.methods) (n + actor_size a) (with_methods (length d.actors) a.methods alone) (omega arith) (methods_more (length d.actors) a.methods m alone one))
+
+decl_more : (x : DeclTree) (n : ℕ) (d : DirectoryView) → AreFew n d → AreFew (n + decl_size x) (with_decl x d)
+decl_more (Executes x) n d h = let here = wider n (n + 1) d (omega arith) h in record { executors = omega (arith, h.executors, one_name d.executors x.name); locals = here.locals; roots = here.roots; actors = here.actors; methods = here.methods; fields = here.fields }
+decl_more (Binds l) n d h = let here = wider n (n + 1) d (omega arith) h in record { executors = here.executors; locals = omega (arith, h.locals, one_name d.locals l.name); roots = here.roots; actors = here.actors; methods = here.methods; fields = here.fields }
+decl_more (Acts a) n d h = actor_more a n d h
+decl_more (Roots r) n d h = let here = wider n (n + 1) d (omega arith) h in record { executors = here.executors; locals = here.locals; roots = omega (arith, h.roots, one_name d.roots r.name); actors = here.actors; methods = here.methods; fields = here.fields }
+
+decls_more : (xs : List DeclTree) (n : ℕ) (d : DirectoryView) → AreFew n d → AreFew (n + script_size xs) (with_decls xs d)
+decls_more [] n d h = wider n (n + 0) d (omega arith) h
+decls_more (x ∷ xs) n d h = wider (n + decl_size x + script_size xs) (n + script_size (x ∷ xs)) (with_decls (x ∷ xs) d) (omega arith) (decls_more xs (n + decl_size x) (with_decl x d) (decl_more x n d h))
+
+-- a script declares no more than it is large, whatever its names
+pub few_names : (xs : List DeclTree) → script_size xs ≤ BYTES → HasFewNames (directory_of xs)
+few_names xs h =
+    let none : AreFew 0 nothing_declared = record { executors = omega arith; locals = omega arith; roots = omega arith; actors = omega arith; methods = omega arith; fields = λ k. omega arith } in
+    let few = decls_more xs 0 nothing_declared none in
+    record { executors = omega (arith, h, few.executors); locals = omega (arith, h, few.locals); roots = omega (arith, h, few.roots); actors = omega (arith, h, few.actors); methods = omega (arith, h, few.methods); fields = λ k. let f = few.fields k in omega (arith, h, f) }
 
 -- a name is a number or a handle, not both
 one_at_most : (k : NameKind) → cond (is_number k) 1 0 + cond (is_handle k) 1 0 ≤ 1
@@ -135,3 +157,8 @@ size_left (x ∷ xs) (suc i) = omega (arith, size_left xs i)
 pub parameters_stand : (s : ScopeView) (names : List (List ℕ)) → length (with_parameters s names).kinds ≡ length s.kinds + length names
 parameters_stand s [] = omega arith
 parameters_stand s (n ∷ ns) = omega (arith, parameters_stand (with_standing s n kind.Number) ns, one_stands s.kinds kind.Number)
+
+-- where nothing stood but fields, no more than parameters do
+pub parameters_alone : (d : DirectoryView) (k : ℕ) (s t : ScopeView) (params : List Name) → s ≡ fields_alone d k → t ≡ with_parameters s (map text_of params) → length t.kinds ≡ length params
+parameters_alone d k s t params alone after =
+    omega (arith, ap (λ (y : ScopeView). length y.kinds) after, parameters_stand s (map text_of params), ap (λ (y : ScopeView). length y.kinds) alone, length-map params text_of)

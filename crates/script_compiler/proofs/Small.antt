@@ -1,5 +1,5 @@
 -- Sizes, one thing after the other; and a script that is no larger than its text has few methods.
-use Rattle.script_compiler.proofs.Prelude.{◌≡◌, ◌≤◌, ◌<◌, ◌+◌, ℕ, suc, List, [], ◌∷◌, length, map, drop, get_or, ap, arith, length-append, AllZip, length-map, BYTES, Method, Actor, view_method, view_actor, DeclTree, Executes, Binds, Acts, Roots, method_size, methods_size, script_size, DirectoryView, ScriptView, script_in, IsChecked, PlanView, actors_size, Compiled, method_of, methods_from, compiled_by, IsCompiled}
+use Rattle.script_compiler.proofs.Prelude.{◌≡◌, ◌≤◌, ◌<◌, ◌+◌, ℕ, suc, List, [], ◌∷◌, length, map, drop, get_or, ap, arith, length-append, AllZip, length-map, BYTES, Method, view_method, DeclTree, Executes, Binds, Acts, Roots, method_size, methods_size, script_size, script_in, PlanView, Compiled, method_of, methods_from, compiled_by, IsCompiled}
 use Rattle.script_compiler.proofs.Room.{few_in}
 use Rattle.script_compiler.proofs.Steps.{front}
 
@@ -7,23 +7,6 @@ use Rattle.script_compiler.proofs.Steps.{front}
 pub method_next : (ms : List Method) (i : ℕ) (m : Method) → i < length ms → m ≡ get_or ms i m
     → methods_size (map view_method (drop i ms)) ≡ method_size (view_method m) + methods_size (map view_method (drop (i + 1) ms))
 method_next ms i m h is = ap (λ (xs : List Method). methods_size (map view_method xs)) (front ms i m h is)
-
--- the next of some actors, and those after it
-pub actor_next : (actors : List Actor) (i : ℕ) (a : Actor) (ms : List Method) → i < length actors → a ≡ get_or actors i a → ms ≡ a.methods.items
-    → methods_size (map view_method ms) + actors_size (map view_actor (drop (i + 1) actors)) ≤ actors_size (map view_actor (drop i actors))
-actor_next actors i a ms h is same =
-    omega (arith, ap (λ (xs : List Actor). actors_size (map view_actor xs)) (front actors i a h is), ap (λ (xs : List Method). methods_size (map view_method xs)) same)
-
--- actors are no larger than their script
-actors_small : (xs : List DeclTree) → actors_size (script_in xs).actors ≤ script_size xs
-actors_small [] = omega arith
-actors_small (Executes x ∷ xs) = omega (arith, actors_small xs)
-actors_small (Binds l ∷ xs) = omega (arith, actors_small xs)
-actors_small (Acts a ∷ xs) = omega (arith, actors_small xs)
-actors_small (Roots r ∷ xs) = omega (arith, actors_small xs)
-
-pub small_here : (s : ScriptView) (d : DirectoryView) → IsChecked s d → actors_size s.actors ≤ BYTES
-small_here s d c = omega (arith, actors_small c.decls, ap (λ (t : ScriptView). actors_size t.actors) c.is, c.size)
 
 -- two lists that agree are as long
 as_long : {A B : Type 0} (R : A → B → Type 0) (xs : List A) (ys : List B) → AllZip R xs ys → length xs ≡ length ys

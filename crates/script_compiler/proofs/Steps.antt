@@ -1,5 +1,5 @@
 -- One thing more, as a loop takes it.
-use Rattle.script_compiler.proofs.Prelude.{◌≡◌, ℕ, suc, ◌+◌, ◌-◌, ◌<◌, Bool, true, false, refl, List, [], ◌∷◌, ◌++◌, length, map, get_or, drop, take, eqb, add-one, drop-cons, sym, ap, subst, ◌∙◌, append_assoc, arith, if◌then◌else◌, AllZip, map_push, take_more, eqb-true, eq-eqb, ActorId, MethodTree, view_method, view_actor, Method, Actor, PlanView, executor_at, CompiledMethod, MethodView, method_of, methods_from, actor_number, IsMethod, members_below}
+use Rattle.script_compiler.proofs.Prelude.{◌≡◌, ℕ, suc, ◌+◌, ◌-◌, ◌<◌, Bool, true, false, refl, List, [], ◌∷◌, ◌++◌, length, map, get_or, drop, take, eqb, add-one, drop-cons, sym, ap, subst, ◌∙◌, append_assoc, arith, if◌then◌else◌, AllZip, map_push, take_more, eqb-true, eq-eqb, ActorId, MethodTree, view_method, Method, PlanView, executor_at, CompiledMethod, MethodView, actor_number, IsMethod, members_below}
 
 -- the first of what is left
 pub front : {A : Type 0} (xs : List A) (i : ℕ) (x : A) → i < length xs → x ≡ get_or xs i x → drop i xs ≡ x ∷ drop (i + 1) xs
@@ -71,29 +71,3 @@ method_more f ms i m all more x done lt is pushed made before =
     subst (λ (vs : List MethodView). AllZip IsMethod more vs) all_views
     (subst (λ (ys : List CompiledMethod). AllZip IsMethod ys ((done ++ so_far) ++ f (view_method m) ∷ [])) (sym pushed)
     (zip_push IsMethod all (done ++ so_far) x (f (view_method m)) before made))
-
--- So much is done: what is compiled, and with what is left it is the whole.
-pub record AreDone (p : PlanView) (k : ℕ) (all : List CompiledMethod) (left : List Actor) (whole : List MethodView) : Type 0 where
-  pub views : List MethodView
-  pub compiled : AllZip IsMethod all views
-  pub with_left : views ++ methods_from p k (map view_actor left) ≡ whole
-
--- the methods of one actor more
-pub actor_more : (p : PlanView) (actors : List Actor) (i : ℕ) (a : Actor) (ms : List Method) (all more : List CompiledMethod) (whole : List MethodView)
-    → i < length actors → a ≡ get_or actors i a → ms ≡ a.methods.items
-    → ((done : List MethodView) → AllZip IsMethod all done → AllZip IsMethod more (done ++ map (method_of p i) (map view_method ms)))
-    → AreDone p i all (drop i actors) whole → AreDone p (i + 1) more (drop (i + 1) actors) whole
-actor_more p actors i a ms all more whole lt is same made before =
-    let left = drop (i + 1) actors in
-    let here = map (method_of p i) (map view_method ms) in
-    let rest : ℕ → List MethodView = λ n. methods_from p n (map view_actor left) in
-    record {
-      views = before.views ++ here;
-      compiled = made before.views before.compiled;
-      with_left =
-          ap (λ n. (before.views ++ here) ++ rest n) (add-one i)
-          ∙ append_assoc before.views here (rest (suc i))
-          ∙ ap (λ (xs : List Method). before.views ++ (map (method_of p i) (map view_method xs) ++ rest (suc i))) same
-          ∙ ap (λ (xs : List Actor). before.views ++ methods_from p i (map view_actor xs)) (sym (front actors i a lt is))
-          ∙ before.with_left;
-    }

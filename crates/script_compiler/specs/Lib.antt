@@ -1,9 +1,8 @@
 pub mod Compiled
-pub mod Checked
+pub mod PartsInside
 pub mod Starts
 pub mod IsCompiled
 pub mod MembersInside
-pub mod NamesInside
 pub mod RowsInside
 pub mod Waiting
 pub mod Calls
@@ -12,7 +11,6 @@ pub mod ActsInside
 pub mod Plan
 pub mod PlanInside
 pub mod Lowered
-pub mod New
 pub mod Counts
 pub mod StandingInside
 pub mod Parts

@@ -1,10 +1,10 @@
--- What is known of a plan while it is made and kept. No public clause names these words.
-use Rattle.std.specs.Prelude.{ℕ, ◌≤◌, List, [], ◌∷◌, length, map}
+-- What is known of a plan while it is kept. No public clause names these words.
+use Rattle.std.specs.Prelude.{ℕ, ◌≤◌, List, [], ◌∷◌, length}
 use Rattle.swift_types.specs.declared.limits.TheConstants.{ACTORS}
-use Rattle.script_grammar.specs.Tree.{LocalTree, ActorTree}
+use Rattle.script_grammar.specs.Tree.{ActorTree}
 use Rattle.script_names.specs.Directory.{DirectoryView}
 use Rattle.script_compiler.specs.Few.{HasFewNames}
-use Rattle.script_compiler.specs.Plan.{PlanView, on_executor, AreActorPlaces}
+use Rattle.script_compiler.specs.Plan.{on_executor, AreActorPlaces}
 
 -- A script declares few names, its actors are as few as it may have, and each has its place among those of its executor.
 pub record IsSmallPlan (d : DirectoryView) (executors places : List ℕ) : Type 0 where
@@ -16,7 +16,3 @@ pub record IsSmallPlan (d : DirectoryView) (executors places : List ℕ) : Type 
 abbrev pub executors_on : List (List ℕ) → ℕ → List ActorTree → List ℕ
 executors_on declared own [] = []
 executors_on declared own (a ∷ others) = on_executor declared own a.executor (λ next. executors_on declared next others)
-
--- the plan of a script that declares this, by its task locals and actors
-abbrev pub plan_from : DirectoryView → List LocalTree → List ActorTree → PlanView
-plan_from d locals actors = record { directory = d; defaults = map (λ l. l.default) locals; executors = executors_on d.executors (length d.executors) actors }

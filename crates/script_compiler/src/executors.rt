@@ -2,7 +2,8 @@
 
 ghost use Rattle.std.specs.Prelude.{◌≡◌, ◌≤◌, ◌++◌, ◌∷◌, [], All, length, map, slice_get, IfOk, OnOk};
 ghost use Rattle.swift_types.specs.declared.limits.TheConstants.{ACTORS};
-ghost use Rattle.script_grammar.specs.Tree.{view_executor, view_actor};
+ghost use Rattle.script_grammar.specs.Tree.{view_decl};
+ghost use Rattle.script_printing.specs.Script.{script_in};
 ghost use Rattle.script_code.specs.Seen.{term_if_lent};
 ghost use Rattle.script_code.specs.Tree.{terms_of};
 ghost use Rattle.script_compiler.specs.Compiled.{own_executors, invariant_if, term_list, invariants_among};
@@ -13,7 +14,7 @@ use crate::compiled::{CompiledActor, CompiledExecutor};
 use crate::copy::copy_formula;
 use crate::lowering::Plan;
 use script_code::Formula;
-use script_grammar::{Actor, Executor};
+use script_grammar::Decl;
 use std::alloc::{AllocError, Global};
 use swift_types::{ActorId, ExecutorKind};
 
@@ -118,26 +119,23 @@ fn add(
     Ok(())
 }
 
+// The executors that are declared.
 fn compile_declared(
     alloc: Global,
     plan: &Plan,
     actors: &[CompiledActor],
-    executors: &[Executor],
+    decls: &[Decl],
 ) -> Result<Vec<CompiledExecutor>, AllocError>
     requires { length actors.now ≤ ACTORS }
-    ensures view { IfOk result (λ v. map executor_view v.items ≡ executors_by plan.now (length actors.now) 0 (map view_executor executors.now)) }
+    ensures view { IfOk result (λ v. map executor_view v.items ≡ executors_by plan.now (length actors.now) 0 (script_in (map view_decl decls.now)).executors) }
     ensures invariants { IfOk result (λ v. All (HasInvariants (map actor_view actors.now)) v.items) }
 {
     let mut all = Vec::new(alloc);
-    for executor in executors {
-        add(
-            alloc,
-            plan,
-            actors,
-            &executor.name.text,
-            executor.kind,
-            &mut all,
-        )?;
+    for decl in decls {
+        if let Decl::Executor(executor) = decl {
+            let name = &executor.name.text;
+            add(alloc, plan, actors, name, executor.kind, &mut all)?;
+        }
     }
     Ok(all)
 }
@@ -147,24 +145,20 @@ fn add_own(
     alloc: Global,
     plan: &Plan,
     actors: &[CompiledActor],
-    declared: &[Actor],
+    decls: &[Decl],
     all: &mut Vec<CompiledExecutor>,
 ) -> Result<(), AllocError>
     requires actors { length actors.now ≤ ACTORS }
     requires invariants { All (HasInvariants (map actor_view actors.now)) all.old.items }
-    ensures view { OnOk result (map executor_view all.new.items ≡ map executor_view all.old.items ++ executors_by plan.now (length actors.now) (length all.old.items) (own_executors (map view_actor declared.now))) }
+    ensures view { OnOk result (map executor_view all.new.items ≡ map executor_view all.old.items ++ executors_by plan.now (length actors.now) (length all.old.items) (own_executors (script_in (map view_decl decls.now)).actors)) }
     ensures invariants { OnOk result (All (HasInvariants (map actor_view actors.now)) all.new.items) }
 {
-    for actor in declared {
-        if actor.executor.is_none() {
-            add(
-                alloc,
-                plan,
-                actors,
-                &actor.name.text,
-                ExecutorKind::Priority,
-                all,
-            )?;
+    for decl in decls {
+        if let Decl::Actor(actor) = decl
+            && actor.executor.is_none()
+        {
+            let name = &actor.name.text;
+            add(alloc, plan, actors, name, ExecutorKind::Priority, all)?;
         }
     }
     Ok(())
@@ -176,14 +170,14 @@ pub(crate) fn compile_executors(
     alloc: Global,
     plan: &Plan,
     actors: &[CompiledActor],
-    executors: &[Executor],
-    declared: &[Actor],
+    decls: &[Decl],
 ) -> Result<Vec<CompiledExecutor>, AllocError>
     requires { length actors.now ≤ ACTORS }
-    ensures view { IfOk result (λ v. map executor_view v.items ≡ executors_by plan.now (length actors.now) 0 (map view_executor executors.now ++ own_executors (map view_actor declared.now))) }
+    ensures view { let tree = script_in (map view_decl decls.now) in
+        IfOk result (λ v. map executor_view v.items ≡ executors_by plan.now (length actors.now) 0 (tree.executors ++ own_executors tree.actors)) }
     ensures invariants { IfOk result (λ v. All (HasInvariants (map actor_view actors.now)) v.items) }
 {
-    let mut all = compile_declared(alloc, plan, actors, executors)?;
-    add_own(alloc, plan, actors, declared, &mut all)?;
+    let mut all = compile_declared(alloc, plan, actors, decls)?;
+    add_own(alloc, plan, actors, decls, &mut all)?;
     Ok(all)
 }

@@ -2,8 +2,6 @@
 //! by numbers.
 #![tactic(auto)]
 
-// Actors.
-mod actors;
 // What a script is compiled to.
 mod compiled;
 // From declarations to all of that.
@@ -16,10 +14,6 @@ mod executors;
 pub mod laws;
 // From the tree of a method to its instructions.
 pub mod lowering;
-// Methods.
-mod methods;
-// Roots and task locals.
-mod roots;
 // What fields start with, and the invariants at the start.
 mod start;
 // Roots that wait for themselves or for later ones.

@@ -1,5 +1,6 @@
 -- An error of a declaration is that of the declarations from it on, and theirs is that of the script.
-use Rattle.script_names.proofs.Prelude.{◌≡◌, ◌<◌, ℕ, suc, List, [], ◌∷◌, drop, map, length, get_or, sym, ap, subst, ◌∙◌, Option, drop-cons, Decl, DeclTree, view_decl, NameError, DirectoryView, directory_of, SeenView, earlier, past_decl, decl_error, seen_after, declarations_error, names_error}
+use Rattle.script_names.proofs.Prelude.{◌≡◌, ◌<◌, ℕ, suc, List, [], ◌∷◌, drop, map, length, get_or, sym, ap, subst, ◌∙◌, Option, drop-cons, DeclTree, view_decl, NameError, DirectoryView, directory_of, SeenView, earlier, past_decl, decl_error, seen_after, declarations_error, names_error}
+use Rattle.script_grammar.specs.declared.declaration.Decl.{Decl}
 use Rattle.script_names.specs.declared.error.CheckError.{CheckError}
 use Rattle.script_names.specs.declared.error.CheckError.TheVariants as errors
 use Rattle.script_names.specs.Finds.{IsError}

@@ -1,6 +1,7 @@
 -- Where names are in order, the directory leaves nothing out.
-use Rattle.script_names.proofs.Prelude.{◌≡◌, ◌≤◌, ◌+◌, ℕ, suc, nat_eq, nat_le, Bool, true, false, cond, List, [], ◌∷◌, ◌++◌, map, length, refl, sym, ap, ◌∙◌, append_assoc, Option, None, Some, arith, length-append, ◌&&◌, bytes_eq, or_parts, or_from, and_left, ne_eqb, append-nil, ACTORS, EXECUTORS, TASKS, FieldTree, MethodTree, ActorTree, DeclTree, Executes, Binds, Acts, Roots, NameError, is_among, with_name, method_key, DirectoryView, field_names, with_names, with_method, with_methods, with_actor, with_decls, directory_of, nothing_declared, executors_in, locals_in, roots_in, actors_in, fields_in, methods_from, params_in, declared_in, ScopeView, fields_alone, SeenView, earlier, at_name, where_so, past_name_if, past_fields, past_if, past_method, past_decl, optional_error, repeat_error, method_error, methods_error, fields_error, on_error, executor_error, kind_error, actor_error, root_error, target_error, seen_after, declarations_error, names_error}
+use Rattle.script_names.proofs.Prelude.{◌≡◌, ◌≤◌, ◌+◌, ℕ, suc, nat_eq, nat_le, Bool, true, false, cond, List, [], ◌∷◌, ◌++◌, map, length, refl, sym, ap, ◌∙◌, append_assoc, Option, None, Some, arith, length-append, ◌&&◌, bytes_eq, or_parts, or_from, and_left, ne_eqb, append-nil, FieldTree, MethodTree, ActorTree, DeclTree, Executes, Binds, Acts, Roots, NameError, is_among, with_name, method_key, DirectoryView, field_names, with_names, with_method, with_methods, with_actor, with_decls, directory_of, nothing_declared, executors_in, locals_in, roots_in, actors_in, fields_in, methods_from, params_in, declared_in, ScopeView, fields_alone, SeenView, earlier, at_name, where_so, past_name_if, past_fields, past_if, past_method, past_decl, optional_error, repeat_error, method_error, methods_error, fields_error, on_error, executor_error, kind_error, actor_error, root_error, target_error, seen_after, declarations_error, names_error}
 use Rattle.std.proofs.lemmas.List.Folds.{list_any-append}
+use Rattle.swift_types.specs.declared.limits.TheConstants.{ACTORS, EXECUTORS, TASKS}
 use Rattle.script_names.specs.declared.error.NameErrorKind.{NameErrorKind}
 use Rattle.script_names.specs.declared.error.NameErrorKind.TheVariants.{Twice, TooMany}
 

@@ -7,4 +7,3 @@ pub mod LeftOut
 pub mod Fails
 pub mod Grows
 pub mod Few
-pub mod Parts

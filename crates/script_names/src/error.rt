@@ -61,7 +61,7 @@ impl<T: Drop> From<AllocFailed<T>> for CheckError {
 
 impl CheckError {
     /// This is wrong with the name before which `names_before` names come.
-    pub(crate) fn at(kind: NameErrorKind, names_before: u32) -> CheckError
+    pub fn at(kind: NameErrorKind, names_before: u32) -> CheckError
         ensures { result ≡ CheckError.Name (record { kind = kind; names_before = names_before }) }
     {
         CheckError::Name(NameError { kind, names_before })

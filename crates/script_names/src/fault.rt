@@ -1,6 +1,6 @@
 //! What is wrong with a name, by what stands under it.
 
-ghost use Rattle.std.specs.Prelude.{◌≡◌, ◌<◌, suc, is_some, if◌then◌else◌, IfOk};
+ghost use Rattle.std.specs.Prelude.{◌≡◌, ◌<◌, suc, is_some, if◌then◌else◌, OnOk};
 ghost use Rattle.swift_types.specs.declared.limits.TheConstants.{BYTES};
 ghost use Rattle.script_names.specs.declared.error.NameErrorKind.TheVariants.{Unknown};
 ghost use Rattle.script_names.specs.Rules.{at_name, number_fault, group_fault, root_fault, task_fault, cancel_fault, new_fault, where_so};
@@ -9,20 +9,24 @@ ghost use Rattle.script_names.specs.Finds.{Finds};
 use crate::error::{CheckError, NameErrorKind};
 use crate::scope::NameKind;
 
-/// The error at a name, if something is wrong with it, and else how many names stand before what follows it.
-pub(crate) fn at_name(at: u32, fault: Option<NameErrorKind>) -> Result<u32, CheckError>
-    requires { at < BYTES }
-    ensures finds { Finds result (at_name at fault) }
-    ensures after { IfOk result (λ n. n ≡ suc at) }
+/// The error at a name before which `at` names stand, if something is wrong with it. Else it is one of those that stand before
+/// what follows it.
+pub fn at_name(at: &mut u32, fault: Option<NameErrorKind>) -> Result<(), CheckError>
+    requires { at.old < BYTES }
+    ensures finds { Finds result (at_name at.old fault) }
+    ensures after { OnOk result (at.new ≡ suc at.old) }
 {
     match fault {
-        Some(kind) => Err(CheckError::at(kind, at)),
-        None => Ok(at + 1),
+        Some(kind) => Err(CheckError::at(kind, *at)),
+        None => {
+            *at += 1;
+            Ok(())
+        }
     }
 }
 
 /// A name that is read or set is a field or a number.
-pub(crate) fn number_fault(meaning: Option<NameKind>) -> Option<NameErrorKind>
+pub fn number_fault(meaning: Option<NameKind>) -> Option<NameErrorKind>
     ensures { result ≡ number_fault meaning }
 {
     match meaning {
@@ -33,7 +37,7 @@ pub(crate) fn number_fault(meaning: Option<NameKind>) -> Option<NameErrorKind>
 }
 
 /// A name after `next` or `add` is a group.
-pub(crate) fn group_fault(meaning: Option<NameKind>) -> Option<NameErrorKind>
+pub fn group_fault(meaning: Option<NameKind>) -> Option<NameErrorKind>
     ensures { result ≡ group_fault meaning }
 {
     match meaning {
@@ -55,7 +59,7 @@ fn root_fault(is_root: bool, meaning: Option<NameKind>) -> Option<NameErrorKind>
 }
 
 /// A name after `task` is a task variable, or else a root.
-pub(crate) fn task_fault(is_root: bool, meaning: Option<NameKind>) -> Option<NameErrorKind>
+pub fn task_fault(is_root: bool, meaning: Option<NameKind>) -> Option<NameErrorKind>
     ensures { result ≡ task_fault is_root meaning }
 {
     match meaning {
@@ -65,7 +69,7 @@ pub(crate) fn task_fault(is_root: bool, meaning: Option<NameKind>) -> Option<Nam
 }
 
 /// A name after `cancel` is a task variable or a group, or else a root.
-pub(crate) fn cancel_fault(is_root: bool, meaning: Option<NameKind>) -> Option<NameErrorKind>
+pub fn cancel_fault(is_root: bool, meaning: Option<NameKind>) -> Option<NameErrorKind>
     ensures { result ≡ cancel_fault is_root meaning }
 {
     match meaning {
@@ -75,7 +79,7 @@ pub(crate) fn cancel_fault(is_root: bool, meaning: Option<NameKind>) -> Option<N
 }
 
 /// A new name stands neither as a field nor as anything else.
-pub(crate) fn new_fault(meaning: Option<NameKind>) -> Option<NameErrorKind>
+pub fn new_fault(meaning: Option<NameKind>) -> Option<NameErrorKind>
     ensures { result ≡ new_fault meaning }
 {
     match meaning {
@@ -85,14 +89,14 @@ pub(crate) fn new_fault(meaning: Option<NameKind>) -> Option<NameErrorKind>
 }
 
 /// This fault, where the test holds.
-pub(crate) fn where_so(test: bool, kind: NameErrorKind) -> Option<NameErrorKind>
+pub fn where_so(test: bool, kind: NameErrorKind) -> Option<NameErrorKind>
     ensures { result ≡ where_so test kind }
 {
     if test { Some(kind) } else { None }
 }
 
 /// A name that must be declared is found among those that are.
-pub(crate) fn declared_fault(place: Option<usize>) -> Option<NameErrorKind>
+pub fn declared_fault(place: Option<usize>) -> Option<NameErrorKind>
     ensures { result ≡ (if is_some place then None else Some Unknown) }
 {
     match place {

@@ -1,24 +1,12 @@
-//! Names of scripts: which of them stand where they are used.
+//! Names of scripts: what a script declares, what stands at a place of it, and what can be wrong with a name there.
 #![tactic(auto)]
 
-// Statements without a block.
-mod actions;
-// Actors.
-mod actors;
-// Blocks and their statements.
-mod blocks;
-// Calls, waits and tasks that are made.
-mod calls;
 // What is known of the names that stand and of the fields of other actors.
 mod checked_names;
-// Declarations, and whole scripts.
-mod declarations;
 // What a script declares.
 mod directory;
 // What is wrong with a name.
 mod error;
-// Expressions.
-mod expressions;
 // What is wrong with a name, by what stands under it.
 mod fault;
 // What holds of the definitions.
@@ -34,10 +22,14 @@ mod seen;
 // Lists of names.
 mod texts;
 
-pub use declarations::check;
 pub use directory::Declared;
 pub use error::{CheckError, NameError, NameErrorKind};
+pub use fault::{
+    at_name, cancel_fault, declared_fault, group_fault, new_fault, number_fault, task_fault,
+    where_so,
+};
 pub use laws::{names_are_few, names_errors_are_complete};
 pub use scope::{NameKind, Outside, Scope};
 pub use seed::Seed;
+pub use seen::{SeenNames, unless_seen};
 pub use texts::Names;

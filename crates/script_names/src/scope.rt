@@ -126,7 +126,7 @@ impl<'a> Scope<'a> {
     }
 
     /// A child is added to a group that was opened inside the innermost open `bind`.
-    pub(crate) fn bind_fault(&self, group: &[u8]) -> Option<NameErrorKind>
+    pub fn bind_fault(&self, group: &[u8]) -> Option<NameErrorKind>
         ensures { result ≡ bind_fault self.now group.now }
     {
         let is_outside = self.names.place_or_len(group) < self.bound;
@@ -136,7 +136,7 @@ impl<'a> Scope<'a> {
     /// Whether a name of the method that stands there is one of a field of the actor at a place. It takes time linear in
     /// those fields or in the names that are new since it was asked last, whichever are fewer. `Err` says that there was no
     /// memory.
-    pub(crate) fn has_field_name_of(&mut self, actor: usize) -> Result<bool, AllocError>
+    pub fn has_field_name_of(&mut self, actor: usize) -> Result<bool, AllocError>
         ensures shared { IfOk result (λ b. b ≡ share_a_name (fields_at self.old.directory actor) self.old.names) }
         ensures same { self.new ≡ self.old }
     {

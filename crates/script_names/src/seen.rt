@@ -1,6 +1,6 @@
 //! What stands before a declaration.
 
-ghost use Rattle.std.specs.Prelude.{◌≡◌, ◌<◌, [], suc, IfOk};
+ghost use Rattle.std.specs.Prelude.{◌≡◌, ◌<◌, [], suc, OnOk};
 ghost use Rattle.swift_types.specs.declared.limits.TheConstants.{BYTES};
 ghost use Rattle.script_grammar.specs.Tree.{text_of};
 ghost use Rattle.script_names.specs.Rules.{repeat_error};
@@ -16,12 +16,12 @@ use std::marker::Model;
 
 /// What stands before a declaration: the names of executors and actors together, those of task locals and of roots, and
 /// how many executors and actors there are.
-pub(crate) struct SeenNames {
-    pub(crate) places: Names,
-    pub(crate) locals: Names,
-    pub(crate) roots: Names,
-    pub(crate) executors: usize,
-    pub(crate) actors: usize,
+pub struct SeenNames {
+    pub places: Names,
+    pub locals: Names,
+    pub roots: Names,
+    pub executors: usize,
+    pub actors: usize,
 }
 
 impl Drop for SeenNames {
@@ -49,7 +49,7 @@ impl Model for SeenNames {
 
 impl SeenNames {
     /// Nothing stands before the first declaration.
-    pub(crate) fn nothing(alloc: Global, seed: Seed) -> SeenNames
+    pub fn nothing(alloc: Global, seed: Seed) -> SeenNames
         ensures { result ≡ record { places = []; locals = []; roots = []; executors = 0; actors = 0 } }
     {
         SeenNames {
@@ -63,10 +63,10 @@ impl SeenNames {
 }
 
 /// The name is none of those.
-pub(crate) fn unless_seen(seen: &Names, at: u32, name: &Name) -> Result<u32, CheckError>
-    requires { at < BYTES }
-    ensures finds { Finds result (repeat_error seen.now at (text_of name.now)) }
-    ensures after { IfOk result (λ n. n ≡ suc at) }
+pub fn unless_seen(seen: &Names, at: &mut u32, name: &Name) -> Result<(), CheckError>
+    requires { at.old < BYTES }
+    ensures finds { Finds result (repeat_error seen.now at.old (text_of name.now)) }
+    ensures after { OnOk result (at.new ≡ suc at.old) }
 {
     let is_seen = seen.contains(&name.text);
     at_name(at, where_so(is_seen, NameErrorKind::Twice))

@@ -3,6 +3,7 @@ pub use Rattle.script_compiler.specs.Compiled.{ActorView, CompiledView, MethodVi
 pub use Rattle.script_compiler.specs.IsCompiled.{IsCompiled, IsMethod}
 pub use Rattle.script_compiler.specs.Plan.{PlanView}
 pub use Rattle.script_grammar.specs.Grammar.{IsScript}
+pub use Rattle.script_grammar.specs.Size.{script_size}
 pub use Rattle.script_grammar.specs.Tree.{ActionTree, ActorTree, Acts, Adds, Assign, Assume, Await, AwaitedTree, Bind, Binds, BlockTree, Both, CallTree, Called, Cancel, Check, Computed, DeclTree, Detached, Do, Executes, ExecutorTree, ExprTree, FieldTree, Group, HeadTree, Headed, If, IfElse, Inverted, IsCancelled, Let, LetTask, Local, LocalTree, MakeTree, Makes, MethodTree, Named, Negated, NextOf, Number, OwnPriority, Return, RootTree, Roots, Spawned, StmtTree, TaskOf, Throw, ValueTree, WaitTree, Waited, While, Yield, block_tree, first_then, nothing, view_actor, view_decl, view_executor, view_if, view_local, view_root}
 pub use Rattle.script_grammar.specs.declared.declaration.Actor.{Actor}
 pub use Rattle.script_grammar.specs.declared.declaration.Decl.{Decl}

@@ -1,6 +1,5 @@
 -- A script is no larger than the text that spells it, and has no more names.
-use Rattle.swift_script.proofs.Prelude.{ℕ, ◌≤◌, List, length, arith, BYTES, few_tokens, DeclTree, names_in, IsPlain, SpellsDecls}
-use Rattle.script_grammar.specs.Size.{script_size}
+use Rattle.swift_script.proofs.Prelude.{ℕ, ◌≤◌, List, length, arith, BYTES, few_tokens, DeclTree, script_size, names_in, IsPlain, SpellsDecls}
 use Rattle.script_grammar.proofs.Short.{script_short}
 use Rattle.script_names.proofs.Few.{names_few}
 

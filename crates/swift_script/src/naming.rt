@@ -3,8 +3,11 @@
 ghost use Rattle.std.specs.Prelude.{◌≡◌, ◌≤◌, None, map, IfOk, IfErr};
 ghost use Rattle.swift_types.specs.declared.limits.TheConstants.{BYTES};
 ghost use Rattle.script_grammar.specs.Tree.{view_decl};
-ghost use Rattle.script_names.specs.Directory.{directory_of};
+ghost use Rattle.script_grammar.specs.Size.{script_size};
 ghost use Rattle.script_names.specs.Rules.{names_in, names_error};
+ghost use Rattle.script_printing.specs.Script.{script_in};
+ghost use Rattle.script_compiler.specs.IsCompiled.{IsCompiled};
+ghost use Rattle.swift_script.specs.Scripts.{parts_of};
 ghost use Rattle.swift_script.specs.FaultPlaces.{IsAtItsPlace, fault_line, past_name};
 ghost use Rattle.swift_script.specs.Refuses.{Refuses};
 ghost use Rattle.swift_script.specs.SpelledInside.{IsSpelled, names_kind, check_kind, check_span};
@@ -12,26 +15,28 @@ ghost use Rattle.swift_script.specs.SpelledInside.{IsSpelled, names_kind, check_
 use crate::fault::{ScriptFault, ScriptFaultKind};
 use crate::place::{Sought, place_of, span_at};
 use crate::spelled::fault_at;
+use script_compiler::{Compiled, compile};
 use script_grammar::Decl;
-use script_names::{CheckError, Declared, NameErrorKind, Seed, check};
+use script_names::{CheckError, NameErrorKind, Seed};
 use script_tokens::Tokens;
 use std::alloc::Global;
 
-/// What the declarations declare, where their names are in order.
-pub(crate) fn check_names(
+/// What the declarations are compiled to, where their names are in order.
+pub(crate) fn compile_named(
     alloc: Global,
     text: &[u8],
     decls: &[Decl],
     tokens: &Tokens,
-) -> Result<Declared, ScriptFault>
-    requires { names_in (map view_decl decls.now) ≤ BYTES }
+) -> Result<Compiled, ScriptFault>
+    requires names { names_in (map view_decl decls.now) ≤ BYTES }
+    requires size { script_size (map view_decl decls.now) ≤ BYTES }
     ensures names { IfOk result (λ d. names_error (map view_decl decls.now) ≡ None) }
-    ensures directory { IfOk result (λ d. d ≡ directory_of (map view_decl decls.now)) }
+    ensures compiled { IfOk result (λ c. IsCompiled c (parts_of (script_in (map view_decl decls.now)))) }
     ensures refused { IsSpelled text.now (map view_decl decls.now) tokens.now → IfErr result (λ e. Refuses e.kind text.now) }
     ensures place { IsSpelled text.now (map view_decl decls.now) tokens.now → IfErr result (λ e. IsAtItsPlace e text.now) }
 {
-    match check(alloc, Seed::of(text), decls) {
-        Ok(declared) => Ok(declared),
+    match compile(alloc, Seed::of(text), decls) {
+        Ok(compiled) => Ok(compiled),
         Err(error) => Err(refusal(text, tokens, error)),
     }
 }

@@ -2,10 +2,9 @@
 
 ghost use Rattle.std.specs.Prelude.{◌≡◌, None, map, OnOk, IfOk, IfErr};
 ghost use Rattle.script_grammar.specs.Tree.{view_decl};
-ghost use Rattle.script_names.specs.Directory.{directory_of};
 ghost use Rattle.script_names.specs.Rules.{names_error};
 ghost use Rattle.script_parser.specs.declared.limits.TheConstants.{NESTING};
-ghost use Rattle.script_printing.specs.Script.{ScriptView};
+ghost use Rattle.script_printing.specs.Script.{ScriptView, script_in};
 ghost use Rattle.script_compiler.specs.IsCompiled.{IsCompiled};
 ghost use Rattle.swift_script.specs.Accepted.{IsAccepted, IsPlain, NoRootWaits, SpellsDecls, first_false};
 ghost use Rattle.swift_script.specs.Answers.{IsReadAs};
@@ -16,14 +15,13 @@ ghost use Rattle.swift_script.specs.Scripts.{parts_of};
 ghost use Rattle.swift_script.specs.SpelledInside.{HasNamesInOrder};
 
 use crate::fault::ScriptFault;
-use crate::naming::check_names;
+use crate::naming::compile_named;
 use crate::script::Script;
 use crate::spelled::{Spelled, all_tokens, spell};
 use crate::split::{Declarations, split};
 use crate::start::{fault_of, first_broken};
-use script_compiler::{Compiled, compile};
+use script_compiler::Compiled;
 use script_grammar::Decl;
-use script_names::Declared;
 use script_printing::print;
 use std::alloc::Global;
 
@@ -53,11 +51,11 @@ fn accept(alloc: Global, text: &[u8]) -> Result<Script, ScriptFault>
     ensures place { IfErr result (λ e. IsAtItsPlace e text.now) }
 {
     let spelled = spell(alloc, text)?;
-    let declared = check_names(alloc, text, &spelled.decls, &spelled.tokens)?;
+    let compiled = compile_named(alloc, text, &spelled.decls, &spelled.tokens)?;
     // Tokens take much memory, and after this a refusal alone needs them, which finds them again.
     let Spelled { decls, tokens } = spelled;
     drop(tokens);
-    build(alloc, text, decls, declared)
+    build(alloc, text, decls, compiled)
 }
 
 // The script of declarations whose names are in order.
@@ -65,25 +63,17 @@ fn build(
     alloc: Global,
     text: &[u8],
     decls: Vec<Decl>,
-    declared: Declared,
+    compiled: Compiled,
 ) -> Result<Script, ScriptFault>
     requires plain { IsPlain text.now }
     requires spelled { SpellsDecls NESTING text.now (map view_decl decls.items) }
     requires names { names_error (map view_decl decls.items) ≡ None }
-    requires directory { declared ≡ directory_of (map view_decl decls.items) }
+    requires compiled { IsCompiled compiled (parts_of (script_in (map view_decl decls.items))) }
     ensures found { IfOk result (λ s. IsAccepted text.now s) }
     ensures refused { IfErr result (λ e. Refuses e.kind text.now) }
     ensures place { IfErr result (λ e. IsAtItsPlace e text.now) }
 {
     let by_kind = split(alloc, decls)?;
-    let compiled = compile(
-        alloc,
-        declared,
-        &by_kind.executors,
-        &by_kind.locals,
-        &by_kind.actors,
-        &by_kind.roots,
-    )?;
     finish(alloc, text, by_kind, compiled)
 }
 

@@ -1,19 +1,19 @@
 //! What lowering knows of a whole script.
 
-ghost use Rattle.std.specs.Prelude.{◌≡◌, ◌==◌, ◌+◌, ◌<◌, ◌≤◌, ℕ, ◌∷◌, length, map, slice_get, unwrap_or, count_by, List, IfOk};
-ghost use Rattle.swift_types.specs.declared.limits.TheConstants.{ACTORS, EXECUTORS};
-ghost use Rattle.script_grammar.specs.Tree.{text_if, view_local, view_actor};
+ghost use Rattle.std.specs.Prelude.{◌≡◌, ◌==◌, ◌+◌, ◌<◌, ◌≤◌, ℕ, ◌∷◌, ◌++◌, length, map, take, slice_get, unwrap_or, count_by, List, IfOk, OnOk};
+ghost use Rattle.swift_types.specs.declared.limits.TheConstants.{ACTORS, BYTES};
+ghost use Rattle.script_grammar.specs.Tree.{DeclTree, text_if, view_decl};
 ghost use Rattle.script_names.specs.Texts.{place_of};
 ghost use Rattle.script_compiler.specs.Few.{HasFewNames};
-ghost use Rattle.script_compiler.specs.Plan.{AreActorPlaces, on_executor, executor_at, actor_place_in, actor_place_of};
-ghost use Rattle.script_compiler.specs.PlanInside.{executors_on, plan_from};
+ghost use Rattle.script_compiler.specs.Plan.{AreActorPlaces, defaults_in, executors_from, on_executor, executor_at, actor_place_in, actor_place_of};
 ghost use Rattle.script_compiler.specs.Lowered.{default_of};
 
-use script_grammar::{Actor, Local, Name};
+use script_grammar::{Decl, Name};
 use script_names::Declared;
 use std::alloc::{AllocError, Global};
 use std::marker::Model;
 use swift_types::LocalId;
+use swift_types::limits::ACTORS;
 
 /// What lowering knows of a whole script: what it declares, the defaults of its task locals, and for each actor its
 /// executor and its place among the actors of that executor.
@@ -51,22 +51,17 @@ impl Model for Plan {
 }
 
 impl Plan {
-    /// The plan of a script, from what it declares. Linear in the declarations, and for these places in the pairs of actors,
-    /// of which there are 64 at most. `Err` says that there was no memory.
-    pub(crate) fn of(
-        alloc: Global,
-        declared: Declared,
-        locals: &[Local],
-        actors: &[Actor],
-    ) -> Result<Plan, AllocError>
+    /// The plan of a script, from what it declares: that of its first actors, of which there may be 64. Linear in the
+    /// declarations, and for these places in the pairs of actors. `Err` says that there was no memory.
+    pub(crate) fn of(alloc: Global, declared: Declared, decls: &[Decl]) -> Result<Plan, AllocError>
         // All that they declare has numbers of 32 bits.
         requires names { HasFewNames declared }
-        requires executors { length declared.executors ≤ EXECUTORS }
-        requires actors { length actors.now ≤ ACTORS }
-        ensures { IfOk result (λ p. p ≡ plan_from declared (map view_local locals.now) (map view_actor actors.now)) }
+        ensures directory { IfOk result (λ p. p.directory ≡ declared) }
+        ensures defaults { IfOk result (λ p. p.defaults ≡ defaults_in (map view_decl decls.now)) }
+        ensures executors { IfOk result (λ p. p.executors ≡ take ACTORS (executors_from declared.executors (length declared.executors) (map view_decl decls.now))) }
     {
-        let defaults = defaults(alloc, locals)?;
-        let executors = executors(alloc, &declared, actors)?;
+        let defaults = defaults(alloc, decls)?;
+        let executors = executors(alloc, &declared, decls)?;
         let actor_places = actor_places(alloc, &executors)?;
         Ok(Plan {
             declared,
@@ -114,37 +109,59 @@ impl Plan {
     }
 }
 
-fn defaults(alloc: Global, locals: &[Local]) -> Result<Vec<i64>, AllocError>
-    ensures { IfOk result (λ v. v.items ≡ map (λ l. l.default) (map view_local locals.now)) }
+fn defaults(alloc: Global, decls: &[Decl]) -> Result<Vec<i64>, AllocError>
+    ensures { IfOk result (λ v. v.items ≡ defaults_in (map view_decl decls.now)) }
 {
     let mut defaults = Vec::new(alloc);
-    for local in locals {
-        defaults.push(local.default)?;
+    for decl in decls {
+        if let Decl::Local(local) = decl {
+            defaults.push(local.default)?;
+        }
     }
     Ok(defaults)
 }
 
-// The executor of each actor. Those without one have their own, after the declared ones.
-fn executors(alloc: Global, declared: &Declared, actors: &[Actor]) -> Result<Vec<u32>, AllocError>
-    requires executors { length declared.now.executors ≤ EXECUTORS }
-    requires actors { length actors.now ≤ ACTORS }
-    ensures executors { IfOk result (λ v. v.items ≡ executors_on declared.now.executors (length declared.now.executors) (map view_actor actors.now)) }
-    ensures as_many { IfOk result (λ v. length v.items ≡ length actors.now) }
+// The executor of each of the first actors. Those without one have their own, after the declared ones.
+fn executors(alloc: Global, declared: &Declared, decls: &[Decl]) -> Result<Vec<u32>, AllocError>
+    requires { length declared.now.executors ≤ BYTES }
+    ensures executors { IfOk result (λ v. v.items ≡ take ACTORS (executors_from declared.now.executors (length declared.now.executors) (map view_decl decls.now))) }
+    ensures few { IfOk result (λ v. length v.items ≤ ACTORS) }
 {
     let mut executors = Vec::new(alloc);
     let mut own = declared.executor_count() as u32;
-    for actor in actors {
-        let (executor, next) = executor_on(declared, own, &actor.executor);
-        executors.push(executor)?;
-        own = next;
+    for decl in decls {
+        if executors.len() < ACTORS {
+            own = add_executor(declared, own, decl, &mut executors)?;
+        }
     }
     Ok(executors)
 }
 
+// The executor of one actor more, where the declaration is one. The answer is the number that the next actor's own executor has.
+fn add_executor(
+    declared: &Declared,
+    own: u32,
+    decl: &Decl,
+    executors: &mut Vec<u32>,
+) -> Result<u32, AllocError>
+    requires executors { length declared.now.executors ≤ BYTES }
+    requires own { own < BYTES + ACTORS }
+    ensures executors { IfOk result (λ next. (others : List DeclTree) → executors.new.items ++ executors_from declared.now.executors next others ≡ executors.old.items ++ executors_from declared.now.executors own (view_decl decl.now ∷ others)) }
+    ensures own { IfOk result (λ next. next + length executors.old.items ≤ own + length executors.new.items) }
+    ensures most { OnOk result (length executors.new.items ≤ length executors.old.items + 1) }
+{
+    let Decl::Actor(actor) = decl else {
+        return Ok(own);
+    };
+    let (executor, next) = executor_on(declared, own, &actor.executor);
+    executors.push(executor)?;
+    Ok(next)
+}
+
 // An actor's executor, and the number that the next actor's own executor has.
 fn executor_on(declared: &Declared, own: u32, on: &Option<Name>) -> (u32, u32)
-    requires executors { length declared.now.executors ≤ EXECUTORS }
-    requires own { own < EXECUTORS + ACTORS }
+    requires executors { length declared.now.executors ≤ BYTES }
+    requires own { own < BYTES + ACTORS }
     ensures executor { (others : ℕ → List ℕ) → on_executor declared.now.executors own (text_if on.now) others ≡ result.0 ∷ others result.1 }
     ensures next { result.1 ≤ own + 1 }
 {

@@ -1,10 +1,11 @@
 //! What stands at a place of a method, with the place of each name.
 
-ghost use Rattle.std.specs.Prelude.{◌≡◌, ◌≤◌, ◌<◌, None, is_some, length, take, IfSome, OnOk};
+ghost use Rattle.std.specs.Prelude.{◌≡◌, ◌≤◌, ◌<◌, None, is_some, length, take, IfOk, IfSome, OnOk};
 ghost use Rattle.swift_types.specs.declared.limits.TheConstants.{BYTES};
 ghost use Rattle.script_names.specs.Texts.{is_among, place_of};
 ghost use Rattle.script_names.specs.Directory.{fields_at};
-ghost use Rattle.script_names.specs.Scope.{fields_alone, with_standing, meaning_of};
+ghost use Rattle.script_names.specs.Scope.{fields_alone, with_standing, meaning_of, share_a_name};
+ghost use Rattle.script_names.specs.Rules.{bind_fault};
 ghost use Rattle.script_compiler.specs.Counts.{counts_of};
 ghost use Rattle.script_compiler.specs.Few.{HasFewNames};
 ghost use Rattle.script_compiler.specs.Lowered.{numbers_in, handles_in, number_place, handle_place};
@@ -12,7 +13,7 @@ ghost use Rattle.script_code.specs.Layout.{greatest};
 ghost use Rattle.script_compiler.specs.StandingInside.{outside_of, left};
 
 use crate::lowering::counts::{PlaceCounts, count_name};
-use script_names::{Declared, NameKind, Outside, Scope};
+use script_names::{Declared, NameErrorKind, NameKind, Outside, Scope};
 use std::alloc::{AllocError, Global};
 use std::marker::Model;
 
@@ -161,6 +162,22 @@ impl<'a> StandingNames<'a> {
         ensures as_many { length self.now.kinds ≡ length self.now.names }
     {
         self.scope.outside()
+    }
+
+    /// A child is added to a group that was opened inside the innermost open `bind`.
+    pub(crate) fn bind_fault(&self, group: &[u8]) -> Option<NameErrorKind>
+        ensures { result ≡ bind_fault self.now group.now }
+    {
+        self.scope.bind_fault(group)
+    }
+
+    /// Whether a name of the method that stands there is one of a field of the actor at a place. `Err` says that there was
+    /// no memory.
+    pub(crate) fn has_field_name_of(&mut self, actor: usize) -> Result<bool, AllocError>
+        ensures shared { IfOk result (λ b. b ≡ share_a_name (fields_at self.old.directory actor) self.old.names) }
+        ensures same { self.new ≡ self.old }
+    {
+        self.scope.has_field_name_of(actor)
     }
 
     /// From here on stand the fields of the actor at this place.

@@ -1,4 +1,4 @@
-use Rattle.script_compiler.proofs.Prelude.{◌≡◌, ◌≤◌, ◌+◌, ◌*◌, true, drop, length, map, view_stmt, block_tree, stmt_size, block_size, greatest, code_of, followed, block_new, left}
+use Rattle.script_compiler.proofs.Prelude.{◌≡◌, ◌≤◌, ◌+◌, ◌*◌, drop, length, map, view_stmt, block_tree, stmt_size, block_size, greatest, code_of, followed, block_error, past_block, left}
 use Rattle.script_compiler.proofs.Blocks.{code_in}
 use Rattle.script_compiler.proofs.lowering.block.+block.Given as goal
 
@@ -20,7 +20,8 @@ decreases-headed l = 5 * block_size (block_tree (map view_stmt l.body.now)) + 4
 abbrev pub invariant-block-loop-stmt : goal.invariant-block-loop-stmt
 invariant-block-loop-stmt l = record {
   code : followed (code_of l.statements.items) (code_in l.plan l.scope (drop l.stmt-index l.block)) ≡ followed (code_of l.initial.statements.items) (code_in l.plan l.initial.scope l.block);
-  new : block_new l.scope (block_tree (map view_stmt (drop l.stmt-index l.block))) ≡ true;
+  errors : block_error l.scope l.at (block_tree (map view_stmt (drop l.stmt-index l.block))) ≡ block_error l.initial.scope l.initial.at (block_tree (map view_stmt l.block));
+  after : past_block (block_tree (map view_stmt (drop l.stmt-index l.block))) l.at ≡ past_block (block_tree (map view_stmt l.block)) l.initial.at;
   room : length l.scope.kinds + block_size (block_tree (map view_stmt (drop l.stmt-index l.block))) ≤ greatest;
   outside : left l.outside l.scope ≡ l.initial.scope;
   count : l.outside.names ≡ length l.initial.scope.names;

@@ -1,5 +1,5 @@
-use Rattle.script_compiler.proofs.Prelude.{◌≡◌, ◌++◌, drop, map, view_local}
+use Rattle.script_compiler.proofs.Prelude.{◌≡◌, ◌++◌, drop, map, view_decl, defaults_in}
 use Rattle.script_compiler.proofs.lowering.plan.defaults.Given as goal
 
-abbrev pub invariant-loop-local : goal.invariant-loop-local
-invariant-loop-local l = l.defaults.items ++ map (λ x. x.default) (map view_local (drop l.local-index l.locals)) ≡ map (λ x. x.default) (map view_local l.locals)
+abbrev pub invariant-loop-decl : goal.invariant-loop-decl
+invariant-loop-decl l = l.defaults.items ++ defaults_in (map view_decl (drop l.decl-index l.decls)) ≡ defaults_in (map view_decl l.decls)

@@ -1,5 +1,4 @@
-use Rattle.std.proofs.lemmas.Result.{on_ok_weaker}
-use Rattle.script_compiler.proofs.Prelude.{Has}
+use Rattle.script_compiler.proofs.Prelude.{on_ok_weaker, Has}
 use Rattle.script_compiler.proofs.Spread.{reaching}
 use Rattle.script_compiler.proofs.waits.marks.Marks.reach.Goals as goal
 

@@ -1,8 +1,0 @@
-use Rattle.script_names.proofs.Prelude.{◌≡◌, [], drop, map, view_field, fields_error, past_fields}
-use Rattle.script_names.proofs.actors.fields.Given as goal
-
-abbrev pub invariant-loop-field : goal.invariant-loop-field
-invariant-loop-field l = record {
-  errors : fields_error l.seen l.at (map view_field (drop l.field-index l.fields)) ≡ fields_error [] l.initial.at (map view_field l.fields);
-  after : past_fields (map view_field (drop l.field-index l.fields)) l.at ≡ past_fields (map view_field l.fields) l.initial.at;
-}
