@@ -17,8 +17,8 @@ use Rattle.swift_executor.proofs.StateKept.{belongs_back, same_task, stage_keeps
 
 -- The seat as it would be, had the turn begun.
 module _ (worker : ℕ) (seat : BookSeatView) (s : ExecStateView) (a : HasAhead worker seat s) where
-  abbrev was : ExecStateView
-  was = a.was
+  abbrev from_state : ExecStateView
+  from_state = a.was
 
   abbrev c0 : ChosenView
   c0 = a.chosen
@@ -26,18 +26,18 @@ module _ (worker : ℕ) (seat : BookSeatView) (s : ExecStateView) (a : HasAhead 
   -- what its account has seen of the log, it has seen
   saw_own : HaveSeen a.known.account.seen seat.knows
   saw_own =
-      let own : Account = record { executor = was.executor; records = a.known.account.past ++ was.journal; order = a.known.account.order; seen = a.known.account.seen } in
+      let own : Account = record { executor = from_state.executor; records = a.known.account.past ++ from_state.journal; order = a.known.account.order; seen = a.known.account.seen } in
       subst (λ (xs : List Account). All (λ (x : Account). IsFront x.seen a.known.account.seen) xs) (sym a.known.account.accounts)
       (All-cons (λ (x : Account). IsFront x.seen a.known.account.seen) own [] ([], sym (append-nil a.known.account.seen)) (All-nil (λ (x : Account). IsFront x.seen a.known.account.seen)))
 
   -- where its turn has begun in a book, the seat is that of the executor as it is once the turn is played
-  pub known_played : (log : List Event) (there : Bool) (mid : BookSeatView) → HaveSeen log seat.knows → BeginsTicket log there (job_facts c0.job) a.plays.env seat.knows mid.knows → mid.here ≡ seat.here → IsSeatFor s mid
+  known_played : (log : List Event) (there : Bool) (mid : BookSeatView) → HaveSeen log seat.knows → BeginsTicket log there (job_facts c0.job) a.plays.env seat.knows mid.knows → mid.here ≡ seat.here → IsSeatFor s mid
   known_played log there mid saw ticket here =
-      played_knows (begun_as was c0 worker a.plays.env) s mid (began_knows was c0 log there worker a.plays.env seat mid a.known a.plays.at a.plays.stage ticket saw here)
+      played_knows (begun_as from_state c0 worker a.plays.env) s mid (began_knows from_state c0 log there worker a.plays.env seat mid a.known a.plays.at a.plays.stage ticket saw here)
       (record c0 { stage = begun worker a.plays.env }, refl, a.plays.plays)
 
   has_ticket : HasTicket (job_facts c0.job) seat.knows.tickets
-  has_ticket = picked_has_ticket was seat c0 a.known a.plays.at a.plays.stage
+  has_ticket = picked_has_ticket from_state seat c0 a.known a.plays.at a.plays.stage
 
   abbrev as_begun : BookSeatView
   as_begun = record seat { knows = knowing_begin a.known.account.seen false has_ticket.0 has_ticket.1 a.plays.env seat.knows }
@@ -46,9 +46,9 @@ module _ (worker : ℕ) (seat : BookSeatView) (s : ExecStateView) (a : HasAhead 
   known_begun = known_played a.known.account.seen false as_begun saw_own (has_ticket.0, has_ticket.1, has_ticket.2, has_ticket.3, refl) refl
 
   -- so what was played by that seat was played ahead by this one
-  pub ahead_by : (script : ScriptView) (j : JobView BodyView) (r : RecordView) → HasPlayed script as_begun.knows j r → HasPlayedAhead script seat.knows j r
+  ahead_by : (script : ScriptView) (j : JobView BodyView) (r : RecordView) → HasPlayed script as_begun.knows j r → HasPlayedAhead script seat.knows j r
   ahead_by script j r q =
-      let own : Account = record { executor = was.executor; records = a.known.account.past ++ was.journal; order = a.known.account.order; seen = a.known.account.seen } in
+      let own : Account = record { executor = from_state.executor; records = a.known.account.past ++ from_state.journal; order = a.known.account.order; seen = a.known.account.seen } in
       let k : Ticket = record has_ticket.0 { begun = Some a.plays.env } in
       let first : k ≡ q.ticket = ap (λ (ks : List Ticket). get_or ks 0 k) q.tickets in
       let mine : with_turn_begun a.known.account.seen false own ≡ q.account = ap (λ (xs : List Account). get_or xs 0 own) (sym (ap (map (with_turn_begun a.known.account.seen false)) a.known.account.accounts) ∙ q.accounts) in
@@ -119,11 +119,11 @@ played_env p (Played worker env) job r was is = ap (λ (x : RecordView). x.env) 
 record_seen : (p : PlayedTurn) (arrival : ℕ) (stage : ChosenStage) (job : JobView BodyView) (s : ExecStateView) → s.chosen ≡ Some (chosen_view p arrival stage job) → record_of s.chosen ≡ record_at job (stage_of p stage)
 record_seen p arrival stage job s at = ap record_of at
 
-env_in : Env → ChosenStageView → Env
+abbrev env_in : Env → ChosenStageView → Env
 env_in other (begun worker env) = env
 env_in other _ = other
 
-worker_in : ChosenStageView → ℕ
+abbrev worker_in : ChosenStageView → ℕ
 worker_in (begun worker env) = worker
 worker_in (played worker env frame fields effects exit) = worker
 worker_in picked = 0
@@ -196,7 +196,7 @@ module _ (worker : ℕ) (seat : BookSeatView) (s : ExecStateView) (a : HasAhead 
       let mid : BookSeatView = record seat { knows = c.begun } in
       let book = book_begun bk job r.env in
       let begins = begins_there l bk r.env c.begun wo io there script c.begins in
-      let ticket = subst (λ (f : JobFacts). BeginsTicket bk.log (has_last_root bk.script bk.log) f r.env seat.knows c.begun) facts_are begins.ticket in
+      let ticket = subst (λ (f : JobFacts). BeginsTicket bk.log (has_last_root bk.script bk.log) f r.env seat.knows c.begun) (before_is ∙ facts_are) c.begins.ticket in
       let known : IsSeatFor s mid = known_played worker seat s a bk.log (has_last_root bk.script bk.log) mid there.front (subst (λ (e : Env). BeginsTicket bk.log (has_last_root bk.script bk.log) (job_facts a.chosen.job) e seat.knows c.begun) (sym env_is) ticket) refl in
       let same : seat' ≡ knowing (after_turn r c.begun) mid = same_seat seat' (knowing (after_turn r c.begun) mid) lock here (knows ∙ c.knows) in
       let allowed : refusal_of_left book job p ≡ None =

@@ -54,7 +54,7 @@ back_first by levels x x' front others task arrival perm first =
     (All-weaker (ComesFirst by levels x) (ComesFirst by levels x') (λ y is. comes_same by levels x x' y y task arrival refl refl is) others (All-tail (ComesFirst by levels x) x others all))
 
 -- how a turn was played, on which worker and in which environment
-env_in : Env → ChosenStageView → Env
+abbrev env_in : Env → ChosenStageView → Env
 env_in other (begun worker env) = env
 env_in other _ = other
 
