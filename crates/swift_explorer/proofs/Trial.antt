@@ -26,6 +26,7 @@ as_before x between tasks t g k was took put same ready = record {
     many = h.many;
     used = h.used;
     short = h.short;
+    read = h.read;
     followed = record {
       script_is = h.followed.script_is;
       book_is = h.followed.book_is;
