@@ -1,10 +1,14 @@
 -- The digest of a log is kept event by event.
-use Rattle.swift_explorer.proofs.Prelude.{◌≡◌, ℕ, zero, suc, ◌+◌, ◌<◌, ◌≤◌, ◌^◌, List, [], ◌∷◌, ◌++◌, length, get_or, refl, sym, ◌∙◌, ap, subst, subst₂, arith, inl, inr, Some, AllZip, none-some, same_Some, slice_get, slice_get-get_or, slice_get_within, length_push, TaskId, Event, is_made, task_of, asks, closes, Digest, digest_of, noted, group_noted, one_if, IsWithin, other_of, group_end, group_in, AreCards, AreMoreCards, AreNoted, IsCard, IsKeyGroup, IsSameCard, IsSameKeyGroup, OpenAtMost, AreGroups, AreGroupsNoted, AskedAtMost, IsNamedIn, IsRead, IsReadOf, IsSameGroup, KeyCard, KeyGroup, LogDigest, NamedGroup}
+use Rattle.swift_explorer.proofs.Prelude.{◌≡◌, ℕ, zero, suc, ◌+◌, ◌<◌, ◌≤◌, ◌^◌, List, [], ◌∷◌, ◌++◌, length, take, get_or, set, refl, sym, ◌∙◌, ap, subst, subst₂, arith, inl, inr, Some, AllZip, none-some, same_Some, slice_get, slice_get-get_or, slice_get_within, length_push, TaskId, Event, is_made, task_of, asks, closes, Digest, digest_of, no_group, noted, group_noted, group_numbers, group_of_parts, one_if, IsWithin, other_of, group_end, group_in, AreCards, AreMoreCards, AreNoted, IsCard, IsKeyGroup, IsSameCard, IsSameKeyGroup, OpenAtMost, AreGroups, AreGroupsNoted, AskedAtMost, IsGroupNoted, IsNamedAt, IsNamedIn, IsRead, IsReadOf, IsSameGroup, KeyCard, KeyGroup, LogDigest, NamedGroup}
+use Rattle.std.proofs.Math.Seq.{take-append_seam}
+use Rattle.std.proofs.lemmas.List.{length-append}
 use Rattle.std.proofs.lemmas.List.Elements.{length_all_zip}
 use Rattle.swift_digest.specs.Digests.{Card as CardView, GroupCard as GroupView}
 use Rattle.swift_digest.proofs.Cards.{digest_of-none, digest_of-push}
-use Rattle.swift_explorer.proofs.CardSteps.{blank_is, fewer_unless, group_more, one_at_most}
+use Rattle.swift_groups.proofs.Lists.{slice_get_new, slice_get_push, slice_get_set, slice_get_set_other}
+use Rattle.swift_explorer.proofs.CardSteps.{blank_is, fewer_unless, group_more, group_written, one_at_most}
 use Rattle.swift_explorer.proofs.CardsNoted.{cards_more, open_more}
+use Rattle.swift_explorer.proofs.Ended.{lt_or}
 use Rattle.swift_explorer.proofs.Within.{blank_unnamed, within_more, within_none, within_wider}
 
 -- nothing was read
@@ -178,3 +182,91 @@ read_more log e r z cs ds gs one two task other all groups asked named gs_noted 
       tasks = omega (arith, count, low);
       bound = short;
     }
+
+-- groups that are named
+
+pub find_more : (gs : List NamedGroup) (p o g : ℕ) (v : NamedGroup) → slice_get gs p ≡ Some v → (v.owner.0 ≡ o → v.group ≡ g → ⊥) → ((i : ℕ) → i < p → IsNamedAt gs i o g → ⊥) → (i : ℕ) → i < p + 1 → IsNamedAt gs i o g → ⊥
+find_more gs p o g v here differs before i lt named = elim (lt_or i p lt) [
+  | inl old ↦ before i old named
+  | inr new ↦
+      let same : v ≡ named.0 = same_Some v named.0 (sym here ∙ ap (slice_get gs) (sym new) ∙ named.1) in
+      differs (ap (λ (x : NamedGroup). x.owner.0) same ∙ named.2) (ap (λ (x : NamedGroup). x.group) same ∙ named.3)
+]
+
+pub found_none : (gs : List NamedGroup) (p o g : ℕ) → length gs ≤ p → ((i : ℕ) → i < p → IsNamedAt gs i o g → ⊥) → IsNamedIn gs o g → ⊥
+found_none gs p o g le before named =
+    let lt = slice_get_within gs named.0 named.1 named.2 in
+    before named.0 (omega (arith, lt, le)) (named.1, named.2, named.3, named.4)
+
+-- what stands in a list stands there still where others come after it
+there_left : (gs hs : List NamedGroup) (i : ℕ) (x : NamedGroup) → slice_get gs i ≡ Some x → slice_get (gs ++ hs) i ≡ Some x
+there_left [] hs i x at = absurd (none-some x at)
+there_left (y ∷ gs) hs zero x at = at
+there_left (y ∷ gs) hs (suc i) x at = there_left gs hs i x at
+
+-- a blank group is put to the others
+module _ (gs ns : List NamedGroup) (x : NamedGroup) (more : ns ≡ gs ++ x ∷ []) (blank : IsKeyGroup x.card no_group) where
+  pub groups_put : (IsNamedIn gs x.owner.0 x.group → ⊥) → (d : Digest) → AreGroups gs d → AreGroups ns d
+  groups_put none d are = subst (λ (l : List NamedGroup). AreGroups l d) (sym more) (record {
+    cards = λ i y at. elim (slice_get_push gs x i y at) [
+      | inl old ↦ are.cards i y old
+      | inr new ↦ subst (λ (z : NamedGroup). IsKeyGroup z.card (d.groups z.owner.0 z.group)) new.1 (subst (IsKeyGroup x.card) (sym (are.others x.owner.0 x.group none)) blank)
+    ];
+    others = λ o g no. are.others o g (λ was. no (was.0, was.1, there_left gs (x ∷ []) was.0 was.1 was.2, was.3, was.4));
+  })
+
+  pub asked_put : (m : ℕ) → AskedAtMost m gs → AskedAtMost m ns
+  asked_put m few i y at = elim (slice_get_push gs x i y (subst (λ (l : List NamedGroup). slice_get l i ≡ Some y) more at)) [
+    | inl old ↦ few i y old
+    | inr new ↦
+        let none = blank.asked in
+        let same = ap (λ (z : NamedGroup). z.card.asked) new.1 in
+        omega (arith, none, same)
+  ]
+
+  pub named_put : (o : TaskId) (g : ℕ) → x.owner ≡ o → x.group ≡ g → IsNamedIn ns o.0 g
+  named_put o g owner group = (length gs, x, ap (λ (l : List NamedGroup). slice_get l (length gs)) more ∙ slice_get_new gs x, ap (λ (t : TaskId). t.0) owner, group)
+
+-- each of some groups is noted, one after the other
+pub noted_none : (e : Event) (xs : List NamedGroup) (i : ℕ) (y : NamedGroup) → i < 0 → slice_get xs i ≡ Some y → (x : NamedGroup) × (slice_get xs i ≡ Some x) × IsGroupNoted e x y
+noted_none e xs i y lt at = absurd (omega (arith, lt))
+
+pub noted_done : (e : Event) (xs ls : List NamedGroup) (p : ℕ) (v w : NamedGroup) → p < length ls → slice_get ls p ≡ Some v → IsGroupNoted e v w
+    → ((i : ℕ) (y : NamedGroup) → i < p → slice_get ls i ≡ Some y → (x : NamedGroup) × (slice_get xs i ≡ Some x) × IsGroupNoted e x y) → ((i : ℕ) → p ≤ i → slice_get ls i ≡ slice_get xs i)
+    → (i : ℕ) (y : NamedGroup) → i < p + 1 → slice_get (set ls p w) i ≡ Some y → (x : NamedGroup) × (slice_get xs i ≡ Some x) × IsGroupNoted e x y
+noted_done e xs ls p v w within here noted before rest i y lt at = elim (lt_or i p lt) [
+  | inl old ↦ before i y old (sym (slice_get_set_other ls p i w (λ is. absurd (omega (arith, is, old)))) ∙ at)
+  | inr new ↦
+      let same : w ≡ y = same_Some w y (sym (slice_get_set ls p w within) ∙ ap (slice_get (set ls p w)) (sym new) ∙ at) in
+      (v, ap (slice_get xs) new ∙ sym (rest p (omega arith)) ∙ here, subst (IsGroupNoted e v) same noted)
+]
+
+pub noted_rest : (xs ls : List NamedGroup) (p : ℕ) (w : NamedGroup) → ((i : ℕ) → p ≤ i → slice_get ls i ≡ slice_get xs i) → (i : ℕ) → p + 1 ≤ i → slice_get (set ls p w) i ≡ slice_get xs i
+noted_rest xs ls p w rest i le = slice_get_set_other ls p i w (λ is. absurd (omega (arith, is, le))) ∙ rest i (omega (arith, le))
+
+pub noted_all : (e : Event) (xs ls : List NamedGroup) (p : ℕ) → length ls ≤ p → length ls ≡ length xs → ((i : ℕ) (y : NamedGroup) → i < p → slice_get ls i ≡ Some y → (x : NamedGroup) × (slice_get xs i ≡ Some x) × IsGroupNoted e x y)
+    → AreGroupsNoted e xs ls
+noted_all e xs ls p le count done = record { count = count; each = λ i y at. (let lt = slice_get_within ls i y at in done i y (omega (arith, lt, le)) at) }
+
+-- a group's card, where it is named, and where it is not
+
+pub group_here : (gs : List NamedGroup) (d : Digest) (o g i : ℕ) (x : NamedGroup) → AreGroups gs d → IsNamedAt gs i o g → slice_get gs i ≡ Some x → group_of_parts x.card.added.items x.card.ended.items x.card.asked x.card.closed x.card.named ≡ group_numbers (d.groups o g)
+group_here gs d o g i x are named at =
+    let same : x ≡ named.0 = same_Some x named.0 (sym at ∙ named.1) in
+    let owner : x.owner.0 ≡ o = ap (λ (y : NamedGroup). y.owner.0) same ∙ named.2 in
+    let group : x.group ≡ g = ap (λ (y : NamedGroup). y.group) same ∙ named.3 in
+    group_written x.card (d.groups o g) (subst₂ (λ (u v : ℕ). IsKeyGroup x.card (d.groups u v)) owner group (are.cards i x at))
+
+pub group_missing : (gs : List NamedGroup) (d : Digest) (o g : ℕ) (c : KeyGroup) → AreGroups gs d → (IsNamedIn gs o g → ⊥) → IsKeyGroup c no_group → group_of_parts c.added.items c.ended.items c.asked c.closed c.named ≡ group_numbers (d.groups o g)
+group_missing gs d o g c are none blank = group_written c (d.groups o g) (subst (IsKeyGroup c) (sym (are.others o g none)) blank)
+
+pub asked_fewer : (m k : ℕ) (gs : List NamedGroup) → m ≤ k → AskedAtMost m gs → AskedAtMost k gs
+asked_fewer m k gs le few i x at = (let was : x.card.asked ≤ m = few i x at in omega (arith, le, was))
+
+-- what was read of a log stands first in it
+pub read_first : (r : LogDigest) (log : List Event) → IsReadOf r log → IsRead r (take r.events log) × (r.events ≤ length log)
+read_first r log of =
+    let count = of.3.count in
+    let first : take r.events log ≡ of.0 = ap (λ (n : ℕ). take n log) count ∙ ap (take (length of.0)) of.2 ∙ take-append_seam of.0 of.1 in
+    let many = ap length of.2 ∙ length-append of.0 of.1 in
+    (subst (IsRead r) (sym first) of.3, omega (arith, count, many))

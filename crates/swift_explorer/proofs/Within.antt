@@ -52,30 +52,30 @@ within_more n m k l d e was up_n up_m task other group = record {
 pub blank_unnamed : (o g : ℕ) (e : Event) → ((p : TaskId) → group_in e ≡ Some (p, g) → p.0 ≡ o → ⊥) → group_noted o g no_group e ≡ no_group
 blank_unnamed o g (Child u w h p) none = elim (cases_eq w.0 o) [
   | inl is ↦ elim (cases_eq h g) [
-      | inl same ↦ absurd (none w (ap (λ (k : ℕ). Some (w, k)) same) is)
-      | inr ne ↦ rw (ne_eqb h g ne, and_false (w.0 == o))
-    ]
+    | inl same ↦ absurd (none w (ap (λ (k : ℕ). Some (w, k)) same) is)
+    | inr ne ↦ rw (ne_eqb h g ne, and_false (w.0 == o))
+  ]
   | inr ne ↦ rw (ne_eqb w.0 o ne)
 ]
 blank_unnamed o g (CancelGroup w h) none = elim (cases_eq w.0 o) [
   | inl is ↦ elim (cases_eq h g) [
-      | inl same ↦ absurd (none w (ap (λ (k : ℕ). Some (w, k)) same) is)
-      | inr ne ↦ rw (ne_eqb h g ne, and_false (w.0 == o))
-    ]
+    | inl same ↦ absurd (none w (ap (λ (k : ℕ). Some (w, k)) same) is)
+    | inr ne ↦ rw (ne_eqb h g ne, and_false (w.0 == o))
+  ]
   | inr ne ↦ rw (ne_eqb w.0 o ne)
 ]
 blank_unnamed o g (Next w h) none = elim (cases_eq w.0 o) [
   | inl is ↦ elim (cases_eq h g) [
-      | inl same ↦ absurd (none w (ap (λ (k : ℕ). Some (w, k)) same) is)
-      | inr ne ↦ rw (ne_eqb h g ne, and_false (w.0 == o))
-    ]
+    | inl same ↦ absurd (none w (ap (λ (k : ℕ). Some (w, k)) same) is)
+    | inr ne ↦ rw (ne_eqb h g ne, and_false (w.0 == o))
+  ]
   | inr ne ↦ rw (ne_eqb w.0 o ne)
 ]
 blank_unnamed o g (Close w h) none = elim (cases_eq w.0 o) [
   | inl is ↦ elim (cases_eq h g) [
-      | inl same ↦ absurd (none w (ap (λ (k : ℕ). Some (w, k)) same) is)
-      | inr ne ↦ rw (ne_eqb h g ne, and_false (w.0 == o))
-    ]
+    | inl same ↦ absurd (none w (ap (λ (k : ℕ). Some (w, k)) same) is)
+    | inr ne ↦ rw (ne_eqb h g ne, and_false (w.0 == o))
+  ]
   | inr ne ↦ rw (ne_eqb w.0 o ne)
 ]
 blank_unnamed o g _ none = refl

@@ -434,7 +434,8 @@ impl SearchedHistory {
         } = steps;
         spend_all(jobs);
         book.facts();
-        let (_log, mut waiting) = book.close();
+        let (log, mut waiting) = book.close();
+        drop(log);
         let mut key = Vec::new(alloc);
         let put = put_jobs(&mut key, &mut waiting);
         spend_all(waiting);

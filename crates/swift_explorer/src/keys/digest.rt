@@ -210,7 +210,8 @@ pub(crate) fn other_of(event: Event) -> TaskId
 }
 
 pub(crate) fn group_end(event: Event) -> u64
-    ensures { result ≡ group_end event }
+    ensures end { result ≡ group_end event }
+    ensures fits { result ≤ 2 ^ 32 }
 {
     match event {
         Event::Child { group, .. } => u64::from(group) + 1,
@@ -489,14 +490,10 @@ pub(crate) fn blank_group(alloc: Global) -> KeyGroup
 }
 
 // Puts blank cards to these, until there is one for this task.
-pub(crate) fn cover(
-    alloc: Global,
-    cards: &mut Vec<KeyCard>,
-    task: TaskId,
-) -> Result<(), AllocError>
+pub(crate) fn cover(alloc: Global, cards: &mut Vec<KeyCard>, task: TaskId) -> Result<(), AllocError>
     ensures covered { OnOk result (task.0 < length cards.new.items) }
     ensures more { OnOk result (AreMoreCards cards.old.items cards.new.items) }
-    ensures few { OnOk result ((n : ℕ) → task.0 < n → length cards.old.items ≤ n → length cards.new.items ≤ n) }
+    ensures few { OnOk result (length cards.old.items ≤ 2 ^ 32 → length cards.new.items ≤ 2 ^ 32) }
 {
     let place = task.0 as usize;
     'cover: while cards.len() <= place {

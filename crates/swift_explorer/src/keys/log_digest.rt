@@ -1,6 +1,6 @@
 //! The digest of a log, kept event by event.
 
-ghost use Rattle.std.specs.Prelude.{◌≡◌, ◌<◌, ◌≤◌, ◌-◌, ◌^◌, ◌++◌, ◌∷◌, ℕ, List, [], IfOk, IfSome, OnOk, None, Some};
+ghost use Rattle.std.specs.Prelude.{◌≡◌, ◌<◌, ◌≤◌, ◌-◌, ◌^◌, ◌++◌, ◌∷◌, ℕ, List, [], length, IfOk, IfSome, IsTrue, OnOk, None, Some, false};
 ghost use Rattle.std.specs.List.{AllZip};
 ghost use Rattle.swift_events.specs.declared.event.Event.{Event as Noted};
 ghost use Rattle.swift_digest.specs.Digests.{Digest, digest_of};
@@ -53,13 +53,23 @@ fn group_in(event: Event) -> Option<(TaskId, u32)>
     }
 }
 
+// The larger number.
+fn larger(left: u64, right: u64) -> u64
+    ensures left { left ≤ result }
+    ensures right { right ≤ result }
+    ensures least { (n : ℕ) → left ≤ n → right ≤ n → result ≤ n }
+{
+    if left < right { right } else { left }
+}
+
 // Where a group stands among these.
 fn find(groups: &[NamedGroup], owner: TaskId, group: u32) -> Option<usize>
+    ensures within { IfSome result (λ i. i < length groups.now) }
     ensures some { IfSome result (λ i. IsNamedAt groups.now i owner.0 group) }
     ensures none { result ≡ None → IsNamedIn groups.now owner.0 group → ⊥ }
 {
     for place in 0..groups.len() {
-        if groups[place].owner.0 == owner.0 && groups[place].group == group {
+        if groups[place].is_group(owner, group) {
             return Some(place);
         }
     }
@@ -67,11 +77,7 @@ fn find(groups: &[NamedGroup], owner: TaskId, group: u32) -> Option<usize>
 }
 
 // Puts the group that an event is of to these, where it is not there yet.
-fn cover_group(
-    alloc: Global,
-    groups: &mut Vec<NamedGroup>,
-    event: Event,
-) -> Result<(), AllocError>
+fn cover_group(alloc: Global, groups: &mut Vec<NamedGroup>, event: Event) -> Result<(), AllocError>
     ensures groups { OnOk result ((d : Digest) → AreGroups groups.old.items d → AreGroups groups.new.items d) }
     ensures asked { OnOk result ((m : ℕ) → AskedAtMost m groups.old.items → AskedAtMost m groups.new.items) }
     ensures named { OnOk result ((o : TaskId) (g : ℕ) → group_in event ≡ Some (o, g) → IsNamedIn groups.new.items o.0 g) }
@@ -91,6 +97,14 @@ fn cover_group(
 }
 
 impl NamedGroup {
+    // Whether it is this one.
+    fn is_group(&self, owner: TaskId, group: u32) -> bool
+        ensures same { IsTrue result → (self.now.owner.0 ≡ owner.0) × (self.now.group ≡ group) }
+        ensures differs { result ≡ false → self.now.owner.0 ≡ owner.0 → self.now.group ≡ group → ⊥ }
+    {
+        self.owner.0 == owner.0 && self.group == group
+    }
+
     // One more event is read.
     fn note(&mut self, event: Event) -> Result<(), AllocError>
         requires { self.old.card.asked < 2 ^ 63 }
@@ -143,10 +157,12 @@ fn put_group_at(
 ) -> Result<(), AllocError>
     ensures { OnOk result ((d : Digest) → AreGroups groups.now d → key.new.items ≡ key.old.items ++ group_numbers (d.groups owner.0 group)) }
 {
-    match find(groups, owner, group) {
-        Some(place) => put_group(key, &groups[place].card),
-        None => put_group(key, &blank_group(alloc)),
-    }
+    let Some(place) = find(groups, owner, group) else {
+        put_group(key, &blank_group(alloc))?;
+        return Ok(());
+    };
+    put_group(key, &groups[place].card)?;
+    Ok(())
 }
 
 // The cards of the first groups of a task.
@@ -202,12 +218,14 @@ impl LogDigest {
     pub fn copy(&self, alloc: Global) -> Result<LogDigest, AllocError>
         ensures { IfOk result (λ copy. (log : List Noted) → IsRead self.now log → IsRead copy log) }
     {
+        let cards = copy_cards(alloc, &self.cards)?;
+        let groups = copy_groups(alloc, &self.groups)?;
         Ok(LogDigest {
             events: self.events,
             made: self.made,
             bound: self.bound,
-            cards: copy_cards(alloc, &self.cards)?,
-            groups: copy_groups(alloc, &self.groups)?,
+            cards,
+            groups,
         })
     }
 
@@ -223,7 +241,7 @@ impl LogDigest {
         note_all(&mut self.cards, event)?;
         note_groups(&mut self.groups, event)?;
         self.made = counted(self.made, event.makes_task());
-        self.bound = self.bound.max(group_end(event));
+        self.bound = larger(self.bound, group_end(event));
         self.events += 1;
         Ok(())
     }
@@ -244,9 +262,18 @@ impl LogDigest {
         requires { IsReadSome self.now }
         ensures { OnOk result ((log : List Noted) → IsRead self.now log → IsWritten (digest_of log) key.old.items key.new.items) }
     {
-        let tasks = self.cards.len() as u64;
+        self.put_parts(alloc, key, self.cards.len() as u64)
+    }
+
+    // The same, where there are cards for so many tasks.
+    fn put_parts(&self, alloc: Global, key: &mut Vec<i64>, tasks: u64) -> Result<(), AllocError>
+        requires some { IsReadSome self.now }
+        requires tasks { tasks ≡ length self.now.cards.items }
+        ensures { OnOk result ((log : List Noted) → IsRead self.now log → IsWritten (digest_of log) key.old.items key.new.items) }
+    {
         put_head(key, tasks, self.bound, self.made)?;
         put_cards(key, &self.cards)?;
-        put_groups(alloc, key, &self.groups, tasks, self.bound)
+        put_groups(alloc, key, &self.groups, tasks, self.bound)?;
+        Ok(())
     }
 }

@@ -1,9 +1,9 @@
-use Rattle.swift_explorer.proofs.Prelude.{◌≤◌, ap, arith, length, length_push}
+use Rattle.swift_explorer.proofs.Prelude.{◌∙◌, ap, arith, length, length_push}
 use Rattle.swift_explorer.proofs.CardsNoted.{more_none, more_push}
 use Rattle.swift_explorer.proofs.keys.digest.cover.Goals as goal
 
 pub cover-init : goal.cover-init
-cover-init c = record { more = more_none c.args.cards.now.items; few = λ n lt le. le }
+cover-init c = record { more = more_none c.args.cards.now.items; few = λ le. le }
 
 pub cover-preserved : goal.cover-preserved
 cover-preserved c =
@@ -13,5 +13,5 @@ cover-preserved c =
     let many = ap length more ∙ length_push cs x in
     record {
       more = more_push c.args.cards.now.items cs c.push.new.self.items x c.cover.invariant.more more c.blank_card.ensures;
-      few = λ n lt le. omega (arith, many, lt, c.cover-test.true, c.len.ensures);
+      few = λ le. omega (arith, many, c.cover-test.true, c.len.ensures);
     }

@@ -1,10 +1,10 @@
-use Rattle.swift_explorer.proofs.Prelude.{◌<◌, ◌+◌, ◌-◌, ◌≤◌, ℕ, length, vec_len, AreMoreCards}
+use Rattle.swift_explorer.proofs.Prelude.{◌+◌, ◌-◌, ◌^◌, ◌≤◌, length, vec_len, AreMoreCards}
 use Rattle.swift_explorer.proofs.keys.digest.cover.Given as goal
 
 abbrev pub invariant-cover : goal.invariant-cover
 invariant-cover l = record {
   more : AreMoreCards l.fn.cards.items l.cards.items;
-  few : (n : ℕ) → l.task.0 < n → length l.fn.cards.items ≤ n → length l.cards.items ≤ n;
+  few : length l.fn.cards.items ≤ 2 ^ 32 → length l.cards.items ≤ 2 ^ 32;
 }
 
 abbrev pub decreases-cover : goal.decreases-cover

@@ -1,4 +1,4 @@
-use Rattle.swift_explorer.proofs.Prelude.{◌<◌, ◌≡◌, ◌≤◌, ℕ, length, IsNamedAt}
+use Rattle.swift_explorer.proofs.Prelude.{◌<◌, ℕ, IsNamedAt}
 use Rattle.swift_explorer.proofs.keys.log_digest.find.Given as goal
 
 -- it is none of those before
