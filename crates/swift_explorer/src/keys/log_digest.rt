@@ -76,23 +76,33 @@ fn find(groups: &[NamedGroup], owner: TaskId, group: u32) -> Option<usize>
     None
 }
 
+// Whether a group is among these.
+fn is_there(groups: &[NamedGroup], owner: TaskId, group: u32) -> bool
+    ensures there { IsTrue result → IsNamedIn groups.now owner.0 group }
+    ensures none { result ≡ false → IsNamedIn groups.now owner.0 group → ⊥ }
+{
+    let Some(place) = find(groups, owner, group) else {
+        return false;
+    };
+    let _ = place;
+    true
+}
+
 // Puts the group that an event is of to these, where it is not there yet.
 fn cover_group(alloc: Global, groups: &mut Vec<NamedGroup>, event: Event) -> Result<(), AllocError>
     ensures groups { OnOk result ((d : Digest) → AreGroups groups.old.items d → AreGroups groups.new.items d) }
     ensures asked { OnOk result ((m : ℕ) → AskedAtMost m groups.old.items → AskedAtMost m groups.new.items) }
     ensures named { OnOk result ((o : TaskId) (g : ℕ) → group_in event ≡ Some (o, g) → IsNamedIn groups.new.items o.0 g) }
 {
-    let Some((owner, group)) = group_in(event) else {
+    let Some(named) = group_in(event) else {
         return Ok(());
     };
-    if find(groups, owner, group).is_some() {
+    let (owner, group) = named;
+    if is_there(groups, owner, group) {
         return Ok(());
     }
-    groups.push(NamedGroup {
-        owner,
-        group,
-        card: blank_group(alloc),
-    })?;
+    let card = blank_group(alloc);
+    groups.push(NamedGroup { owner, group, card })?;
     Ok(())
 }
 
@@ -110,17 +120,19 @@ impl NamedGroup {
         requires { self.old.card.asked < 2 ^ 63 }
         ensures { OnOk result (IsGroupNoted event self.old self.new) }
     {
-        self.card.note(self.owner, self.group, event)
+        self.card.note(self.owner, self.group, event)?;
+        Ok(())
     }
 
     // The same again.
     fn copy(&self, alloc: Global) -> Result<NamedGroup, AllocError>
         ensures { IfOk result (IsSameGroup self.now) }
     {
+        let card = self.card.copy(alloc)?;
         Ok(NamedGroup {
             owner: self.owner,
             group: self.group,
-            card: self.card.copy(alloc)?,
+            card,
         })
     }
 }
