@@ -219,7 +219,7 @@ module _ (gs ns : List NamedGroup) (x : NamedGroup) (more : ns ≡ gs ++ x ∷ [
   asked_put m few i y at = elim (slice_get_push gs x i y (subst (λ (l : List NamedGroup). slice_get l i ≡ Some y) more at)) [
     | inl old ↦ few i y old
     | inr new ↦
-        let none = blank.asked in
+        let none : x.card.asked ≡ 0 = blank.asked in
         let same = ap (λ (z : NamedGroup). z.card.asked) new.1 in
         omega (arith, none, same)
   ]
