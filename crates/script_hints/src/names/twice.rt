@@ -86,13 +86,7 @@ fn taken_text<'a>(
 ) -> Result<Vec<u8>, AllocError>
     ensures { IfOk result (λ text. text.items ≡ taken_text name.now kind words.now) }
 {
-    let after: [&[u8]; 5] = [
-        b" is the name of ",
-        called(kind),
-        words,
-        name,
-        b"2`",
-    ];
+    let after: [&[u8]; 5] = [b" is the name of ", called(kind), words, name, b"2`"];
     quoted_in(alloc, b"", name, &after)
 }
 

@@ -240,9 +240,6 @@ fn undeclared(alloc: Global, blamed: Blamed<'_>, wanted: Wanted) -> Result<Hint,
 fn undeclared_text(alloc: Global, name: &[u8], wanted: Wanted) -> Result<Vec<u8>, AllocError>
     ensures { IfOk result (λ text. text.items ≡ undeclared_text name.now wanted) }
 {
-    let after: [&[u8]; 2] = [
-        b": here stands the name of ",
-        wanted.called().as_bytes(),
-    ];
+    let after: [&[u8]; 2] = [b": here stands the name of ", wanted.called().as_bytes()];
     quoted_in(alloc, b"nothing is called ", name, &after)
 }
