@@ -1,9 +1,7 @@
 -- Operands with operators between them, from the first one on.
-use Rattle.std.proofs.Common.{◌≡◌, ◌≢◌, ℕ, suc, List, Some, None, refl, sym, ◌∙◌}
+use Rattle.plain_laws.proofs.Prelude.{◌≡◌, ◌≢◌, ℕ, suc, List, Some, None, refl, sym, ◌∙◌, Binary, SwiftTree, Joined, SpellsAtom, SpellsPrefixed, SpellsSome, SpellsOperands, negated, inverted, unprefixed, first, next, after, kind_at, operator_in, Token}
 use Rattle.swift_syntax.specs.declared.sign.Sign.TheVariants as sign
-use Rattle.swift_syntax.specs.declared.token.Token.{Token}
 use Rattle.swift_syntax.specs.declared.token.TokenKind.TheVariants as kind
-use Rattle.swift_syntax.specs.Expressions.{Binary, SwiftTree, Joined, SpellsAtom, SpellsPrefixed, SpellsSome, SpellsOperands, negated, inverted, unprefixed, first, next, after, kind_at, operator_in}
 
 -- what is taken behind an operand: operators, each with what is right of it
 pub data Goes (tokens : List Token) : ℕ → ℕ → SwiftTree → ℕ → SwiftTree → Type 0 where

@@ -1,21 +1,12 @@
 -- What stands at the front of the bytes of a token.
-use Rattle.std.proofs.Common.{◌≡◌, ℕ, pos, ◌<◌, ◌^◌, ◌+◌, ◌-◌, ◌*◌, Bool, true, false, ◌&&◌, ◌||◌, ◌==◌, not, eqb, nat_lt, List, [], ◌∷◌, ◌++◌, length, take, drop, refl, sym, ap, ◌∙◌, arith, rules}
+use Rattle.plain_laws.proofs.Prelude.{IsName, goes_on, mark_of, mark_spelling, ◌≡◌, ℕ, pos, ◌<◌, ◌^◌, ◌+◌, ◌-◌, ◌*◌, Bool, true, false, ◌&&◌, ◌||◌, ◌==◌, not, eqb, nat_lt, List, [], ◌∷◌, ◌++◌, length, take, drop, refl, sym, ap, ◌∙◌, arith, rules, nat_tests, decimal_nonempty, digits_decimal, digits_value-decimal, decimal, list_all, prefix_len, take_while, is_digit, is_letter, is_name_byte, is_number_byte, Operator}
 use Rattle.std.specs.Int.{IsInRange}
-use Rattle.std.specs.List.{list_all, prefix_len, take_while}
-use Rattle.std.proofs.lemmas.Bool.Decides.{nat_tests}
-use Rattle.std.proofs.lemmas.Fmt.{decimal_nonempty, digits_decimal, digits_value-decimal}
 use Rattle.std.proofs.lemmas.Str.Parse.{IsNumeralModel, FoldsDigits, numerals_by_fold}
-use Rattle.std.specs.Fmt.{decimal}
-use Rattle.swift_types.specs.declared.operator.Operator.{Operator}
 use Rattle.swift_types.specs.declared.operator.Operator.TheVariants as op
-use Rattle.script_tokens.specs.Spelling.{mark_spelling}
-use Rattle.script_grammar.specs.Grammar.{mark_of}
-use Rattle.swift_syntax.specs.Bytes.{is_digit, is_letter, is_name_byte, is_number_byte}
 use Rattle.swift_syntax.specs.Fronts.{a_space, a_token, decimal_behind, front_of, front_at, number_before, number_of, sign_at, slashed_at, word_as}
 use Rattle.swift_syntax.specs.Words.{word_of}
 use Rattle.swift_syntax.specs.declared.sign.Sign.TheVariants as sign
 use Rattle.swift_syntax.specs.declared.token.TokenKind.TheVariants as kind
-use Rattle.plain_laws.specs.Texts.{IsName, goes_on}
 use Rattle.plain_laws.proofs.Operators.{sign_of}
 
 pub space_front : (bs : List ℕ) → front_of (32 ∷ bs) ≡ (a_space, bs)
@@ -44,15 +35,13 @@ operator_front op.Times (b ∷ bs) = refl
 
 pub open_front : (bs : List ℕ) → front_of (40 ∷ bs) ≡ (a_token (kind.Sign sign.Open), bs)
 unfolding front_at slashed_at sign_at
-open_front [] = refl
-open_front (b ∷ []) = refl
 open_front (b ∷ c ∷ bs) = refl
+open_front _ = refl
 
 pub close_front : (bs : List ℕ) → front_of (41 ∷ bs) ≡ (a_token (kind.Sign sign.Close), bs)
 unfolding front_at slashed_at sign_at
-close_front [] = refl
-close_front (b ∷ []) = refl
 close_front (b ∷ c ∷ bs) = refl
+close_front _ = refl
 
 -- an operand begins with a letter, a digit or a parenthesis, so with none of the bytes that go on with a prefix
 abbrev is_operand_byte : ℕ → Bool

@@ -1,28 +1,11 @@
 -- The bytes of an expression consist of its tokens.
-use Rattle.std.proofs.Common.{◌≡◌, ℕ, pos, negsuc, ◌<◌, ◌-◌, ◌^◌, ◌&&◌, ◌||◌, ◌==◌, Bool, true, false, nat_lt, List, [], ◌∷◌, ◌++◌, length, codes, refl, sym, ap, subst, ◌∙◌, arith}
-use Rattle.std.specs.Fmt.{decimal}
-use Rattle.std.specs.List.{flat_map, list_all}
-use Rattle.std.proofs.lemmas.Bool.Decides.{nat_tests}
-use Rattle.std.proofs.lemmas.Fmt.{decimal_nonempty, digits_decimal}
-use Rattle.std.proofs.lemmas.List.{append_assoc}
-use Rattle.std.proofs.lemmas.Grind.{flat_map-append}
-use Rattle.swift_types.specs.declared.operator.Operator.{Operator}
+use Rattle.plain_laws.proofs.Prelude.{Told, Of, AreTold, Lexed, Rest, expr_told, told_plain, IsName, IsWritable, begins_name, goes_on, PlainToken, Bare, Spaced, left_of, enclosed, expr_tokens, expr_bytes, is_made_of_parts, reads_plain, said, mark_of, precedence_of, ExprTree, Number, Named, Local, OwnPriority, IsCancelled, Negated, Inverted, Both, Num, Name, Key, Sign, mark_spelling, ◌≡◌, ℕ, pos, negsuc, ◌<◌, ◌-◌, ◌^◌, ◌&&◌, ◌||◌, ◌==◌, Bool, true, false, nat_lt, List, [], ◌∷◌, ◌++◌, length, codes, refl, sym, ap, subst, ◌∙◌, arith, nat_tests, decimal_nonempty, digits_decimal, flat_map-append, append_assoc, decimal, flat_map, list_all, is_digit, is_letter, is_name_byte, after, Token, Operator}
 use Rattle.swift_types.specs.declared.operator.Operator.TheVariants as op
 use Rattle.script_tokens.specs.declared.keyword.Keyword.TheVariants as key
 use Rattle.script_tokens.specs.declared.mark.Mark.TheVariants as mark
-use Rattle.script_tokens.specs.Pieces.{Num, Name, Key, Sign}
-use Rattle.script_tokens.specs.Spelling.{mark_spelling}
-use Rattle.script_grammar.specs.Grammar.{mark_of, precedence_of}
-use Rattle.script_grammar.specs.Tree.{ExprTree, Number, Named, Local, OwnPriority, IsCancelled, Negated, Inverted, Both}
-use Rattle.plain_parts.specs.Expressions.{PlainToken, Bare, Spaced, left_of, enclosed, expr_tokens, expr_bytes, is_made_of_parts, reads_plain, said}
-use Rattle.swift_syntax.specs.Bytes.{is_digit, is_letter, is_name_byte}
 use Rattle.swift_syntax.specs.Fronts.{a_token, front_of, front_at, sign_at, slashed_at}
 use Rattle.swift_syntax.specs.declared.sign.Sign.TheVariants as sign
-use Rattle.swift_syntax.specs.declared.token.Token.{Token}
 use Rattle.swift_syntax.specs.declared.token.TokenKind.TheVariants as kind
-use Rattle.swift_syntax.specs.Expressions.{after}
-use Rattle.plain_laws.specs.Readings.{Told, Of, AreTold, Lexed, Rest, expr_told, told_plain}
-use Rattle.plain_laws.specs.Texts.{IsName, IsWritable, begins_name, goes_on}
 use Rattle.plain_laws.proofs.Fronts.{begins_operand, bang_front, close_front, minus_front, name_front, number_front, numerals, open_front, operator_front, space_front}
 use Rattle.plain_laws.proofs.Operators.{is_told, sign_of}
 use Rattle.plain_laws.proofs.Steps.{step, step_space}
@@ -191,11 +174,9 @@ true_both : (a b : Bool) → a ≡ true → b ≡ true → (a && b) ≡ true
 true_both a b p q = rw (p, q) refl
 
 pub writable_plain : (f : List ℕ → List ℕ) (e : ExprTree) → IsWritable f e → reads_plain e ≡ true
-writable_plain f (Number n) w = refl
-writable_plain f (Named x) w = refl
 writable_plain f (Local x) w = absurd w
 writable_plain f OwnPriority w = absurd w
-writable_plain f IsCancelled w = refl
 writable_plain f (Negated a) w = writable_plain f a w
 writable_plain f (Inverted a) w = writable_plain f a w
 writable_plain f (Both o a b) w = true_both (reads_plain a) (reads_plain b) (writable_plain f a w.0) (writable_plain f b w.1)
+writable_plain f _ w = refl

@@ -1,3 +1,4 @@
+pub mod Prelude
 pub mod Ends
 pub mod Forward
 pub mod Fronts

@@ -1,17 +1,9 @@
 -- How tightly operators bind, for the printer and for the reader.
-use Rattle.std.proofs.Common.{◌≡◌, ℕ, ◌-◌, ◌<◌, ◌≤◌, suc, Bool, true, false, [], ◌∷◌, Option, Some, None, nat_lt, refl, sym, ◌∙◌, ap, arith}
-use Rattle.std.proofs.lemmas.Bool.{false≢true, le-ltb, lt-ltb}
-use Rattle.std.proofs.lemmas.Bool.Decides.{nat_tests}
-use Rattle.swift_types.specs.declared.operator.Operator.{Operator}
+use Rattle.plain_laws.proofs.Prelude.{Of, told_mark, left_of, mark_of, precedence_of, ◌≡◌, ℕ, ◌-◌, ◌<◌, ◌≤◌, suc, Bool, true, false, [], ◌∷◌, Option, Some, None, nat_lt, refl, sym, ◌∙◌, ap, arith, false≢true, le-ltb, lt-ltb, nat_tests, Binary, binary_of, if_tight, is_open, operator_in, TokenKind, Operator}
 use Rattle.swift_types.specs.declared.operator.Operator.TheVariants as op
-use Rattle.script_grammar.specs.Grammar.{mark_of, precedence_of}
-use Rattle.plain_parts.specs.Expressions.{left_of}
 use Rattle.swift_syntax.specs.declared.sign.Sign.{Sign}
 use Rattle.swift_syntax.specs.declared.sign.Sign.TheVariants as sign
-use Rattle.swift_syntax.specs.declared.token.TokenKind.{TokenKind}
 use Rattle.swift_syntax.specs.declared.token.TokenKind.TheVariants as kind
-use Rattle.swift_syntax.specs.Expressions.{Binary, binary_of, if_tight, is_open, operator_in}
-use Rattle.plain_laws.specs.Readings.{Of, told_mark}
 
 abbrev pub sign_of : Operator → Sign
 sign_of op.Or = sign.Or
@@ -29,44 +21,21 @@ sign_of op.Times = sign.Times
 abbrev pub level_of : Operator → ℕ
 level_of op.Or = 0
 level_of op.And = 1
-level_of op.Equal = 2
-level_of op.Unequal = 2
-level_of op.Less = 2
-level_of op.AtMost = 2
-level_of op.Greater = 2
-level_of op.AtLeast = 2
 level_of op.Plus = 4
 level_of op.Minus = 4
 level_of op.Times = 5
+level_of _ = 2
 
 abbrev pub read_as : Operator → Binary
 read_as o = record { operator = Some o; level = level_of o }
 
 pub is_told : (o : Operator) → told_mark (mark_of o) ≡ Of (kind.Sign (sign_of o)) ∷ []
-is_told op.Or = refl
-is_told op.And = refl
-is_told op.Equal = refl
 is_told op.Unequal = refl
-is_told op.Less = refl
-is_told op.AtMost = refl
-is_told op.Greater = refl
-is_told op.AtLeast = refl
-is_told op.Plus = refl
-is_told op.Minus = refl
-is_told op.Times = refl
+is_told _ = refl
 
 is_binary : (o : Operator) → binary_of (sign_of o) ≡ Some (read_as o)
-is_binary op.Or = refl
-is_binary op.And = refl
-is_binary op.Equal = refl
 is_binary op.Unequal = refl
-is_binary op.Less = refl
-is_binary op.AtMost = refl
-is_binary op.Greater = refl
-is_binary op.AtLeast = refl
-is_binary op.Plus = refl
-is_binary op.Minus = refl
-is_binary op.Times = refl
+is_binary _ = refl
 
 less : (m n : ℕ) → nat_lt m n ≡ true → m < n
 less m n e = grind (arith, nat_tests)
@@ -96,18 +65,8 @@ looser_if x y (Some b) h n = looser_at (nat_lt b.level x) x y b refl h n
 
 -- what does not bind so tightly does not bind more tightly
 pub looser : (x y : ℕ) (k : TokenKind) → x ≤ y → operator_in x k ≡ None → operator_in y k ≡ None
-looser x y kind.Name h n = refl
-looser x y (kind.Key w) h n = refl
-looser x y (kind.Number i) h n = refl
-looser x y kind.Huge h n = refl
-looser x y kind.Text h n = refl
-looser x y kind.Interpolated h n = refl
 looser x y (kind.Sign s) h n = looser_if x y (binary_of s) h n
-looser x y kind.Invariant h n = refl
-looser x y kind.Executor h n = refl
-looser x y kind.Expect h n = refl
-looser x y kind.Stray h n = refl
-looser x y kind.End h n = refl
+looser x y _ h n = refl
 
 -- Operators up to this precedence bind at least so tightly.
 abbrev pub Fits : ℕ → ℕ → Type 0
@@ -118,68 +77,26 @@ fits_5 o e = omega arith
 
 fits_4 : Fits 4 1
 fits_4 op.Or e = absurd (false≢true (sym e))
-fits_4 op.And e = omega arith
-fits_4 op.Equal e = omega arith
-fits_4 op.Unequal e = omega arith
-fits_4 op.Less e = omega arith
-fits_4 op.AtMost e = omega arith
-fits_4 op.Greater e = omega arith
-fits_4 op.AtLeast e = omega arith
-fits_4 op.Plus e = omega arith
-fits_4 op.Minus e = omega arith
-fits_4 op.Times e = omega arith
+fits_4 _ e = omega arith
 
 fits_3 : Fits 3 2
 fits_3 op.Or e = absurd (false≢true (sym e))
 fits_3 op.And e = absurd (false≢true (sym e))
-fits_3 op.Equal e = omega arith
-fits_3 op.Unequal e = omega arith
-fits_3 op.Less e = omega arith
-fits_3 op.AtMost e = omega arith
-fits_3 op.Greater e = omega arith
-fits_3 op.AtLeast e = omega arith
-fits_3 op.Plus e = omega arith
-fits_3 op.Minus e = omega arith
-fits_3 op.Times e = omega arith
+fits_3 _ e = omega arith
 
 fits_2 : Fits 2 4
-fits_2 op.Or e = absurd (false≢true (sym e))
-fits_2 op.And e = absurd (false≢true (sym e))
-fits_2 op.Equal e = absurd (false≢true (sym e))
-fits_2 op.Unequal e = absurd (false≢true (sym e))
-fits_2 op.Less e = absurd (false≢true (sym e))
-fits_2 op.AtMost e = absurd (false≢true (sym e))
-fits_2 op.Greater e = absurd (false≢true (sym e))
-fits_2 op.AtLeast e = absurd (false≢true (sym e))
 fits_2 op.Plus e = omega arith
 fits_2 op.Minus e = omega arith
 fits_2 op.Times e = omega arith
+fits_2 _ e = absurd (false≢true (sym e))
 
 fits_1 : Fits 1 5
-fits_1 op.Or e = absurd (false≢true (sym e))
-fits_1 op.And e = absurd (false≢true (sym e))
-fits_1 op.Equal e = absurd (false≢true (sym e))
-fits_1 op.Unequal e = absurd (false≢true (sym e))
-fits_1 op.Less e = absurd (false≢true (sym e))
-fits_1 op.AtMost e = absurd (false≢true (sym e))
-fits_1 op.Greater e = absurd (false≢true (sym e))
-fits_1 op.AtLeast e = absurd (false≢true (sym e))
-fits_1 op.Plus e = absurd (false≢true (sym e))
-fits_1 op.Minus e = absurd (false≢true (sym e))
 fits_1 op.Times e = omega arith
+fits_1 _ e = absurd (false≢true (sym e))
 
 fits_0 : Fits 0 6
-fits_0 op.Or e = absurd (false≢true (sym e))
-fits_0 op.And e = absurd (false≢true (sym e))
-fits_0 op.Equal e = absurd (false≢true (sym e))
 fits_0 op.Unequal e = absurd (false≢true (sym e))
-fits_0 op.Less e = absurd (false≢true (sym e))
-fits_0 op.AtMost e = absurd (false≢true (sym e))
-fits_0 op.Greater e = absurd (false≢true (sym e))
-fits_0 op.AtLeast e = absurd (false≢true (sym e))
-fits_0 op.Plus e = absurd (false≢true (sym e))
-fits_0 op.Minus e = absurd (false≢true (sym e))
-fits_0 op.Times e = absurd (false≢true (sym e))
+fits_0 _ e = absurd (false≢true (sym e))
 
 -- what stands on both sides of an operator without parentheses binds so tightly
 pub record Sides (o : Operator) : Type 0 where
@@ -193,38 +110,15 @@ pub record Sides (o : Operator) : Type 0 where
 pub sides : (o : Operator) → Sides o
 sides op.Or = record { left = 0; left_fits = fits_5; left_tight = omega arith; right = 1; right_fits = fits_4; right_tight = omega arith }
 sides op.And = record { left = 1; left_fits = fits_4; left_tight = omega arith; right = 2; right_fits = fits_3; right_tight = omega arith }
-sides op.Equal = record { left = 4; left_fits = fits_2; left_tight = omega arith; right = 4; right_fits = fits_2; right_tight = omega arith }
-sides op.Unequal = record { left = 4; left_fits = fits_2; left_tight = omega arith; right = 4; right_fits = fits_2; right_tight = omega arith }
-sides op.Less = record { left = 4; left_fits = fits_2; left_tight = omega arith; right = 4; right_fits = fits_2; right_tight = omega arith }
-sides op.AtMost = record { left = 4; left_fits = fits_2; left_tight = omega arith; right = 4; right_fits = fits_2; right_tight = omega arith }
-sides op.Greater = record { left = 4; left_fits = fits_2; left_tight = omega arith; right = 4; right_fits = fits_2; right_tight = omega arith }
-sides op.AtLeast = record { left = 4; left_fits = fits_2; left_tight = omega arith; right = 4; right_fits = fits_2; right_tight = omega arith }
 sides op.Plus = record { left = 4; left_fits = fits_2; left_tight = omega arith; right = 5; right_fits = fits_1; right_tight = omega arith }
 sides op.Minus = record { left = 4; left_fits = fits_2; left_tight = omega arith; right = 5; right_fits = fits_1; right_tight = omega arith }
 sides op.Times = record { left = 5; left_fits = fits_1; left_tight = omega arith; right = 6; right_fits = fits_0; right_tight = omega arith }
+sides _ = record { left = 4; left_fits = fits_2; left_tight = omega arith; right = 4; right_fits = fits_2; right_tight = omega arith }
 
 pub no_open : (o : Operator) → is_open (kind.Sign (sign_of o)) ≡ false
-no_open op.Or = refl
-no_open op.And = refl
-no_open op.Equal = refl
 no_open op.Unequal = refl
-no_open op.Less = refl
-no_open op.AtMost = refl
-no_open op.Greater = refl
-no_open op.AtLeast = refl
-no_open op.Plus = refl
-no_open op.Minus = refl
-no_open op.Times = refl
+no_open _ = refl
 
 pub no_dot : {B : Type 0} (o : Operator) → kind.Sign (sign_of o) ≡ kind.Sign sign.Dot → B
-no_dot op.Or e = absurd cc
-no_dot op.And e = absurd cc
-no_dot op.Equal e = absurd cc
 no_dot op.Unequal e = absurd cc
-no_dot op.Less e = absurd cc
-no_dot op.AtMost e = absurd cc
-no_dot op.Greater e = absurd cc
-no_dot op.AtLeast e = absurd cc
-no_dot op.Plus e = absurd cc
-no_dot op.Minus e = absurd cc
-no_dot op.Times e = absurd cc
+no_dot _ e = absurd cc

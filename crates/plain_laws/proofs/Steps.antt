@@ -1,15 +1,8 @@
 -- One token of a text after the other.
-use Rattle.std.proofs.Common.{◌≡◌, ℕ, ◌<◌, ◌+◌, ◌-◌, ◌^◌, suc, Bool, true, false, List, [], ◌∷◌, ◌++◌, length, take, drop, get_or, drop-cons, Some, refl, sym, ap, subst, ◌∙◌, arith}
-use Rattle.std.specs.List.{slice_get}
-use Rattle.std.proofs.lemmas.Bool.{lt-ltb}
-use Rattle.std.proofs.lemmas.List.{length-append, length-drop, append_assoc}
+use Rattle.plain_laws.proofs.Prelude.{Rest, bytes_at, ◌≡◌, ℕ, ◌<◌, ◌+◌, ◌-◌, ◌^◌, suc, Bool, true, false, List, [], ◌∷◌, ◌++◌, length, take, drop, get_or, drop-cons, Some, refl, sym, ap, subst, ◌∙◌, arith, lt-ltb, length-append, length-drop, append_assoc, slice_get, after, kind_at, kind_in, or_end, Token, TokenKind}
 use Rattle.std.proofs.lemmas.Option.{slice_get-get_or}
-use Rattle.swift_syntax.specs.Expressions.{after, kind_at, kind_in, or_end}
 use Rattle.swift_syntax.specs.Fronts.{a_line, a_space, a_token, front_of}
 use Rattle.swift_syntax.specs.Lexes.{StandAt, space_here, line_here, one_here, token_between}
-use Rattle.swift_syntax.specs.declared.token.Token.{Token}
-use Rattle.swift_syntax.specs.declared.token.TokenKind.{TokenKind}
-use Rattle.plain_laws.specs.Readings.{Rest, bytes_at}
 
 -- the first token of a text, and those behind it
 record First (text : List ℕ) (b : ℕ) (bs rest : List ℕ) (k : TokenKind) (line space : Bool) (ts : List Token) : Type 0 where
@@ -92,8 +85,7 @@ pub record Step (text : List ℕ) (tokens : List Token) (i : ℕ) (w bs : List �
 pub step : {text : List ℕ} {tokens : List Token} {i : ℕ} (b : ℕ) (w bs : List ℕ) (k : TokenKind) → length tokens < 2 ^ 64 → front_of (b ∷ (w ++ bs)) ≡ (a_token k, bs) → Rest text tokens i (b ∷ (w ++ bs)) → Step text tokens i (b ∷ w) bs k
 step {text} {tokens} {i} b w bs k long h r =
     let f = first_token h r.stands in
-    let t = token_between text (b ∷ (w ++ bs)) bs k r.line r.space in
-    let g = got tokens i t f.others f.is in
+    let g = got tokens i (token_between text (b ∷ (w ++ bs)) bs k r.line r.space) f.others f.is in
     let whole : text ≡ (r.before ++ (b ∷ w)) ++ bs = r.whole ∙ sym (append_assoc r.before (b ∷ w) bs) in
     record {
       kind = ap kind_in g.at;

@@ -1,21 +1,9 @@
 -- Tokens that are told, in parts.
-use Rattle.std.proofs.Common.{◌≡◌, ◌≢◌, ◌&&◌, ◌-◌, ℕ, Bool, true, false, nat_lt, List, [], ◌∷◌, ◌++◌, refl, sym, subst, ◌∙◌}
-use Rattle.std.proofs.lemmas.Bool.{false≢true}
-use Rattle.std.proofs.lemmas.Grind.{flat_map-append}
-use Rattle.std.specs.List.{flat_map}
-use Rattle.swift_types.specs.declared.operator.Operator.{Operator}
+use Rattle.plain_laws.proofs.Prelude.{Told, Of, AreTold, expr_told, told_plain, told_mark, PlainToken, Bare, Spaced, left_of, enclosed, expr_tokens, reads_plain, mark_of, precedence_of, ExprTree, Number, Named, Local, OwnPriority, IsCancelled, Negated, Inverted, Both, Sign, ◌≡◌, ◌≢◌, ◌&&◌, ◌-◌, ℕ, Bool, true, false, nat_lt, List, [], ◌∷◌, ◌++◌, refl, sym, subst, ◌∙◌, false≢true, flat_map-append, flat_map, after, kind_at, Token, TokenKind, Operator}
 use Rattle.script_tokens.specs.declared.mark.Mark.TheVariants as mark
-use Rattle.script_tokens.specs.Pieces.{Sign}
-use Rattle.script_grammar.specs.Grammar.{mark_of, precedence_of}
-use Rattle.script_grammar.specs.Tree.{ExprTree, Number, Named, Local, OwnPriority, IsCancelled, Negated, Inverted, Both}
-use Rattle.plain_parts.specs.Expressions.{PlainToken, Bare, Spaced, left_of, enclosed, expr_tokens, reads_plain}
 use Rattle.swift_syntax.specs.declared.sign.Sign.TheVariants as sign
-use Rattle.swift_syntax.specs.declared.token.Token.{Token}
-use Rattle.swift_syntax.specs.declared.token.TokenKind.{TokenKind}
 use Rattle.swift_syntax.specs.declared.token.TokenKind.TheVariants as kind
 use Rattle.swift_syntax.specs.declared.word.Word.{Word}
-use Rattle.swift_syntax.specs.Expressions.{after, kind_at}
-use Rattle.plain_laws.specs.Readings.{Told, Of, AreTold, expr_told, told_plain, told_mark}
 use Rattle.plain_laws.proofs.Operators.{sign_of, is_told}
 
 record Parted (text : List ℕ) (tokens : List Token) (i : ℕ) (xs ys : List Told) (j : ℕ) : Type 0 where

@@ -1,23 +1,12 @@
 -- What the tokens of a script's expression spell.
-use Rattle.std.proofs.Common.{◌≡◌, ◌≢◌, ◌≤◌, ◌-◌, ℕ, ℤ, suc, Bool, true, false, nat_lt, List, ◌∷◌, ◌++◌, codes, Option, Some, None, refl, sym, subst, ap, ◌∙◌, arith}
-use Rattle.std.proofs.lemmas.Bool.{false≢true}
-use Rattle.std.specs.List.{flat_map, slice_get}
-use Rattle.swift_types.specs.declared.operator.Operator.{Operator}
-use Rattle.script_tokens.specs.Pieces.{Sign}
-use Rattle.script_grammar.specs.Grammar.{mark_of, precedence_of}
-use Rattle.script_grammar.specs.Tree.{ExprTree, Number, Named, Local, OwnPriority, IsCancelled, Negated, Inverted, Both}
-use Rattle.plain_parts.specs.Expressions.{PlainToken, Spaced, left_of, enclosed, expr_tokens, is_made_of_parts, reads_plain, renamed}
+use Rattle.plain_laws.proofs.Prelude.{AreTold, EndsExpr, Means, expr_told, told_plain, PlainToken, Spaced, left_of, enclosed, expr_tokens, is_made_of_parts, reads_plain, renamed, mark_of, precedence_of, ExprTree, Number, Named, Local, OwnPriority, IsCancelled, Negated, Inverted, Both, Sign, ◌≡◌, ◌≢◌, ◌≤◌, ◌-◌, ℕ, ℤ, suc, Bool, true, false, nat_lt, List, ◌∷◌, ◌++◌, codes, Option, Some, None, refl, sym, subst, ap, ◌∙◌, arith, false≢true, flat_map, slice_get, SwiftTree, Leaf, Joined, SpellsAtom, SpellsCalled, SpellsNamed, SpellsPrefixed, SpellsOperands, SpellsChoice, SpellsExpr, after, kind_at, literal_of, operator_in, opens_at, kind_in, is_open, opens_in, Token, TokenKind, Operator}
 use Rattle.swift_syntax.specs.declared.sign.Sign.TheVariants as sign
-use Rattle.swift_syntax.specs.declared.token.Token.{Token}
-use Rattle.swift_syntax.specs.declared.token.TokenKind.{TokenKind}
 use Rattle.swift_syntax.specs.declared.token.TokenKind.TheVariants as kind
 use Rattle.swift_syntax.specs.declared.tree.ExprForm.{ExprForm}
 use Rattle.swift_syntax.specs.declared.tree.ExprForm.TheVariants as form
 use Rattle.swift_syntax.specs.declared.tree.Receiver.{Receiver}
 use Rattle.swift_syntax.specs.declared.word.Word.TheVariants as word
 use Rattle.swift_syntax.specs.Expressions as swift
-use Rattle.swift_syntax.specs.Expressions.{SwiftTree, Leaf, Joined, SpellsAtom, SpellsCalled, SpellsNamed, SpellsPrefixed, SpellsSome, SpellsOperands, SpellsChoice, SpellsExpr, after, kind_at, literal_of, operator_in, opens_at, kind_in, is_open, opens_in}
-use Rattle.plain_laws.specs.Readings.{AreTold, EndsExpr, Means, expr_told, told_plain}
 use Rattle.plain_laws.specs.Readings as means
 use Rattle.plain_laws.proofs.Forward.{Goes, stop, go, begun, stops, no_prefix}
 use Rattle.plain_laws.proofs.Operators.{Fits, fits_5, sides, sign_of, level_of, read_as, taken_at, left_at, looser, no_dot, no_open}
@@ -163,14 +152,17 @@ pub not_open : (o : Option Token) (k : TokenKind) → kind_in o ≡ k → is_ope
 not_open None k e h = refl
 not_open (Some t) k e h = rw (e, h) refl
 
+-- where a token of such a kind stands, an expression before it ends
+pub ends_at : {tokens : List Token} {i : ℕ} {k : TokenKind} → kind_at tokens i ≡ k → operator_in 0 k ≡ None → k ≢ kind.Sign sign.Dot → k ≢ kind.Sign sign.Question → is_open k ≡ false → EndsExpr tokens i
+ends_at {tokens} {i} {k} e none no_dot no_question closed = record {
+  operator = ap (operator_in 0) e ∙ none;
+  dot = λ d. no_dot (sym e ∙ d);
+  question = λ q. no_question (sym e ∙ q);
+  opens = not_open (slice_get tokens i) k e closed;
+}
+
 close_ends : {tokens : List Token} {i : ℕ} → kind_at tokens i ≡ kind.Sign sign.Close → EndsExpr tokens i
-close_ends {tokens} {i} h =
-    record {
-      operator = ap (operator_in 0) h;
-      dot = λ e. (let x : kind.Sign sign.Close ≡ kind.Sign sign.Dot = sym h ∙ e in absurd cc);
-      question = λ e. (let x : kind.Sign sign.Close ≡ kind.Sign sign.Question = sym h ∙ e in absurd cc);
-      opens = not_open (slice_get tokens i) (kind.Sign sign.Close) h refl;
-    }
+close_ends h = ends_at h refl (λ d. absurd cc) (λ q. absurd cc) refl
 
 in_parenthesis : {text : List ℕ} {tokens : List Token} {e : ExprTree} {i end to : ℕ} {t : SwiftTree} (ts : List PlainToken) → Strips text tokens ts e 0 → ((k : ℕ) → AreTold text tokens (after i) (flat_map told_plain ts) k → IsNoKey (kind_at tokens (after i))) → AreTold text tokens i (flat_map told_plain (enclosed true ts)) end → SpellsAtom tokens i to t → Spelled text tokens e end to t
 in_parenthesis {text} {tokens} {e} {i} {end} {to} {t} ts strips keyless told d =

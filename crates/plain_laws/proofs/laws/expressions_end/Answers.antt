@@ -1,5 +1,4 @@
-use Rattle.std.proofs.Common.{refl}
-use Rattle.swift_syntax.specs.Expressions.{kind_at}
+use Rattle.plain_laws.proofs.Prelude.{refl, kind_at}
 use Rattle.plain_laws.proofs.Ends.{ends}
 use Rattle.plain_laws.proofs.laws.expressions_end.Goals as goal
 
