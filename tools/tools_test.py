@@ -29,6 +29,7 @@ import random_swift
 import refusals
 import reports
 import swift_in
+import weights
 
 
 def write(folder, files):
@@ -482,6 +483,27 @@ class OneCore(Folder):
         self.assertIn("printed", self.fault(f"head -n 3 {self.folder}/wanted"))
         self.assertIn("status 4", self.fault("exit 4"))
         self.assertIn("did not end", self.fault("exec sleep 5"))
+
+
+# What was made of two functions, one of them in a cycle of calls; a type is spelled out twice in the code of the one.
+MADE = """"facade"
+{"Parent":{}}
+"proofs/low/add/Lts-add"
+{"Enum":{"name":"low::Sum","parts":[],"signs":[false,true,false]}},{"Enum":{"name":"low::Sum","parts":[],"signs":[false,true,false]}}
+"proofs/low/add/Lts-add/Given"
+{"Enum":{"name":"low::Sum","parts":[],"signs":[false,true,false]}}
+"proofs/low/+count/Proof"
+{"Declared":{"name":"low::Count","signs":[]}}
+"""
+
+
+class Weights(Folder):
+    def test_what_weighs(self):
+        write(self.folder, {"made.json": MADE})
+        functions, types = weights.weigh(os.path.join(self.folder, "made.json"))
+        lines = MADE.splitlines(keepends=True)
+        self.assertEqual(functions, {"": len(lines[1]), "low/add": len(lines[3]) + len(lines[5]), "low/+count": len(lines[7])})
+        self.assertEqual(types, {"low::Sum": (3, 2)})
 
 
 SCRIPT = """
