@@ -485,16 +485,18 @@ class OneCore(Folder):
         self.assertIn("did not end", self.fault("exec sleep 5"))
 
 
-# What was made of two functions, one of them in a cycle of calls; a type is spelled out twice in the code of the one.
-MADE = """"facade"
-{"Parent":{}}
+# What was made of two functions, one of them in a cycle of calls; a type is spelled out twice in the code of the one, once in another's.
+SUM = '{"Enum":{"name":"low::Sum","referents":[]}}'
+PAIR = '{"Declared":{"name":"low::Pair","referents":[%s]}}' % SUM
+MADE = f'''"facade"
+{{"Parent":{{}}}}
 "proofs/low/add/Lts-add"
-{"Enum":{"name":"low::Sum","parts":[],"signs":[false,true,false]}},{"Enum":{"name":"low::Sum","parts":[],"signs":[false,true,false]}}
+[{SUM},{PAIR},{SUM}]
 "proofs/low/add/Lts-add/Given"
-{"Enum":{"name":"low::Sum","parts":[],"signs":[false,true,false]}}
+[{SUM}]
 "proofs/low/+count/Proof"
-{"Declared":{"name":"low::Count","signs":[]}}
-"""
+{PAIR}
+'''
 
 
 class Weights(Folder):
@@ -503,7 +505,7 @@ class Weights(Folder):
         functions, types = weights.weigh(os.path.join(self.folder, "made.json"))
         lines = MADE.splitlines(keepends=True)
         self.assertEqual(functions, {"": len(lines[1]), "low/add": len(lines[3]) + len(lines[5]), "low/+count": len(lines[7])})
-        self.assertEqual(types, {"low::Sum": (3, 2)})
+        self.assertEqual(types, {"low::Sum": (2, 2 * len(SUM)), "low::Pair": (1, len(PAIR))})
 
 
 SCRIPT = """
