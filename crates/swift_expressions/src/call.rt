@@ -1,7 +1,10 @@
 //! Calls of methods.
 
-ghost use Rattle.std.specs.Prelude.{◌≡◌, IsNone, IsTrue};
-ghost use Rattle.swift_expressions.specs.Instructions.{IsHoisted};
+ghost use Rattle.std.specs.Prelude.{◌≡◌, ◌≢◌, ℕ, Bool, IsNone, IsTrue, None, Some};
+ghost use Rattle.swift_expressions.specs.Instructions.{IsHoisted, KeepsRefusal};
+ghost use Rattle.swift_expressions.specs.Lowered.{Calls, CallsOwn, checked, slept, takes_values, yielding};
+ghost use Rattle.swift_expressions.specs.States.{Becomes, put, state_of};
+ghost use Rattle.swift_expressions.specs.declared.call.Called.TheVariants as callees;
 
 use crate::code::{Instruction, Kind, NONE, Target, UnitKind, Value, Wait};
 use crate::lowering::{Fallback, Lowering};
@@ -46,7 +49,10 @@ pub(crate) struct Method {
     pub takes_operands: bool,
 }
 
-fn as_method(called: Called) -> Method {
+fn as_method(called: Called) -> Method
+    ensures called { result.called ≡ called }
+    ensures values { result.takes_operands ≡ takes_values called }
+{
     let takes_operands = matches!(called, Called::Own(_) | Called::Other(..));
     Method {
         called,
@@ -54,21 +60,41 @@ fn as_method(called: Called) -> Method {
     }
 }
 
+// Nothing is called: a refusal is noted.
+fn unknown(lowering: &mut Lowering<'_>, rule: Rule, token: usize) -> Method
+    ensures state { Becomes lowering.new (state_of lowering.old) }
+    ensures known { IsNone lowering.new.refused → result.called ≢ callees.Nothing }
+    ensures values { result.takes_operands ≡ takes_values result.called }
+    ensures refused { KeepsRefusal lowering.old lowering.new }
+{
+    lowering.refuse(rule, token);
+    as_method(Called::Nothing)
+}
+
 // A method of the own actor.
-fn own_method(lowering: &mut Lowering<'_>, token: usize) -> Method {
+fn own_method(lowering: &mut Lowering<'_>, token: usize) -> Method
+    ensures state { Becomes lowering.new (state_of lowering.old) }
+    ensures known { IsNone lowering.new.refused → result.called ≢ callees.Nothing }
+    ensures values { result.takes_operands ≡ takes_values result.called }
+    ensures refused { KeepsRefusal lowering.old lowering.new }
+{
     let actor = lowering.setting.actor;
     match method_named(lowering, actor, token) {
         Some(place) => as_method(Called::Own(place)),
         None => {
             let rule = rule_of_unknown(lowering, token);
-            lowering.refuse(rule, token);
-            as_method(Called::Nothing)
+            unknown(lowering, rule, token)
         }
     }
 }
 
 // A method of the own actor; else a function outside of actors, which it would hide.
-fn own_or_function(lowering: &mut Lowering<'_>, token: usize) -> Method {
+fn own_or_function(lowering: &mut Lowering<'_>, token: usize) -> Method
+    ensures state { Becomes lowering.new (state_of lowering.old) }
+    ensures known { IsNone lowering.new.refused → result.called ≢ callees.Nothing }
+    ensures values { result.takes_operands ≡ takes_values result.called }
+    ensures refused { KeepsRefusal lowering.old lowering.new }
+{
     let actor = lowering.setting.actor;
     if method_named(lowering, actor, token).is_none() {
         if let Some(place) = function_named(lowering, token) {
@@ -97,7 +123,12 @@ fn rule_of_unknown(lowering: &Lowering<'_>, token: usize) -> Rule {
 }
 
 // A method of the type `Task`.
-fn task_method(lowering: &mut Lowering<'_>, token: usize) -> Method {
+fn task_method(lowering: &mut Lowering<'_>, token: usize) -> Method
+    ensures state { Becomes lowering.new (state_of lowering.old) }
+    ensures known { IsNone lowering.new.refused → result.called ≢ callees.Nothing }
+    ensures values { result.takes_operands ≡ takes_values result.called }
+    ensures refused { KeepsRefusal lowering.old lowering.new }
+{
     if lowering.spells(token, "yield") {
         return as_method(Called::Yield);
     }
@@ -107,14 +138,18 @@ fn task_method(lowering: &mut Lowering<'_>, token: usize) -> Method {
     if lowering.spells(token, "checkCancellation") {
         return as_method(Called::Check);
     }
-    lowering.refuse(Rule::UnknownName, token);
-    as_method(Called::Nothing)
+    unknown(lowering, Rule::UnknownName, token)
 }
 
 // A method of the task or group at a place in scope.
-fn scope_method(lowering: &mut Lowering<'_>, place: usize, token: usize) -> Method {
+fn scope_method(lowering: &mut Lowering<'_>, place: usize, token: usize) -> Method
+    ensures state { Becomes lowering.new (state_of lowering.old) }
+    ensures known { IsNone lowering.new.refused → result.called ≢ callees.Nothing }
+    ensures values { result.takes_operands ≡ takes_values result.called }
+    ensures refused { KeepsRefusal lowering.old lowering.new }
+{
     let Some(found) = binding_at(lowering, place) else {
-        return as_method(Called::Nothing);
+        return unknown(lowering, Rule::UnknownName, token);
     };
     if found.standing == Standing::Group {
         if lowering.spells(token, "next") {
@@ -130,12 +165,16 @@ fn scope_method(lowering: &mut Lowering<'_>, place: usize, token: usize) -> Meth
     if found.standing == Standing::Task && lowering.spells(token, "cancel") {
         return as_method(Called::Cancel(found.variable));
     }
-    lowering.refuse(Rule::UnknownName, token);
-    as_method(Called::Nothing)
+    unknown(lowering, Rule::UnknownName, token)
 }
 
 /// What a call names.
-pub(crate) fn method_of(lowering: &mut Lowering<'_>, receiver: Receiver, token: usize) -> Method {
+pub(crate) fn method_of(lowering: &mut Lowering<'_>, receiver: Receiver, token: usize) -> Method
+    ensures state { Becomes lowering.new (state_of lowering.old) }
+    ensures known { IsNone lowering.new.refused → result.called ≢ callees.Nothing }
+    ensures values { result.takes_operands ≡ takes_values result.called }
+    ensures refused { KeepsRefusal lowering.old lowering.new }
+{
     let of = match receiver {
         Receiver::Nobody => {
             if find(lowering, token).is_some() {
@@ -153,17 +192,13 @@ pub(crate) fn method_of(lowering: &mut Lowering<'_>, receiver: Receiver, token: 
         return task_method(lowering, token);
     }
     let Some(instance) = instance_named(lowering, of) else {
-        lowering.refuse(Rule::UnknownName, of);
-        return as_method(Called::Nothing);
+        return unknown(lowering, Rule::UnknownName, of);
     };
     refuse_hidden(lowering, of);
     let actor = actor_of(lowering, instance);
     match method_named(lowering, actor, token) {
         Some(place) => as_method(Called::Other(instance, place)),
-        None => {
-            lowering.refuse(Rule::UnknownName, token);
-            as_method(Called::Nothing)
-        }
+        None => unknown(lowering, Rule::UnknownName, token),
     }
 }
 
@@ -183,7 +218,10 @@ pub fn want_arguments(
     first: usize,
     given: Operands,
     token: usize,
-) {
+)
+    ensures state { Becomes lowering.new (state_of lowering.old) }
+    ensures refused { KeepsRefusal lowering.old lowering.new }
+{
     if given.count != params_end.saturating_sub(first_param) {
         lowering.refuse(Rule::Arguments, token);
         return;
@@ -219,6 +257,8 @@ fn call_own(
 ) -> Typed
     // A function that is `async` runs outside of the actor that calls it, so other turns come in there.
     ensures hops { IsTrue declared.is_async → declared.actor ≡ NONE → IsNone lowering.new.refused → IsHoisted lowering.old lowering.new (Wait.Own place given.first) result }
+    ensures calls { IsNone lowering.new.refused → CallsOwn (state_of lowering.old) place declared given token (state_of lowering.new) result }
+    ensures refused { KeepsRefusal lowering.old lowering.new }
 {
     let kind = kind_of(declared.result);
     if declared.is_async {
@@ -251,7 +291,11 @@ fn call_method(
     first: usize,
     given: Operands,
     token: usize,
-) -> Typed {
+) -> Typed
+    ensures own { instance ≡ None → IsNone lowering.new.refused → Calls (state_of lowering.old) given token (state_of lowering.new) result (callees.Own place) }
+    ensures other { (i : ℕ) → instance ≡ Some i → IsNone lowering.new.refused → Calls (state_of lowering.old) given token (state_of lowering.new) result (callees.Other i place) }
+    ensures refused { KeepsRefusal lowering.old lowering.new }
+{
     let Some(declared) = method_at(lowering, place) else {
         return refused(lowering, Rule::UnknownName, token);
     };
@@ -291,7 +335,10 @@ fn begins_behind(lowering: &Lowering<'_>, variable: usize) -> bool {
 }
 
 // Cancels a task or a group. What was made before may begin before it is cancelled; in an actor's method others would come in here.
-fn cancel(lowering: &mut Lowering<'_>, variable: usize) {
+fn cancel(lowering: &mut Lowering<'_>, variable: usize)
+    ensures state { IsNone lowering.new.refused → (yields : Bool) × (state_of lowering.new ≡ put (Instruction.Cancel variable) (yielding yields (state_of lowering.old))) }
+    ensures refused { KeepsRefusal lowering.old lowering.new }
+{
     if lowering.setting.is_closure && !begins_behind(lowering, variable) {
         lowering.put(Instruction::Yield);
     }
@@ -299,13 +346,27 @@ fn cancel(lowering: &mut Lowering<'_>, variable: usize) {
 }
 
 // `Task.sleep`: any delay is among the orders that are searched.
-fn sleep(lowering: &mut Lowering<'_>, token: usize) {
+fn sleep(lowering: &mut Lowering<'_>, token: usize)
+    ensures state { Becomes lowering.new (slept (state_of lowering.old)) }
+    ensures refused { KeepsRefusal lowering.old lowering.new }
+{
     want_await(lowering, token);
     want_try(lowering, token);
     let is_caught = matches!(lowering.setting.fallback, Fallback::Fault(_));
     lowering.setting.fallback = Fallback::None;
     lowering.put(Instruction::Yield);
     if !is_caught {
+        lowering.put(Instruction::Check);
+    }
+}
+
+// `Task.checkCancellation`
+fn check(lowering: &mut Lowering<'_>, token: usize)
+    ensures state { Becomes lowering.new (checked (state_of lowering.old)) }
+    ensures refused { KeepsRefusal lowering.old lowering.new }
+{
+    want_try(lowering, token);
+    if lowering.take_fault() == NONE {
         lowering.put(Instruction::Check);
     }
 }
@@ -317,7 +378,10 @@ pub(crate) fn call(
     first: usize,
     given: Operands,
     token: usize,
-) -> Typed {
+) -> Typed
+    ensures calls { method.called ≢ callees.Nothing → IsNone lowering.new.refused → Calls (state_of lowering.old) given token (state_of lowering.new) result method.called }
+    ensures refused { KeepsRefusal lowering.old lowering.new }
+{
     let is_bare = !method.takes_operands && !matches!(method.called, Called::Sleep);
     if is_bare && first != 0 {
         lowering.refuse(Rule::Arguments, token);
@@ -335,12 +399,7 @@ pub(crate) fn call(
             lowering.put(Instruction::Yield);
         }
         Called::Sleep => sleep(lowering, token),
-        Called::Check => {
-            want_try(lowering, token);
-            if lowering.take_fault() == NONE {
-                lowering.put(Instruction::Check);
-            }
-        }
+        Called::Check => check(lowering, token),
         Called::Cancel(variable) => cancel(lowering, variable),
     }
     with_kind(lowering, Value::Number(0), Kind::Void)

@@ -1,14 +1,16 @@
 //! A lowering under way.
 
-ghost use Rattle.std.specs.Prelude.{◌≡◌, ◌++◌, ◌∷◌, [], IsTrue, IsNone, IsSome};
+ghost use Rattle.std.specs.List.{slice_get};
+ghost use Rattle.std.specs.Prelude.{◌≡◌, ◌++◌, ◌∷◌, [], IsTrue, IsNone, IsSome, length};
 ghost use Rattle.swift_expressions.specs.Instructions.{IsPlaced, IsVariableOf, KeepsRefusal, Puts, value_at};
+ghost use Rattle.swift_expressions.specs.States.{Becomes, argument_at, expr_at, fault_of, next_value, next_variable, put, state_of, with_fallback, with_operand, with_temporary, with_value, with_variable};
 
 use crate::code::{Code, Instruction, Kind, NONE, Operand, Unit, UnitKind, Value, Variable};
 use crate::lines::{Lines, Spot};
 use crate::scope::Binding;
 use crate::typed::Typed;
 use std::alloc::Global;
-use swift_syntax::{Breach, Rule, Token, TokenKind, Tree};
+use swift_syntax::{Argument, Breach, Expr, ExprForm, Rule, Token, TokenKind, Tree};
 
 /// What stands for a value that does not come.
 #[derive(Clone, Copy)]
@@ -146,6 +148,7 @@ impl<'a> Lowering<'a> {
         ensures code { self.new.code ≡ self.old.code }
         ensures scope { self.new.scope ≡ self.old.scope }
         ensures noted { IsSome self.new.refused }
+        ensures state { Becomes self.new (state_of self.old) }
         ensures refused { KeepsRefusal self.old self.new }
     {
         if self.refused.is_none() {
@@ -154,7 +157,10 @@ impl<'a> Lowering<'a> {
     }
 
     /// Refuses what is thrown at a token where its unit may not throw. What a `do` catches is a wait of its own.
-    pub fn refuse_thrown(&mut self, place: usize) {
+    pub fn refuse_thrown(&mut self, place: usize)
+        ensures state { Becomes self.new (state_of self.old) }
+        ensures refused { KeepsRefusal self.old self.new }
+    {
         if self.setting.is_throwing {
             return;
         }
@@ -168,6 +174,7 @@ impl<'a> Lowering<'a> {
     fn note(&mut self, is_grown: bool)
         ensures code { self.new.code ≡ self.old.code }
         ensures scope { self.new.scope ≡ self.old.scope }
+        ensures state { Becomes self.new (state_of self.old) }
         ensures refused { KeepsRefusal self.old self.new }
         ensures grown { IsNone self.new.refused → IsTrue is_grown }
     {
@@ -194,6 +201,29 @@ impl<'a> Lowering<'a> {
         self.bytes(left) == self.bytes(right)
     }
 
+    /// The expression at a place of the tree; none where there is no such place.
+    pub fn expr(&self, place: usize) -> Expr
+        ensures { result ≡ expr_at (state_of self.now) place }
+    {
+        match self.tree.exprs.get(place) {
+            Some(expr) => *expr,
+            None => Expr {
+                form: ExprForm::Missing,
+                token: 0,
+            },
+        }
+    }
+
+    /// The argument at a place of the tree; there is none at 0.
+    pub fn argument(&self, place: usize) -> Option<Argument>
+        ensures { result ≡ argument_at (state_of self.now) place }
+    {
+        if place == 0 {
+            return None;
+        }
+        self.tree.arguments.get(place).copied()
+    }
+
     /// Whether a token is a name.
     pub fn is_name(&self, place: usize) -> bool {
         match self.tokens.get(place) {
@@ -208,6 +238,8 @@ impl<'a> Lowering<'a> {
         ensures put { IsNone self.new.refused → IsPlaced self.old.code self.new.code value result }
         ensures instructions { self.new.code.instructions ≡ self.old.code.instructions }
         ensures scope { self.new.scope ≡ self.old.scope }
+        ensures state { Becomes self.new (with_value value (state_of self.old)) }
+        ensures place { result ≡ next_value (state_of self.old) }
         ensures refused { KeepsRefusal self.old self.new }
     {
         let place = self.code.values.len();
@@ -230,6 +262,8 @@ impl<'a> Lowering<'a> {
     pub fn number(&mut self, number: i64) -> usize
         ensures put { IsNone self.new.refused → IsPlaced self.old.code self.new.code (Value.Number number) result }
         ensures instructions { self.new.code.instructions ≡ self.old.code.instructions }
+        ensures state { Becomes self.new (with_value (Value.Number number) (state_of self.old)) }
+        ensures place { result ≡ next_value (state_of self.old) }
         ensures refused { KeepsRefusal self.old self.new }
     {
         self.value(Value::Number(number))
@@ -238,6 +272,8 @@ impl<'a> Lowering<'a> {
     /// Takes what stands for the value of the next wait where that ends with a fault, or `NONE`.
     pub fn take_fault(&mut self) -> usize
         ensures code { self.new.code ≡ self.old.code }
+        ensures state { Becomes self.new (with_fallback Fallback.None (state_of self.old)) }
+        ensures fault { result ≡ fault_of self.old.setting.fallback }
         ensures refused { KeepsRefusal self.old self.new }
     {
         let found = self.setting.fallback;
@@ -256,6 +292,7 @@ impl<'a> Lowering<'a> {
     pub fn put(&mut self, instruction: Instruction)
         ensures put { Puts self.old self.new instruction }
         ensures values { self.new.code.values ≡ self.old.code.values }
+        ensures state { Becomes self.new (put instruction (state_of self.old)) }
         ensures refused { KeepsRefusal self.old self.new }
     {
         let is_grown = self.code.instructions.push(instruction).is_ok();
@@ -273,7 +310,11 @@ impl<'a> Lowering<'a> {
     }
 
     /// Puts an operand into its table, and after another one where there is one. Its place.
-    pub fn operand(&mut self, given: Typed, last: usize) -> usize {
+    pub fn operand(&mut self, given: Typed, last: usize) -> usize
+        ensures state { Becomes self.new (with_operand given last (state_of self.old)) }
+        ensures place { result ≡ length self.old.code.operands.items }
+        ensures refused { KeepsRefusal self.old self.new }
+    {
         let place = self.code.operands.len();
         if let Some(before) = self.code.operands.get_mut(last) {
             before.next = place;
@@ -320,23 +361,33 @@ impl<'a> Lowering<'a> {
         ensures scope { self.new.scope ≡ self.old.scope }
         ensures refused { KeepsRefusal self.old self.new }
     {
-        let place = self.code.variables.len();
         let duplicate = if token == 0 {
             0
         } else {
             self.duplicates(token)
         };
         let unit = self.setting.unit;
-        let is_grown = self
-            .code
-            .variables
-            .push(Variable {
-                unit,
-                token,
-                duplicate,
-                is_param,
-            })
-            .is_ok();
+        self.add_variable(Variable {
+            unit,
+            token,
+            duplicate,
+            is_param,
+        })
+    }
+
+    // Puts a variable into its table. Its place.
+    #[tactic(auto, using(std::proofs::lemmas::List::get_or_push))]
+    fn add_variable(&mut self, variable: Variable) -> usize
+        ensures made { IsNone self.new.refused → slice_get self.new.code.variables.items result ≡ Some variable }
+        ensures instructions { self.new.code.instructions ≡ self.old.code.instructions }
+        ensures values { self.new.code.values ≡ self.old.code.values }
+        ensures scope { self.new.scope ≡ self.old.scope }
+        ensures state { Becomes self.new (with_variable variable (state_of self.old)) }
+        ensures place { result ≡ next_variable (state_of self.old) }
+        ensures refused { KeepsRefusal self.old self.new }
+    {
+        let place = self.code.variables.len();
+        let is_grown = self.code.variables.push(variable).is_ok();
         self.note(is_grown);
         place
     }
@@ -345,9 +396,17 @@ impl<'a> Lowering<'a> {
     pub fn temporary(&mut self) -> usize
         ensures instructions { self.new.code.instructions ≡ self.old.code.instructions }
         ensures values { self.new.code.values ≡ self.old.code.values }
+        ensures state { Becomes self.new (with_temporary (state_of self.old)) }
+        ensures place { result ≡ next_variable (state_of self.old) }
         ensures refused { KeepsRefusal self.old self.new }
     {
-        self.variable(0, false)
+        let unit = self.setting.unit;
+        self.add_variable(Variable {
+            unit,
+            token: 0,
+            duplicate: 0,
+            is_param: false,
+        })
     }
 
     /// Puts a variable into scope.

@@ -1,7 +1,9 @@
 //! What stands in scope.
 
-ghost use Rattle.std.specs.Prelude.{◌≡◌, IsNone};
+ghost use Rattle.std.specs.Prelude.{◌≡◌, IsNone, slice_get};
 ghost use Rattle.swift_expressions.specs.Instructions.{IsBound, KeepsRefusal};
+ghost use Rattle.swift_expressions.specs.Lowered.{used};
+ghost use Rattle.swift_expressions.specs.States.{Becomes, state_of};
 
 use crate::code::Kind;
 use crate::lowering::Lowering;
@@ -58,7 +60,9 @@ pub fn find(lowering: &Lowering<'_>, token: usize) -> Option<usize> {
 }
 
 /// The name in scope at a place.
-pub fn binding_at(lowering: &Lowering<'_>, place: usize) -> Option<Binding> {
+pub fn binding_at(lowering: &Lowering<'_>, place: usize) -> Option<Binding>
+    ensures { result ≡ slice_get lowering.now.scope.items place }
+{
     lowering.scope.get(place).copied()
 }
 
@@ -71,7 +75,10 @@ pub fn standing_at(lowering: &Lowering<'_>, token: usize) -> Option<Binding> {
 }
 
 /// Notes that the name in scope at a place is awaited.
-pub fn mark_used(lowering: &mut Lowering<'_>, place: usize) {
+pub fn mark_used(lowering: &mut Lowering<'_>, place: usize)
+    ensures state { Becomes lowering.new (used place (state_of lowering.old)) }
+    ensures refused { KeepsRefusal lowering.old lowering.new }
+{
     if let Some(binding) = lowering.scope.get_mut(place) {
         binding.is_used = true;
     }

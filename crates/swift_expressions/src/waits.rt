@@ -1,7 +1,11 @@
 //! What is waited for.
 
-ghost use Rattle.std.specs.Prelude.{◌≡◌, IsNone};
+ghost use Rattle.std.specs.Prelude.{◌≡◌, ℕ, IsNone, Some, slice_get};
 ghost use Rattle.swift_expressions.specs.Instructions.{IsHoisted, KeepsRefusal};
+ghost use Rattle.swift_expressions.specs.Lowered.{Calls, Names, Waits, child_test, close_next, counted, counted_child, open_next, used, waited_for_all, with_child_test, yielding};
+ghost use Rattle.swift_expressions.specs.States.{Becomes, state_of};
+ghost use Rattle.swift_expressions.specs.declared.call.Called.TheVariants as callees;
+ghost use Rattle.swift_expressions.specs.declared.operands.Operands.{Operands};
 
 use crate::code::{Instruction, Kind, NONE, Target, Value, Wait};
 use crate::lowering::{Fallback, Lowering};
@@ -15,6 +19,7 @@ use swift_types::Operator;
 /// Refuses what is not covered by `await`.
 pub(crate) fn want_await(lowering: &mut Lowering<'_>, token: usize)
     ensures code { lowering.new.code ≡ lowering.old.code }
+    ensures state { Becomes lowering.new (state_of lowering.old) }
     ensures refused { KeepsRefusal lowering.old lowering.new }
 {
     if !lowering.setting.is_awaited {
@@ -23,7 +28,10 @@ pub(crate) fn want_await(lowering: &mut Lowering<'_>, token: usize)
 }
 
 /// Refuses what may throw and is not covered by `try`.
-pub(crate) fn want_try(lowering: &mut Lowering<'_>, token: usize) {
+pub(crate) fn want_try(lowering: &mut Lowering<'_>, token: usize)
+    ensures state { Becomes lowering.new (state_of lowering.old) }
+    ensures refused { KeepsRefusal lowering.old lowering.new }
+{
     if let Fallback::Fault(_) = lowering.setting.fallback {
         return;
     }
@@ -37,6 +45,7 @@ pub(crate) fn want_try(lowering: &mut Lowering<'_>, token: usize) {
 pub(crate) fn wait(lowering: &mut Lowering<'_>, what: Wait, kind: Kind) -> Typed
     ensures hoisted { IsNone lowering.new.refused → IsHoisted lowering.old lowering.new what result }
     ensures kind { result.kind ≡ kind }
+    ensures waits { IsNone lowering.new.refused → Waits (state_of lowering.old) what kind (state_of lowering.new) result }
     ensures refused { KeepsRefusal lowering.old lowering.new }
 {
     let otherwise = lowering.take_fault();
@@ -55,7 +64,10 @@ pub(crate) fn field_of(lowering: &Lowering<'_>, instance: usize, token: usize) -
 }
 
 /// A field of an instance.
-pub(crate) fn getter(lowering: &mut Lowering<'_>, instance: usize, token: usize) -> Typed {
+pub(crate) fn getter(lowering: &mut Lowering<'_>, instance: usize, token: usize) -> Typed
+    ensures names { IsNone lowering.new.refused → Names (state_of lowering.old) (state_of lowering.new) result }
+    ensures refused { KeepsRefusal lowering.old lowering.new }
+{
     let Some(field) = field_of(lowering, instance, token) else {
         return refused(lowering, Rule::UnknownName, token);
     };
@@ -79,6 +91,18 @@ pub(crate) fn getter(lowering: &mut Lowering<'_>, instance: usize, token: usize)
     }
 }
 
+// What was made before may read its priority before it is raised by a wait: its turn comes first.
+fn yield_before(lowering: &mut Lowering<'_>) -> bool
+    ensures state { Becomes lowering.new (yielding result (state_of lowering.old)) }
+    ensures refused { KeepsRefusal lowering.old lowering.new }
+{
+    let yields = lowering.setting.is_closure && reads_priority(lowering);
+    if yields {
+        lowering.put(Instruction::Yield);
+    }
+    yields
+}
+
 // Whether something in the file reads a priority.
 fn reads_priority(lowering: &Lowering<'_>) -> bool {
     lowering
@@ -89,7 +113,10 @@ fn reads_priority(lowering: &Lowering<'_>) -> bool {
 }
 
 /// The value of the task at a place in scope.
-pub(crate) fn task_value(lowering: &mut Lowering<'_>, place: usize, token: usize) -> Typed {
+pub(crate) fn task_value(lowering: &mut Lowering<'_>, place: usize, token: usize) -> Typed
+    ensures names { IsNone lowering.new.refused → Names (state_of lowering.old) (state_of lowering.new) result }
+    ensures refused { KeepsRefusal lowering.old lowering.new }
+{
     let Some(found) = binding_at(lowering, place) else {
         return refused(lowering, Rule::UnknownName, token);
     };
@@ -101,10 +128,7 @@ pub(crate) fn task_value(lowering: &mut Lowering<'_>, place: usize, token: usize
         want_try(lowering, token);
     }
     mark_used(lowering, place);
-    // What was made before may read its priority before it is raised by this wait.
-    if lowering.setting.is_closure && reads_priority(lowering) {
-        lowering.put(Instruction::Yield);
-    }
+    yield_before(lowering);
     wait(lowering, Wait::Task(found.variable), found.kind)
 }
 
@@ -114,7 +138,11 @@ pub(crate) fn next_child(
     place: usize,
     found: Binding,
     token: usize,
-) -> Typed {
+) -> Typed
+    requires { slice_get lowering.old.scope.items place ≡ Some found }
+    ensures names { IsNone lowering.new.refused → Names (state_of lowering.old) (state_of lowering.new) result }
+    ensures refused { KeepsRefusal lowering.old lowering.new }
+{
     want_await(lowering, token);
     if found.is_throwing {
         want_try(lowering, token);
@@ -124,23 +152,40 @@ pub(crate) fn next_child(
     }
     mark_used(lowering, place);
     let value = wait(lowering, Wait::Next(found.variable), found.kind);
-    if found.count != found.variable {
-        count_down(lowering, found.count);
-    }
+    count_child(lowering, found);
     value
 }
 
+// Takes the child of an `async let` from its count, where it has one.
+fn count_child(lowering: &mut Lowering<'_>, found: Binding)
+    ensures state { Becomes lowering.new (counted_child found (state_of lowering.old)) }
+    ensures refused { KeepsRefusal lowering.old lowering.new }
+{
+    if found.count != found.variable {
+        count_down(lowering, found.count);
+    }
+}
+
 /// Takes one from a group's count of children.
-pub fn count_down(lowering: &mut Lowering<'_>, count: usize) {
+pub fn count_down(lowering: &mut Lowering<'_>, count: usize)
+    ensures state { Becomes lowering.new (counted Operator.Minus count (state_of lowering.old)) }
+    ensures refused { KeepsRefusal lowering.old lowering.new }
+{
     count_by(lowering, count, Operator::Minus);
 }
 
 /// Adds one to a group's count of children.
-pub fn count_up(lowering: &mut Lowering<'_>, count: usize) {
+pub fn count_up(lowering: &mut Lowering<'_>, count: usize)
+    ensures state { Becomes lowering.new (counted Operator.Plus count (state_of lowering.old)) }
+    ensures refused { KeepsRefusal lowering.old lowering.new }
+{
     count_by(lowering, count, Operator::Plus);
 }
 
-fn count_by(lowering: &mut Lowering<'_>, count: usize, operator: Operator) {
+fn count_by(lowering: &mut Lowering<'_>, count: usize, operator: Operator)
+    ensures state { Becomes lowering.new (counted operator count (state_of lowering.old)) }
+    ensures refused { KeepsRefusal lowering.old lowering.new }
+{
     let before = lowering.value(Value::Variable(count));
     let one = lowering.number(1);
     let after = lowering.value(Value::Binary(operator, before, one));
@@ -150,6 +195,8 @@ fn count_by(lowering: &mut Lowering<'_>, count: usize, operator: Operator) {
 /// Whether a group's count says that a child is left.
 pub fn has_child(lowering: &mut Lowering<'_>, count: usize) -> usize
     ensures instructions { lowering.new.code.instructions ≡ lowering.old.code.instructions }
+    ensures state { Becomes lowering.new (with_child_test count (state_of lowering.old)) }
+    ensures place { IsNone lowering.new.refused → result ≡ child_test count (state_of lowering.old) }
     ensures refused { KeepsRefusal lowering.old lowering.new }
 {
     let many = lowering.value(Value::Variable(count));
@@ -158,7 +205,10 @@ pub fn has_child(lowering: &mut Lowering<'_>, count: usize) -> usize
 }
 
 /// The next result of a group, or a fallback where no child is left.
-pub(crate) fn group_next(lowering: &mut Lowering<'_>, place: usize, token: usize) -> Typed {
+pub(crate) fn group_next(lowering: &mut Lowering<'_>, place: usize, token: usize) -> Typed
+    ensures calls { (given : Operands) (at : ℕ) → IsNone lowering.new.refused → Calls (state_of lowering.old) given at (state_of lowering.new) result (callees.Next place) }
+    ensures refused { KeepsRefusal lowering.old lowering.new }
+{
     let Some(found) = binding_at(lowering, place) else {
         return refused(lowering, Rule::UnknownName, token);
     };
@@ -186,7 +236,10 @@ pub(crate) fn group_next(lowering: &mut Lowering<'_>, place: usize, token: usize
 }
 
 /// Takes all results that are left of a group.
-pub(crate) fn wait_for_all(lowering: &mut Lowering<'_>, place: usize, token: usize) -> Typed {
+pub(crate) fn wait_for_all(lowering: &mut Lowering<'_>, place: usize, token: usize) -> Typed
+    ensures calls { (given : Operands) (at : ℕ) → IsNone lowering.new.refused → Calls (state_of lowering.old) given at (state_of lowering.new) result (callees.WaitForAll place) }
+    ensures refused { KeepsRefusal lowering.old lowering.new }
+{
     let Some(found) = binding_at(lowering, place) else {
         return refused(lowering, Rule::UnknownName, token);
     };
