@@ -1,5 +1,5 @@
 -- What an expression becomes: a value, and the instructions before it. What Swift computes first comes first. (Our own.)
-use Rattle.std.specs.Prelude.{ℕ, ◌≡◌, ◌≢◌, ◌==◌, Bool, true, false, not, ◌&&◌, ◌||◌, if◌then◌else◌, suc, ℤ, pos, List, [], ◌∷◌, length, Option, Some, None, slice_set}
+use Rattle.std.specs.Prelude.{ℕ, zero, ◌≡◌, ◌==◌, Bool, true, false, not, ◌&&◌, ◌||◌, if◌then◌else◌, suc, ℤ, pos, List, [], ◌∷◌, length, Option, Some, None, slice_set}
 use Rattle.std.specs.List.{slice_get}
 use Rattle.swift_types.specs.declared.operator.Operator.{Operator}
 use Rattle.swift_types.specs.declared.operator.Operator.TheVariants as operators
@@ -23,7 +23,7 @@ use Rattle.swift_expressions.specs.declared.code.TheConstants.{NONE}
 use Rattle.swift_expressions.specs.declared.code.Value.{Value}
 use Rattle.swift_expressions.specs.declared.code.Value.TheVariants as value
 use Rattle.swift_expressions.specs.declared.code.Wait.{Wait}
-use Rattle.swift_expressions.specs.declared.code.Wait.TheVariants as waits
+use Rattle.swift_expressions.specs.declared.code.Wait.TheVariants as waiting
 use Rattle.swift_expressions.specs.declared.effect.TheConstants.{DEPTH}
 use Rattle.swift_expressions.specs.declared.lowering.Fallback.{Fallback}
 use Rattle.swift_expressions.specs.declared.lowering.Fallback.TheVariants as fallbacks
@@ -55,7 +55,7 @@ acts_by deeper form.Case = false
 
 -- whether an expression does something: calls, waits or chooses, itself or in a part; one that nests deeper than this is taken to
 unfoldable pub is_acting_within : State → ℕ → ℕ → Bool
-is_acting_within s 0 place = true
+is_acting_within s zero place = true
 is_acting_within s (suc depth) place = acts_by (is_acting_within s depth) (form_at s place)
 
 -- whether an expression itself becomes more than a value
@@ -199,7 +199,7 @@ is_left s declared = is_fault s.fallback || (declared.is_async && declared.actor
 
 -- A call of a method of the own actor, or of a function, with its operands.
 pub data CallsOwn (s : State) (place : ℕ) (declared : MethodDecl) (given : Operands) (token : ℕ) (t : State) (found : Typed) : Type 0 where
-  waits : is_left s declared ≡ true → Waits s (waits.Own place given.first) (kind_in declared.result) t found → CallsOwn s place declared given token t found
+  waits : is_left s declared ≡ true → Waits s (waiting.Own place given.first) (kind_in declared.result) t found → CallsOwn s place declared given token t found
   put_in : is_left s declared ≡ false → Gives (put (instruction.Inline (target_of (kind_in declared.result) s) place given.first token) (with_target (kind_in declared.result) s)) (result_of (kind_in declared.result) s) (kind_in declared.result) t found → CallsOwn s place declared given token t found
 
 -- the name in scope at a place is awaited
@@ -236,10 +236,10 @@ IsNamed (value.Binary o l r) = ⊥
 -- What a name becomes: a value; a wait for the field of another actor, for a task, or for the child of an `async let`. For which one is not
 -- said here.
 pub data Names (s t : State) (found : Typed) : Type 0 where
-  value : {v : Value} {kind : Kind} → IsNamed v → Gives s v kind t found → Names s t found
-  field : {instance field : ℕ} {kind : Kind} → Waits s (waits.Getter instance field) kind t found → Names s t found
-  task : {place : ℕ} {b : Binding} {yields : Bool} → slice_get s.scope place ≡ Some b → Waits (yielding yields (used place s)) (waits.Task b.variable) b.kind t found → Names s t found
-  child : {place : ℕ} {b : Binding} {u : State} → slice_get s.scope place ≡ Some b → Waits (used place s) (waits.Next b.variable) b.kind u found → t ≡ counted_child b u → Names s t found
+  read : {v : Value} {kind : Kind} → IsNamed v → Gives s v kind t found → Names s t found
+  field : {kind : Kind} (instance field : ℕ) → Waits s (waiting.Getter instance field) kind t found → Names s t found
+  task : {b : Binding} (place : ℕ) (yields : Bool) → slice_get s.scope place ≡ Some b → Waits (yielding yields (used place s)) (waiting.Task b.variable) b.kind t found → Names s t found
+  child : {b : Binding} {u : State} (place : ℕ) → slice_get s.scope place ≡ Some b → Waits (used place s) (waiting.Next b.variable) b.kind u found → t ≡ counted_child b u → Names s t found
 
 -- the number of a truth value
 abbrev pub number_of : Bool → ℤ
@@ -275,17 +275,17 @@ close_next count variable next s = put instruction.End (put (instruction.Set var
 
 -- `group.waitForAll()`: `while count > 0 { await next group; count = count - 1; }`
 abbrev pub waited_for_all : Binding → State → State
-waited_for_all b s = put instruction.End (counted operators.Minus b.count (put (instruction.Wait Nothing (waits.Next b.variable) NONE) (put (instruction.While (child_test b.count s)) (with_child_test b.count s))))
+waited_for_all b s = put instruction.End (counted operators.Minus b.count (put (instruction.Wait Nothing (waiting.Next b.variable) NONE) (put (instruction.While (child_test b.count s)) (with_child_test b.count s))))
 
 -- What is called, with its operands. Whether the turn ends before a task or a group is cancelled is not said here.
 pub data Calls (s : State) (given : Operands) (token : ℕ) (t : State) (found : Typed) : Called → Type 0 where
   own : {place : ℕ} {declared : MethodDecl} → slice_get s.tree.methods.items place ≡ Some declared → CallsOwn s place declared given token t found → Calls s given token t found (callees.Own place)
-  other : {instance place : ℕ} {declared : MethodDecl} → slice_get s.tree.methods.items place ≡ Some declared → Waits s (waits.Method instance place given.first) (kind_in declared.result) t found → Calls s given token t found (callees.Other instance place)
+  other : {instance place : ℕ} {declared : MethodDecl} → slice_get s.tree.methods.items place ≡ Some declared → Waits s (waiting.Method instance place given.first) (kind_in declared.result) t found → Calls s given token t found (callees.Other instance place)
   yield : Gives (put instruction.Yield s) (value.Number (pos 0)) kinds.Void t found → Calls s given token t found callees.Yield
   sleep : Gives (slept s) (value.Number (pos 0)) kinds.Void t found → Calls s given token t found callees.Sleep
   check : Gives (checked s) (value.Number (pos 0)) kinds.Void t found → Calls s given token t found callees.Check
-  cancel : {variable : ℕ} {yields : Bool} → Gives (put (instruction.Cancel variable) (yielding yields s)) (value.Number (pos 0)) kinds.Void t found → Calls s given token t found (callees.Cancel variable)
-  next : {place v : ℕ} {b : Binding} {u : State} {one : Typed} → slice_get s.scope place ≡ Some b → s.fallback ≡ fallbacks.Nil v → Waits (open_next b.count v s) (waits.Next b.variable) b.kind u one → Gives (used place (close_next b.count (next_variable s) one u)) (value.Variable (next_variable s)) b.kind t found → Calls s given token t found (callees.Next place)
+  cancel : {variable : ℕ} (yields : Bool) → Gives (put (instruction.Cancel variable) (yielding yields s)) (value.Number (pos 0)) kinds.Void t found → Calls s given token t found (callees.Cancel variable)
+  next : {place v : ℕ} {b : Binding} {u : State} {one : Typed} → slice_get s.scope place ≡ Some b → s.fallback ≡ fallbacks.Nil v → Waits (open_next b.count v s) (waiting.Next b.variable) b.kind u one → Gives (used place (close_next b.count (next_variable s) one u)) (value.Variable (next_variable s)) b.kind t found → Calls s given token t found (callees.Next place)
   all : {place : ℕ} {b : Binding} → slice_get s.scope place ≡ Some b → Gives (used place (waited_for_all b s)) (value.Number (pos 0)) kinds.Void t found → Calls s given token t found (callees.WaitForAll place)
 
 -- whether an argument is followed by another one
@@ -311,20 +311,20 @@ mutual
     call : {s t u : State} {p : ℕ} {receiver : Receiver} {first : ℕ} {given : Operands} {found : Typed} (what : Called) → form_at s p ≡ form.Call receiver first → HandsIf (takes_values what) s first t given → Calls t given (expr_at s p).token u found what → Lowers s p u found
     negated : {s t u : State} {p q : ℕ} {inner found : Typed} → form_at s p ≡ form.Negate q → Lowers s q t inner → Gives t (value.Negate inner.value) kinds.Int u found → Lowers s p u found
     inverted : {s t u : State} {p q : ℕ} {inner found : Typed} → form_at s p ≡ form.Not q → Lowers s q t inner → Gives t (value.Not inner.value) kinds.Bool u found → Lowers s p u found
-    binary : {s t u v w : State} {p l r : ℕ} {o : Operator} {first kept second found : Typed} → form_at s p ≡ form.Binary o l r → is_cut_short s o r ≡ false → Lowers s l t first → KeepsIf (acts s r) t first u kept → Lowers u r v second → Gives v (value.Binary o kept.value second.value) (kind_by o kept.kind) w found → Lowers s p w found
+    binary : {s t u v w : State} {p l r : ℕ} {o : Operator} {first second found : Typed} (kept : Typed) → form_at s p ≡ form.Binary o l r → is_cut_short s o r ≡ false → Lowers s l t first → KeepsIf (acts s r) t first u kept → Lowers u r v second → Gives v (value.Binary o kept.value second.value) (kind_by o kept.kind) w found → Lowers s p w found
     shortcut : {s t u v w : State} {p l r : ℕ} {o : Operator} {first second found : Typed} → form_at s p ≡ form.Binary o l r → is_cut_short s o r ≡ true → Lowers s l t first → u ≡ open_shortcut o first t → Lowers (covered false u) r v second → w ≡ close_shortcut (next_variable t) second (covered u.is_awaited v) → found ≡ shortcut_value t → Lowers s p w found
     comma : {s t u v w : State} {p l r : ℕ} {first second found : Typed} → form_at s p ≡ form.Both l r → Lowers s l t first → u ≡ open_shortcut operators.And first t → Lowers (covered false u) r v second → w ≡ close_shortcut (next_variable t) second (covered u.is_awaited v) → found ≡ shortcut_value t → Lowers s p w found
     choice : {s t u v w x y : State} {p c a b : ℕ} {test first second found : Typed} → form_at s p ≡ form.Choice c a b → Lowers s c t test → u ≡ open_choice test t → Lowers u a v first → w ≡ turn_choice (next_variable t) first v → Lowers w b x second → Gives (close_shortcut (next_variable t) second x) (value.Variable (next_variable t)) first.kind y found → Lowers s p y found
     awaited : {s t : State} {p q : ℕ} {found : Typed} → form_at s p ≡ form.Await q → Lowers (covered true s) q t found → Lowers s p (covered s.is_awaited t) found
     tried : {s t : State} {p q : ℕ} {found : Typed} → form_at s p ≡ form.Try q → Lowers s q t found → Lowers s p t found
-    otherwise : {s t u : State} {p l r : ℕ} {instead found : Typed} → form_at s p ≡ form.Otherwise l r → Lowers s r t instead → Lowers (with_fallback (fallback_by instead.value (form_at s l)) t) (caught_by l (form_at s l)) u found → Lowers s p u found
+    otherwise : {s t u : State} {p l r : ℕ} {instead found : Typed} → form_at s p ≡ form.Otherwise l r → Lowers s r t instead → Lowers (with_fallback (fallback_by instead.value (form_at t l)) t) (caught_by l (form_at s l)) u found → Lowers s p u found
 
   -- What the arguments of a call become, from a place on, behind the operands so far: each once, from left to right, and kept where another
   -- one follows. At most so many follow.
   pub data Hands : ℕ → State → ℕ → Operands → State → Operands → Type 0 where
-    spent : {s : State} {p : ℕ} {found : Operands} → Hands 0 s p found s found
+    spent : {s : State} {p : ℕ} {found : Operands} → Hands zero s p found s found
     no_more : {n : ℕ} {s : State} {p : ℕ} {found : Operands} → argument_at s p ≡ None → Hands n s p found s found
-    one_more : {m n : ℕ} {s t u v w : State} {p : ℕ} {a : Argument} {so_far found : Operands} {given kept : Typed} → n ≡ suc m → argument_at s p ≡ Some a → Lowers s a.value t given → KeepsIf (has_next a) t given u kept → v ≡ with_operand kept so_far.last u → Hands m v a.next (and_one so_far (length u.operands)) w found → Hands n s p so_far w found
+    one_more : {m n : ℕ} {s t v w : State} {p : ℕ} {a : Argument} {so_far found : Operands} {given : Typed} (u : State) (kept : Typed) → n ≡ suc m → argument_at s p ≡ Some a → Lowers s a.value t given → KeepsIf (has_next a) t given u kept → v ≡ with_operand kept so_far.last u → Hands m v a.next (and_one so_far (length u.operands)) w found → Hands n s p so_far w found
 
   -- What is handed to what takes values.
   pub data HandsIf : Bool → State → ℕ → State → Operands → Type 0 where

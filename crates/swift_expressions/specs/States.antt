@@ -23,6 +23,7 @@ use Rattle.swift_expressions.specs.declared.code.Wait.{Wait}
 use Rattle.swift_expressions.specs.declared.lowering.Fallback.{Fallback}
 use Rattle.swift_expressions.specs.declared.lowering.Fallback.TheVariants as fallbacks
 use Rattle.swift_expressions.specs.declared.lowering.Lowering.{Lowering}
+use Rattle.swift_expressions.specs.declared.lowering.Returns.{Returns}
 use Rattle.swift_expressions.specs.declared.scope.Binding.{Binding}
 use Rattle.swift_expressions.specs.declared.typed.Typed.{Typed}
 
@@ -44,6 +45,8 @@ pub record State : Type 0 where
   pub is_expectation : Bool
   pub is_awaited : Bool
   pub fallback : Fallback
+  pub returns : Returns
+  pub groups : ℕ
 
 -- the state of a lowering
 abbrev pub state_of : Lowering → State
@@ -64,6 +67,8 @@ state_of l = record {
   is_expectation = l.setting.is_expectation;
   is_awaited = l.setting.is_awaited;
   fallback = l.setting.fallback;
+  returns = l.setting.returns;
+  groups = l.setting.groups;
 }
 
 -- an expression that was looked for
@@ -173,4 +178,4 @@ Becomes after s = IsNone after.refused → state_of after ≡ s
 pub record Gives (s : State) (v : Value) (kind : Kind) (t : State) (found : Typed) : Type 0 where
   pub state : t ≡ with_value v s
   pub place : found.value ≡ next_value s
-  pub kind : found.kind ≡ kind
+  pub type_of : found.kind ≡ kind

@@ -156,6 +156,16 @@ impl<'a> Lowering<'a> {
         }
     }
 
+    /// Notes that a token breaks a rule, where it does.
+    pub(crate) fn refuse_where(&mut self, is_broken: bool, rule: Rule, place: usize)
+        ensures state { Becomes self.new (state_of self.old) }
+        ensures refused { KeepsRefusal self.old self.new }
+    {
+        if is_broken {
+            self.refuse(rule, place);
+        }
+    }
+
     /// Refuses what is thrown at a token where its unit may not throw. What a `do` catches is a wait of its own.
     pub fn refuse_thrown(&mut self, place: usize)
         ensures state { Becomes self.new (state_of self.old) }

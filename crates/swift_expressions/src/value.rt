@@ -215,9 +215,7 @@ fn awaited(lowering: &mut Lowering<'_>, inner: usize, token: usize, depth: u32) 
     ensures awaited { (p : ℕ) → form_at (state_of lowering.old) p ≡ ExprForm.Await inner → IsNone lowering.new.refused → Lowers (state_of lowering.old) p (state_of lowering.new) result }
     ensures refused { KeepsRefusal lowering.old lowering.new }
 {
-    if !lowering.setting.is_async {
-        lowering.refuse(Rule::Await, token);
-    }
+    lowering.refuse_where(!lowering.setting.is_async, Rule::Await, token);
     let before = lowering.setting.is_awaited;
     lowering.setting.is_awaited = true;
     let found = value(lowering, inner, depth);
@@ -317,16 +315,14 @@ fn otherwise(
 {
     let inner = caught(lowering, left);
     want_wait(lowering, inner);
-    if is_acting(lowering, right) {
-        lowering.refuse(Rule::NotYet, token);
-    }
+    let is_acting = is_acting(lowering, right);
+    lowering.refuse_where(is_acting, Rule::NotYet, token);
     let instead = value(lowering, right, depth);
     lowering.setting.fallback = fallback_of(lowering, left, instead.value);
     let found = value(lowering, inner, depth);
-    // It was taken by the wait.
-    if !matches!(lowering.setting.fallback, Fallback::None) {
-        lowering.refuse(Rule::NotYet, token);
-    }
+    // It is taken by the wait.
+    let is_left = !matches!(lowering.setting.fallback, Fallback::None);
+    lowering.refuse_where(is_left, Rule::NotYet, token);
     want(lowering, found, instead.kind, token);
     found
 }

@@ -1,4 +1,7 @@
-use Rattle.std.proofs.Common.{◌+◌, ◌*◌}
+use Rattle.std.proofs.Common.{◌+◌, ◌*◌, ◌-◌, ℕ, IsNone, length}
+use Rattle.swift_expressions.specs.Lowered.{Hands, no_operands}
+use Rattle.swift_expressions.specs.States.{State, state_of}
+use Rattle.swift_expressions.specs.declared.operands.Operands.{Operands}
 use Rattle.swift_expressions.proofs.value.+value.Given as goal
 
 abbrev pub decreases-binary : goal.decreases-binary
@@ -33,3 +36,11 @@ decreases-lower_operands l = l.depth * 3 + 1
 
 abbrev pub decreases-value : goal.decreases-value
 decreases-value l = l.depth * 3
+
+-- what the other arguments become is what all of them do
+abbrev pub invariant-lower_operands-loop : goal.invariant-lower_operands-loop
+invariant-lower_operands-loop l =
+    record {
+      refused : IsNone l.lowering.refused → IsNone l.fn.lowering.refused;
+      hands : IsNone l.lowering.refused → (t : State) (found : Operands) → Hands (length l.fn.lowering.tree.now.arguments.items - l.counter) (state_of l.lowering) l.place l.found t found → Hands (length l.fn.lowering.tree.now.arguments.items) (state_of l.fn.lowering) l.first no_operands t found;
+    }
