@@ -1,11 +1,12 @@
 -- What a lowering has put so far, and what decides what it puts next; and the steps that put something. (Our own.)
-use Rattle.std.specs.Prelude.{ℕ, ◌≡◌, ◌==◌, if◌then◌else◌, Bool, true, false, List, [], ◌∷◌, ◌++◌, length, pos, Option, Some, None, IsNone, slice_index_or, slice_set}
+use Rattle.std.specs.Prelude.{ℕ, ◌≡◌, ◌==◌, if◌then◌else◌, Bool, true, false, List, [], ◌∷◌, ◌++◌, length, pos, Option, Some, None, IsNone, slice_index_or, slice_range, slice_set, nat_le, ◌&&◌, take}
 use Rattle.std.specs.List.{slice_get}
 use Rattle.swift_syntax.specs.declared.token.Token.{Token}
 use Rattle.swift_syntax.specs.declared.tree.Argument.{Argument}
 use Rattle.swift_syntax.specs.declared.tree.Expr.{Expr}
 use Rattle.swift_syntax.specs.declared.tree.ExprForm.{ExprForm}
 use Rattle.swift_syntax.specs.declared.tree.ExprForm.TheVariants as form
+use Rattle.swift_syntax.specs.declared.tree.Stmt.{Stmt}
 use Rattle.swift_syntax.specs.declared.tree.Tree.{Tree}
 use Rattle.swift_expressions.specs.declared.code.Instruction.{Instruction}
 use Rattle.swift_expressions.specs.declared.code.Instruction.TheVariants as instruction
@@ -25,6 +26,8 @@ use Rattle.swift_expressions.specs.declared.lowering.Fallback.TheVariants as fal
 use Rattle.swift_expressions.specs.declared.lowering.Lowering.{Lowering}
 use Rattle.swift_expressions.specs.declared.lowering.Returns.{Returns}
 use Rattle.swift_expressions.specs.declared.scope.Binding.{Binding}
+use Rattle.swift_expressions.specs.declared.scope.Standing.{Standing}
+use Rattle.swift_expressions.specs.declared.scope.Standing.TheVariants as standings
 use Rattle.swift_expressions.specs.declared.typed.Typed.{Typed}
 
 -- What was put so far, and what decides what is put next: the file, the names in scope, and where the place stands that is lowered.
@@ -88,6 +91,19 @@ form_at s place = (expr_at s place).form
 abbrev pub argument_at : State → ℕ → Option Argument
 argument_at s place = if place == 0 then None else slice_get s.tree.arguments.items place
 
+-- the statement at a place of the tree; there is none at 0
+abbrev pub stmt_at : State → ℕ → Option Stmt
+stmt_at s place = if place == 0 then None else slice_get s.tree.stmts.items place
+
+-- the bytes of a token that was looked for
+abbrev pub bytes_in : List ℕ → Option Token → List ℕ
+bytes_in text None = []
+bytes_in text (Some t) = if nat_le t.from t.to && nat_le t.to (length text) then slice_range text t.from t.to else []
+
+-- the bytes of the token at a place; none where there is no such token
+abbrev pub bytes_at : State → ℕ → List ℕ
+bytes_at s place = bytes_in s.text (slice_get s.tokens place)
+
 -- the value at a place; 0 where there is no such place
 abbrev pub value_in : State → ℕ → Value
 value_in s place = slice_index_or s.values place (value.Number (pos 0))
@@ -115,6 +131,62 @@ with_variable v s = record s { variables = s.variables ++ v ∷ [] }
 -- one more variable of the unit, without a name
 abbrev pub with_temporary : State → State
 with_temporary s = with_variable (record { unit = s.unit; token = 0; duplicate = 0; is_param = false }) s
+
+-- one more name in scope, inside of the others
+abbrev pub in_scope : Binding → State → State
+in_scope b s = record s { scope = s.scope ++ b ∷ [] }
+
+-- the names in scope end from a place on
+abbrev pub left_to : ℕ → State → State
+left_to from s = record s { scope = take from s.scope }
+
+-- A variable of the unit is put behind the others. How many of its name stand before it is not said.
+pub record IsDeclared (s : State) (token : ℕ) (is_param : Bool) (t : State) : Type 0 where
+  pub duplicate : ℕ
+  pub state : t ≡ with_variable (record { unit = s.unit; token = token; duplicate = duplicate; is_param = is_param }) s
+
+-- A name that nobody has awaited comes into scope, inside of the others.
+pub record Binds (s : State) (token : ℕ) (standing : Standing) (variable : ℕ) (kind : Kind) (count : ℕ) (t : State) : Type 0 where
+  pub binding : Binding
+  pub state : t ≡ in_scope binding s
+  pub named : binding.token ≡ token
+  pub stands : binding.standing ≡ standing
+  pub place : binding.variable ≡ variable
+  pub type_of : binding.kind ≡ kind
+  pub counts : binding.count ≡ count
+  pub unused : binding.is_used ≡ false
+
+-- a variable that was looked for has a name
+abbrev pub renamed : List Variable → ℕ → ℕ → ℕ → Option Variable → List Variable
+renamed variables place token duplicate None = variables
+renamed variables place token duplicate (Some v) = slice_set variables place (record v { token = token; duplicate = duplicate })
+
+-- the variable at a place has the name of a token, behind so many others of that name
+abbrev pub named : ℕ → ℕ → ℕ → State → State
+named place token duplicate s = record s { variables = renamed s.variables place token duplicate (slice_get s.variables place) }
+
+-- a unit that was looked for notes that it returns from within a group's block
+abbrev pub noted_inside : List units.Unit → ℕ → Option units.Unit → List units.Unit
+noted_inside all place None = all
+noted_inside all place (Some u) = slice_set all place (record u { returns_inside = true })
+
+-- the unit returns from within a group's block
+abbrev pub returned_inside : State → State
+returned_inside s = record s { units = noted_inside s.units s.unit (slice_get s.units s.unit) }
+
+-- a unit that was looked for notes that something may follow a `return`
+abbrev pub noted_done : List units.Unit → ℕ → Option units.Unit → List units.Unit
+noted_done all place None = all
+noted_done all place (Some u) = slice_set all place (record u { needs_done = true })
+
+-- something of the unit may follow a `return`
+abbrev pub with_done : State → State
+with_done s = record s { units = noted_done s.units s.unit (slice_get s.units s.unit) }
+
+-- what a value is called
+abbrev pub standing_of : Bool → Standing
+standing_of true = standings.Variable
+standing_of false = standings.Constant
 
 -- `await` covers what comes now, or does not
 abbrev pub covered : Bool → State → State

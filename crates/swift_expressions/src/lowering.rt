@@ -1,16 +1,16 @@
 //! A lowering under way.
 
 ghost use Rattle.std.specs.List.{slice_get};
-ghost use Rattle.std.specs.Prelude.{◌≡◌, ◌++◌, ◌∷◌, [], IsTrue, IsNone, IsSome, length};
+ghost use Rattle.std.specs.Prelude.{◌≡◌, ◌++◌, ◌∷◌, [], IsTrue, IsNone, IsSome, length, ℕ, false, ◌↔◌};
 ghost use Rattle.swift_expressions.specs.Instructions.{IsPlaced, IsVariableOf, KeepsRefusal, Puts, value_at};
-ghost use Rattle.swift_expressions.specs.States.{Becomes, argument_at, expr_at, fault_of, next_value, next_variable, put, state_of, with_fallback, with_operand, with_temporary, with_value, with_variable};
+ghost use Rattle.swift_expressions.specs.States.{Becomes, IsDeclared, argument_at, bytes_at, expr_at, fault_of, in_scope, named, next_value, next_variable, put, returned_inside, state_of, stmt_at, with_done, with_fallback, with_operand, with_temporary, with_value, with_variable};
 
 use crate::code::{Code, Instruction, Kind, NONE, Operand, Unit, UnitKind, Value, Variable};
 use crate::lines::{Lines, Spot};
 use crate::scope::Binding;
 use crate::typed::Typed;
 use std::alloc::Global;
-use swift_syntax::{Argument, Breach, Expr, ExprForm, Rule, Token, TokenKind, Tree};
+use swift_syntax::{Argument, Breach, Expr, ExprForm, Rule, Stmt, Token, TokenKind, Tree};
 
 /// What stands for a value that does not come.
 #[derive(Clone, Copy)]
@@ -194,7 +194,9 @@ impl<'a> Lowering<'a> {
     }
 
     /// The bytes of a token; none where there is no such token.
-    pub fn bytes(&self, place: usize) -> &'a [u8] {
+    pub fn bytes(&self, place: usize) -> &'a [u8]
+        ensures { result.now ≡ bytes_at (state_of self.now) place }
+    {
         match self.tokens.get(place) {
             Some(token) => self.text.get(token.from..token.to).unwrap_or(b""),
             None => b"",
@@ -202,12 +204,16 @@ impl<'a> Lowering<'a> {
     }
 
     /// Whether a token has these bytes.
-    pub fn spells(&self, place: usize, name: &str) -> bool {
+    pub fn spells(&self, place: usize, name: &str) -> bool
+        ensures { IsTrue result ↔ (bytes_at (state_of self.now) place ≡ name.now) }
+    {
         self.bytes(place) == name.as_bytes()
     }
 
     /// Whether two tokens have the same bytes.
-    pub fn are_same(&self, left: usize, right: usize) -> bool {
+    pub fn are_same(&self, left: usize, right: usize) -> bool
+        ensures { IsTrue result ↔ (bytes_at (state_of self.now) left ≡ bytes_at (state_of self.now) right) }
+    {
         self.bytes(left) == self.bytes(right)
     }
 
@@ -232,6 +238,16 @@ impl<'a> Lowering<'a> {
             return None;
         }
         self.tree.arguments.get(place).copied()
+    }
+
+    /// The statement at a place of the tree; there is none at 0.
+    pub fn stmt(&self, place: usize) -> Option<Stmt>
+        ensures { result ≡ stmt_at (state_of self.now) place }
+    {
+        if place == 0 {
+            return None;
+        }
+        self.tree.stmts.get(place).copied()
     }
 
     /// Whether a token is a name.
@@ -366,6 +382,8 @@ impl<'a> Lowering<'a> {
     /// A variable of the unit, with the name of a token, or without one where that is 0. Its place.
     pub fn variable(&mut self, token: usize, is_param: bool) -> usize
         ensures made { IsNone self.new.refused → IsVariableOf self.new.code result self.old.setting.unit is_param }
+        ensures declared { IsNone self.new.refused → IsDeclared (state_of self.old) token is_param (state_of self.new) }
+        ensures place { result ≡ next_variable (state_of self.old) }
         ensures instructions { self.new.code.instructions ≡ self.old.code.instructions }
         ensures values { self.new.code.values ≡ self.old.code.values }
         ensures scope { self.new.scope ≡ self.old.scope }
@@ -423,6 +441,7 @@ impl<'a> Lowering<'a> {
     pub fn bind(&mut self, binding: Binding)
         ensures bound { IsNone self.new.refused → self.new.scope.items ≡ self.old.scope.items ++ binding ∷ [] }
         ensures code { self.new.code ≡ self.old.code }
+        ensures state { Becomes self.new (in_scope binding (state_of self.old)) }
         ensures refused { KeepsRefusal self.old self.new }
     {
         let is_grown = self.scope.push(binding).is_ok();
@@ -474,7 +493,11 @@ impl<'a> Lowering<'a> {
     }
 
     /// Gives a variable without a name the name of a token. Whether it had none.
-    pub fn name_variable(&mut self, place: usize, token: usize) -> bool {
+    pub fn name_variable(&mut self, place: usize, token: usize) -> bool
+        ensures named { IsTrue result → IsNone self.new.refused → (duplicate : ℕ) × (state_of self.new ≡ named place token duplicate (state_of self.old)) }
+        ensures other { result ≡ false → Becomes self.new (state_of self.old) }
+        ensures refused { KeepsRefusal self.old self.new }
+    {
         let duplicate = self.duplicates(token);
         let unit = self.setting.unit;
         match self.code.variables.get_mut(place) {
@@ -491,14 +514,20 @@ impl<'a> Lowering<'a> {
     }
 
     /// Notes that something of the unit may follow a `return`.
-    pub fn need_done(&mut self) {
+    pub fn need_done(&mut self)
+        ensures state { Becomes self.new (with_done (state_of self.old)) }
+        ensures refused { KeepsRefusal self.old self.new }
+    {
         if let Some(unit) = self.code.units.get_mut(self.setting.unit) {
             unit.needs_done = true;
         }
     }
 
     /// Notes that a `return` of the unit stands in a group's block.
-    pub fn return_inside(&mut self) {
+    pub fn return_inside(&mut self)
+        ensures state { Becomes self.new (returned_inside (state_of self.old)) }
+        ensures refused { KeepsRefusal self.old self.new }
+    {
         if let Some(unit) = self.code.units.get_mut(self.setting.unit) {
             unit.returns_inside = true;
         }

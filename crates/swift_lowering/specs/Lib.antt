@@ -2,3 +2,5 @@
 pub mod Ends
 -- Where an assignment goes.
 pub mod AssignmentsInside
+-- What statements become.
+pub mod Statements

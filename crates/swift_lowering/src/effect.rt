@@ -1,6 +1,6 @@
 //! Statements without a block.
 
-use crate::assignment::{assign, give, give_back, throw, toggle};
+use crate::assignment::{assign, give, give_nothing, throw, toggle};
 use crate::closure::is_said;
 use crate::print::{print, require};
 use swift_expressions::{Fallback, Lowering, expression, want_wait};
@@ -47,7 +47,7 @@ pub(crate) fn simple(lowering: &mut Lowering<'_>, stmt: Stmt) {
         }
         StmtForm::Assign(how, is_own, place) => assign(lowering, how, is_own, place, stmt.token),
         StmtForm::Toggle(is_own) => toggle(lowering, is_own, stmt.token),
-        StmtForm::Return => give_back(lowering, None, stmt),
+        StmtForm::Return => give_nothing(lowering, stmt),
         StmtForm::Throw(place) => throw(lowering, place),
         _ => {}
     }

@@ -1,0 +1,85 @@
+-- What statements without a block become, over what their expressions do. (Our own.)
+use Rattle.std.specs.Prelude.{ℕ, ◌≡◌, ◌==◌, Bool, true, false, if◌then◌else◌, nat_lt, ℤ, pos, Option, Some, None}
+use Rattle.swift_types.specs.declared.operator.Operator.{Operator}
+use Rattle.swift_types.specs.declared.operator.Operator.TheVariants as operators
+use Rattle.swift_syntax.specs.declared.tree.Assigning.{Assigning}
+use Rattle.swift_syntax.specs.declared.tree.Into.{Into}
+use Rattle.swift_syntax.specs.declared.tree.Into.TheVariants as goes
+use Rattle.swift_syntax.specs.declared.tree.Stmt.{Stmt}
+use Rattle.swift_syntax.specs.declared.tree.StmtForm.{StmtForm}
+use Rattle.swift_syntax.specs.declared.tree.StmtForm.TheVariants as form
+use Rattle.swift_expressions.specs.Lowered.{Lowers}
+use Rattle.swift_expressions.specs.States.{Binds, IsDeclared, State, named, next_value, next_variable, put, returned_inside, standing_of, value_in, with_fallback, with_value}
+use Rattle.swift_expressions.specs.declared.code.Instruction.TheVariants as instruction
+use Rattle.swift_expressions.specs.declared.code.Kind.{Kind}
+use Rattle.swift_expressions.specs.declared.code.Kind.TheVariants as kinds
+use Rattle.swift_expressions.specs.declared.code.TheConstants.{NONE}
+use Rattle.swift_expressions.specs.declared.code.Value.TheVariants as value
+use Rattle.swift_expressions.specs.declared.lowering.Returns.{Returns}
+use Rattle.swift_expressions.specs.declared.lowering.Returns.TheVariants as returning
+use Rattle.swift_expressions.specs.declared.typed.Typed.{Typed}
+use Rattle.swift_lowering.specs.AssignmentsInside.{read_of, set_of}
+use Rattle.swift_lowering.specs.Ends.{operator_of}
+use Rattle.swift_lowering.specs.declared.assignment.Destination.{Destination}
+
+-- what stands somewhere is read, combined with a value that is computed already, and set
+abbrev pub changed : Operator → Destination → ℕ → State → State
+changed o to right s =
+    let read = with_value (read_of to) s in
+    put (set_of to (next_value read)) (with_value (value.Binary o (next_value s) right) read)
+
+-- what stands somewhere is read, turned round, and set
+abbrev pub toggled : Destination → State → State
+toggled to s =
+    let read = with_value (read_of to) s in
+    put (set_of to (next_value read)) (with_value (value.Not (next_value s)) read)
+
+-- `x = e`, and `x += e`, which reads x after e. To which variable or field is not said.
+pub data Assigns (s : State) (place : ℕ) (u : State) : Option Operator → Type 0 where
+  sets : {t : State} {found : Typed} (to : Destination) → Lowers s place t found → u ≡ put (set_of to found.value) t → Assigns s place u None
+  changes : {t : State} {found : Typed} {o : Operator} (to : Destination) → Lowers s place t found → u ≡ changed o to found.value t → Assigns s place u (Some o)
+
+-- A name for a value: the variable that holds it already, if that has no name; else one that begins here.
+pub data Defines (s : State) (name : ℕ) (found : Typed) (is_var : Bool) (t : State) : Type 0 where
+  as_it_is : {u : State} (variable duplicate : ℕ) → value_in s found.value ≡ value.Variable variable → u ≡ named variable name duplicate s → Binds u name (standing_of is_var) variable found.kind variable t → Defines s name found is_var t
+  anew : {u v : State} → IsDeclared s name false u → v ≡ put (instruction.Let (next_variable s) found.value) u → Binds v name (standing_of is_var) (next_variable s) found.kind (next_variable s) t → Defines s name found is_var t
+
+-- where a value is that is returned; nothing has no place
+abbrev pub given_back : Kind → ℕ → ℕ
+given_back kinds.Void place = NONE
+given_back kinds.Int place = place
+given_back kinds.Bool place = place
+given_back kinds.Urgency place = place
+
+-- a method returns; from within a group's block, as it notes
+abbrev pub returned : ℕ → State → State
+returned place s = put (instruction.Return place) (if nat_lt 0 s.groups then returned_inside s else s)
+
+-- what a closure gives that stands in its method goes to the closure's variable, where it has one
+abbrev pub result_set : ℕ → Kind → ℕ → State → State
+result_set variable kinds.Void place s = s
+result_set variable kinds.Int place s = if variable == NONE then s else put (instruction.Set variable place) s
+result_set variable kinds.Bool place s = if variable == NONE then s else put (instruction.Set variable place) s
+result_set variable kinds.Urgency place s = if variable == NONE then s else put (instruction.Set variable place) s
+
+-- `return e`, once e is computed
+abbrev pub given_by : Returns → Typed → State → State
+given_by returning.Unit found s = returned (given_back found.kind found.value) s
+given_by (returning.Closure variable blocks) found s = result_set variable found.kind found.value s
+
+-- `return` without a value
+abbrev pub ended_by : Returns → State → State
+ended_by returning.Unit s = returned NONE s
+ended_by (returning.Closure variable blocks) s = s
+
+-- What becomes of a value that is computed.
+pub data GivesTo (s : State) (found : Typed) (t : State) : Into → Type 0 where
+  nothing : t ≡ s → GivesTo s found t goes.Nothing
+  constant : {name : ℕ} {wanted : Option ValueType} → Defines s name found false t → GivesTo s found t (goes.Let name wanted)
+  variable : {name : ℕ} {wanted : Option ValueType} → Defines s name found true t → GivesTo s found t (goes.Var name wanted)
+  assigned : {name : ℕ} (to : Destination) → t ≡ put (set_of to found.value) s → GivesTo s found t (goes.Assign name)
+  returned : t ≡ given_by s.returns found s → GivesTo s found t goes.Return
+
+-- `throw e`: the number of what is thrown. Which one is not said.
+abbrev pub thrown : ℤ → State → State
+thrown number s = put (instruction.Throw (next_value s)) (with_value (value.Number number) s)
