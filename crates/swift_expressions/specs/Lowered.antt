@@ -1,5 +1,5 @@
 -- What an expression becomes: a value, and the instructions before it. What Swift computes first comes first. (Our own.)
-use Rattle.std.specs.Prelude.{ℕ, zero, ◌≡◌, ◌==◌, Bool, true, false, not, ◌&&◌, ◌||◌, if◌then◌else◌, suc, ℤ, pos, List, [], ◌∷◌, length, Option, Some, None, slice_set}
+use Rattle.std.specs.Prelude.{ℕ, zero, ◌≡◌, ◌==◌, ◌++◌, Bool, true, false, not, ◌&&◌, ◌||◌, if◌then◌else◌, suc, ℤ, pos, List, [], ◌∷◌, length, Option, Some, None, slice_set}
 use Rattle.std.specs.List.{slice_get}
 use Rattle.swift_types.specs.declared.operator.Operator.{Operator}
 use Rattle.swift_types.specs.declared.operator.Operator.TheVariants as operators
@@ -330,3 +330,11 @@ mutual
   pub data HandsIf : Bool → State → ℕ → State → Operands → Type 0 where
     values : {s t : State} {first : ℕ} {given : Operands} → Hands (length s.tree.arguments.items) s first no_operands t given → HandsIf true s first t given
     nothing : {s : State} {first : ℕ} → HandsIf false s first s no_operands
+
+-- What was put stays, in its order, and what comes stands behind it. The file stays.
+pub record Grows (s t : State) : Type 0 where
+  pub instructions : List Instruction
+  pub values : List Value
+  pub behind : t.instructions ≡ s.instructions ++ instructions
+  pub valued : t.values ≡ s.values ++ values
+  pub tree : t.tree ≡ s.tree

@@ -14,7 +14,10 @@ use crate::naming::{
 use crate::operands::Operands;
 use crate::scope::{Standing, binding_at, find};
 use crate::typed::{Typed, kind_of, refused, with_kind};
-use crate::waits::{group_next, wait, wait_for_all, want_await, want_try};
+use crate::waits::{
+    group_next, wait, wait_for_all, want_await, want_await_where, want_try, want_try_where,
+    yield_where,
+};
 use swift_syntax::{Access, MethodDecl, Receiver, Rule};
 
 /// What is called.
@@ -177,9 +180,8 @@ pub(crate) fn method_of(lowering: &mut Lowering<'_>, receiver: Receiver, token: 
 {
     let of = match receiver {
         Receiver::Nobody => {
-            if find(lowering, token).is_some() {
-                lowering.refuse(Rule::NameTwice, token);
-            }
+            let is_variable = find(lowering, token).is_some();
+            lowering.refuse_where(is_variable, Rule::NameTwice, token);
             return own_or_function(lowering, token);
         }
         Receiver::Own => return own_method(lowering, token),
@@ -261,13 +263,9 @@ fn call_own(
     ensures refused { KeepsRefusal lowering.old lowering.new }
 {
     let kind = kind_of(declared.result);
-    if declared.is_async {
-        want_await(lowering, token);
-    }
+    want_await_where(lowering, declared.is_async, token);
     if let Fallback::Fault(_) = lowering.setting.fallback {
-        if !declared.is_async {
-            lowering.refuse(Rule::NotYet, token);
-        }
+        lowering.refuse_where(!declared.is_async, Rule::NotYet, token);
         return wait(lowering, Wait::Own(place, given.first), kind);
     }
     if declared.is_async && declared.actor == NONE {
@@ -305,14 +303,10 @@ fn call_method(
         ..
     } = declared;
     want_arguments(lowering, first_param, params_end, first, given, token);
-    if declared.is_throwing {
-        want_try(lowering, token);
-    }
+    want_try_where(lowering, declared.is_throwing, token);
     match instance {
         Some(instance) => {
-            if declared.access == Access::Private {
-                lowering.refuse(Rule::Private, token);
-            }
+            lowering.refuse_where(declared.access == Access::Private, Rule::Private, token);
             want_await(lowering, token);
             let what = Wait::Method(instance, place, given.first);
             wait(lowering, what, kind_of(declared.result))
@@ -339,9 +333,8 @@ fn cancel(lowering: &mut Lowering<'_>, variable: usize)
     ensures state { IsNone lowering.new.refused → (yields : Bool) × (state_of lowering.new ≡ put (Instruction.Cancel variable) (yielding yields (state_of lowering.old))) }
     ensures refused { KeepsRefusal lowering.old lowering.new }
 {
-    if lowering.setting.is_closure && !begins_behind(lowering, variable) {
-        lowering.put(Instruction::Yield);
-    }
+    let yields = lowering.setting.is_closure && !begins_behind(lowering, variable);
+    yield_where(lowering, yields);
     lowering.put(Instruction::Cancel(variable));
 }
 
@@ -383,9 +376,7 @@ pub(crate) fn call(
     ensures refused { KeepsRefusal lowering.old lowering.new }
 {
     let is_bare = !method.takes_operands && !matches!(method.called, Called::Sleep);
-    if is_bare && first != 0 {
-        lowering.refuse(Rule::Arguments, token);
-    }
+    lowering.refuse_where(is_bare && first != 0, Rule::Arguments, token);
     match method.called {
         Called::Own(place) => return call_method(lowering, place, None, first, given, token),
         Called::Other(instance, place) => {

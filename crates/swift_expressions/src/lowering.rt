@@ -157,7 +157,7 @@ impl<'a> Lowering<'a> {
     }
 
     /// Notes that a token breaks a rule, where it does.
-    pub(crate) fn refuse_where(&mut self, is_broken: bool, rule: Rule, place: usize)
+    pub fn refuse_where(&mut self, is_broken: bool, rule: Rule, place: usize)
         ensures state { Becomes self.new (state_of self.old) }
         ensures refused { KeepsRefusal self.old self.new }
     {

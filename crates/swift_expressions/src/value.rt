@@ -34,9 +34,7 @@ fn result_kind(
         Operator::Plus | Operator::Minus | Operator::Times => left.kind == Kind::Int,
         _ => left.kind == Kind::Int || left.kind == Kind::Urgency,
     };
-    if !fits {
-        lowering.refuse(Rule::WrongType, token);
-    }
+    lowering.refuse_where(!fits, Rule::WrongType, token);
     match operator {
         Operator::Plus | Operator::Minus | Operator::Times | Operator::And | Operator::Or => {
             left.kind
@@ -103,11 +101,13 @@ fn open_test(lowering: &mut Lowering<'_>, operator: Operator, so_far: usize)
     ensures state { Becomes lowering.new (with_open_test operator so_far (state_of lowering.old)) }
     ensures refused { KeepsRefusal lowering.old lowering.new }
 {
-    let test = match operator {
-        Operator::Or => lowering.value(Value::Not(so_far)),
-        _ => so_far,
-    };
-    lowering.put(Instruction::If(test));
+    match operator {
+        Operator::Or => {
+            let test = lowering.value(Value::Not(so_far));
+            lowering.put(Instruction::If(test));
+        }
+        _ => lowering.put(Instruction::If(so_far)),
+    }
 }
 
 // A variable for what is known after the left operand of `&&` or `||`, and the block of the right one. The variable's place, and its value's.

@@ -1,6 +1,6 @@
 //! What is waited for.
 
-ghost use Rattle.std.specs.Prelude.{◌≡◌, ℕ, IsNone, Some, slice_get};
+ghost use Rattle.std.specs.Prelude.{◌≡◌, ℕ, Bool, IsNone, Some, slice_get};
 ghost use Rattle.swift_expressions.specs.Instructions.{IsHoisted, KeepsRefusal};
 ghost use Rattle.swift_expressions.specs.Lowered.{Calls, Names, Waits, child_test, close_next, counted, counted_child, open_next, used, waited_for_all, with_child_test, yielding};
 ghost use Rattle.swift_expressions.specs.States.{Becomes, state_of};
@@ -27,6 +27,16 @@ pub(crate) fn want_await(lowering: &mut Lowering<'_>, token: usize)
     }
 }
 
+/// The same of what may wait or not.
+pub(crate) fn want_await_where(lowering: &mut Lowering<'_>, waits: bool, token: usize)
+    ensures state { Becomes lowering.new (state_of lowering.old) }
+    ensures refused { KeepsRefusal lowering.old lowering.new }
+{
+    if waits {
+        want_await(lowering, token);
+    }
+}
+
 /// Refuses what may throw and is not covered by `try`.
 pub(crate) fn want_try(lowering: &mut Lowering<'_>, token: usize)
     ensures state { Becomes lowering.new (state_of lowering.old) }
@@ -38,6 +48,16 @@ pub(crate) fn want_try(lowering: &mut Lowering<'_>, token: usize)
     lowering.setting.has_thrown = true;
     if !lowering.setting.is_tried {
         lowering.refuse(Rule::Try, token);
+    }
+}
+
+/// The same of what may throw or not.
+pub(crate) fn want_try_where(lowering: &mut Lowering<'_>, is_throwing: bool, token: usize)
+    ensures state { Becomes lowering.new (state_of lowering.old) }
+    ensures refused { KeepsRefusal lowering.old lowering.new }
+{
+    if is_throwing {
+        want_try(lowering, token);
     }
 }
 
@@ -92,15 +112,22 @@ pub(crate) fn getter(lowering: &mut Lowering<'_>, instance: usize, token: usize)
 }
 
 // What was made before may read its priority before it is raised by a wait: its turn comes first.
-fn yield_before(lowering: &mut Lowering<'_>) -> bool
-    ensures state { Becomes lowering.new (yielding result (state_of lowering.old)) }
+fn yield_before(lowering: &mut Lowering<'_>)
+    ensures state { IsNone lowering.new.refused → (yields : Bool) × (state_of lowering.new ≡ yielding yields (state_of lowering.old)) }
     ensures refused { KeepsRefusal lowering.old lowering.new }
 {
     let yields = lowering.setting.is_closure && reads_priority(lowering);
+    yield_where(lowering, yields);
+}
+
+/// The turn ends here, where that is so.
+pub(crate) fn yield_where(lowering: &mut Lowering<'_>, yields: bool)
+    ensures state { Becomes lowering.new (yielding yields (state_of lowering.old)) }
+    ensures refused { KeepsRefusal lowering.old lowering.new }
+{
     if yields {
         lowering.put(Instruction::Yield);
     }
-    yields
 }
 
 // Whether something in the file reads a priority.
@@ -124,9 +151,7 @@ pub(crate) fn task_value(lowering: &mut Lowering<'_>, place: usize, token: usize
         return refused(lowering, Rule::UnknownName, token);
     }
     want_await(lowering, token);
-    if found.is_throwing {
-        want_try(lowering, token);
-    }
+    want_try_where(lowering, found.is_throwing, token);
     mark_used(lowering, place);
     yield_before(lowering);
     wait(lowering, Wait::Task(found.variable), found.kind)
@@ -144,9 +169,7 @@ pub(crate) fn next_child(
     ensures refused { KeepsRefusal lowering.old lowering.new }
 {
     want_await(lowering, token);
-    if found.is_throwing {
-        want_try(lowering, token);
-    }
+    want_try_where(lowering, found.is_throwing, token);
     if found.is_used || found.loops != lowering.setting.loops {
         return refused(lowering, Rule::NotYet, token);
     }
@@ -213,16 +236,13 @@ pub(crate) fn group_next(lowering: &mut Lowering<'_>, place: usize, token: usize
         return refused(lowering, Rule::UnknownName, token);
     };
     want_await(lowering, token);
-    if found.is_throwing {
-        want_try(lowering, token);
-    }
+    want_try_where(lowering, found.is_throwing, token);
     let Fallback::Nil(otherwise) = lowering.setting.fallback else {
         return refused(lowering, Rule::NotYet, token);
     };
     lowering.setting.fallback = Fallback::None;
-    if found.is_partial || found.kind == Kind::Void {
-        lowering.refuse(Rule::NotYet, token);
-    }
+    let is_left_out = found.is_partial || found.kind == Kind::Void;
+    lowering.refuse_where(is_left_out, Rule::NotYet, token);
     let variable = lowering.temporary();
     lowering.put(Instruction::Let(variable, otherwise));
     let test = has_child(lowering, found.count);
@@ -244,12 +264,8 @@ pub(crate) fn wait_for_all(lowering: &mut Lowering<'_>, place: usize, token: usi
         return refused(lowering, Rule::UnknownName, token);
     };
     want_await(lowering, token);
-    if found.is_throwing {
-        want_try(lowering, token);
-    }
-    if found.is_partial {
-        lowering.refuse(Rule::NotYet, token);
-    }
+    want_try_where(lowering, found.is_throwing, token);
+    lowering.refuse_where(found.is_partial, Rule::NotYet, token);
     let test = has_child(lowering, found.count);
     lowering.put(Instruction::While(test));
     lowering.put(Instruction::Wait(Target::Nothing, Wait::Next(found.variable), NONE));

@@ -1,20 +1,23 @@
 -- What statements without a block become, over what their expressions do. (Our own.)
-use Rattle.std.specs.Prelude.{ℕ, ◌≡◌, ◌==◌, Bool, true, false, if◌then◌else◌, nat_lt, ℤ, pos, Option, Some, None}
+use Rattle.std.specs.Prelude.{ℕ, ◌≡◌, ◌==◌, Bool, true, false, if◌then◌else◌, nat_lt, ℤ, pos, Option, Some, None, ◌⊎◌, codes}
 use Rattle.swift_types.specs.declared.operator.Operator.{Operator}
 use Rattle.swift_types.specs.declared.operator.Operator.TheVariants as operators
 use Rattle.swift_syntax.specs.declared.tree.Assigning.{Assigning}
+use Rattle.swift_syntax.specs.declared.tree.ExprForm.TheVariants as expr
 use Rattle.swift_syntax.specs.declared.tree.Into.{Into}
 use Rattle.swift_syntax.specs.declared.tree.Into.TheVariants as goes
-use Rattle.swift_syntax.specs.declared.tree.Stmt.{Stmt}
+use Rattle.swift_syntax.specs.declared.tree.Receiver.TheVariants as receiver
 use Rattle.swift_syntax.specs.declared.tree.StmtForm.{StmtForm}
 use Rattle.swift_syntax.specs.declared.tree.StmtForm.TheVariants as form
+use Rattle.swift_syntax.specs.declared.tree.ValueType.{ValueType}
 use Rattle.swift_expressions.specs.Lowered.{Lowers}
-use Rattle.swift_expressions.specs.States.{Binds, IsDeclared, State, named, next_value, next_variable, put, returned_inside, standing_of, value_in, with_fallback, with_value}
+use Rattle.swift_expressions.specs.States.{Binds, IsDeclared, State, bytes_at, expr_at, form_at, named, next_value, next_variable, put, returned_inside, standing_of, value_in, with_fallback, with_value}
 use Rattle.swift_expressions.specs.declared.code.Instruction.TheVariants as instruction
 use Rattle.swift_expressions.specs.declared.code.Kind.{Kind}
 use Rattle.swift_expressions.specs.declared.code.Kind.TheVariants as kinds
 use Rattle.swift_expressions.specs.declared.code.TheConstants.{NONE}
 use Rattle.swift_expressions.specs.declared.code.Value.TheVariants as value
+use Rattle.swift_expressions.specs.declared.lowering.Fallback.TheVariants as fallbacks
 use Rattle.swift_expressions.specs.declared.lowering.Returns.{Returns}
 use Rattle.swift_expressions.specs.declared.lowering.Returns.TheVariants as returning
 use Rattle.swift_expressions.specs.declared.typed.Typed.{Typed}
@@ -55,17 +58,22 @@ given_back kinds.Urgency place = place
 abbrev pub returned : ℕ → State → State
 returned place s = put (instruction.Return place) (if nat_lt 0 s.groups then returned_inside s else s)
 
--- what a closure gives that stands in its method goes to the closure's variable, where it has one
+-- a value goes to a closure's variable, where it has one
 abbrev pub result_set : ℕ → Kind → ℕ → State → State
 result_set variable kinds.Void place s = s
 result_set variable kinds.Int place s = if variable == NONE then s else put (instruction.Set variable place) s
 result_set variable kinds.Bool place s = if variable == NONE then s else put (instruction.Set variable place) s
 result_set variable kinds.Urgency place s = if variable == NONE then s else put (instruction.Set variable place) s
 
+-- what a closure gives that stands in its method goes to its variable
+abbrev pub result_given : Returns → Typed → State → State
+result_given returning.Unit found s = s
+result_given (returning.Closure variable blocks) found s = result_set variable found.kind found.value s
+
 -- `return e`, once e is computed
 abbrev pub given_by : Returns → Typed → State → State
 given_by returning.Unit found s = returned (given_back found.kind found.value) s
-given_by (returning.Closure variable blocks) found s = result_set variable found.kind found.value s
+given_by (returning.Closure variable blocks) found s = result_given (returning.Closure variable blocks) found s
 
 -- `return` without a value
 abbrev pub ended_by : Returns → State → State
@@ -83,3 +91,41 @@ pub data GivesTo (s : State) (found : Typed) (t : State) : Into → Type 0 where
 -- `throw e`: the number of what is thrown. Which one is not said.
 abbrev pub thrown : ℤ → State → State
 thrown number s = put (instruction.Throw (next_value s)) (with_value (value.Number number) s)
+
+-- A statement says something, where `print`, `precondition` or `assert` is called. What these put is not said.
+pub record IsSaid (s : State) (place : ℕ) : Type 0 where
+  pub first : ℕ
+  pub calls : form_at s place ≡ expr.Call receiver.Nobody first
+  pub named : (bytes_at s (expr_at s place).token ≡ codes "print") ⊎ (bytes_at s (expr_at s place).token ≡ codes "precondition") ⊎ (bytes_at s (expr_at s place).token ≡ codes "assert")
+
+-- An expression whose value is let go. A `try?` has 0 for the value of what ends with a fault.
+pub data LetsGo (s : State) (place : ℕ) (t : State) : Type 0 where
+  said : IsSaid s place → LetsGo s place t
+  caught : {u : State} {inner : ℕ} {found : Typed} → form_at s place ≡ expr.TryOptional inner → Lowers (with_fallback (fallbacks.Fault (next_value s)) (with_value (value.Number (pos 0)) s)) inner u found → t ≡ with_fallback fallbacks.None u → LetsGo s place t
+  computed : {found : Typed} → Lowers s place t found → LetsGo s place t
+
+-- whether a value is let go
+abbrev pub is_let_go : Into → Bool
+is_let_go goes.Nothing = true
+is_let_go (goes.Let name wanted) = false
+is_let_go (goes.Var name wanted) = false
+is_let_go (goes.Assign name) = false
+is_let_go goes.Return = false
+
+-- whether a statement has no block
+abbrev pub is_plain : StmtForm → Bool
+is_plain (form.Value into place) = true
+is_plain (form.Assign how is_own place) = true
+is_plain (form.Toggle is_own) = true
+is_plain form.Return = true
+is_plain (form.Throw place) = true
+is_plain _ = false
+
+-- What a statement without a block becomes.
+pub data DoesPlain (s : State) (t : State) : StmtForm → Type 0 where
+  lets_go : {place : ℕ} → LetsGo s place t → DoesPlain s t (form.Value goes.Nothing place)
+  gives : {u : State} {into : Into} {place : ℕ} {found : Typed} → is_let_go into ≡ false → Lowers s place u found → GivesTo u found t into → DoesPlain s t (form.Value into place)
+  assigns : {how : Assigning} {is_own : Bool} {place : ℕ} → Assigns s place t (operator_of how) → DoesPlain s t (form.Assign how is_own place)
+  toggles : {is_own : Bool} (to : Destination) → t ≡ toggled to s → DoesPlain s t (form.Toggle is_own)
+  returns : t ≡ ended_by s.returns s → DoesPlain s t form.Return
+  throws : {place : ℕ} (number : ℤ) → t ≡ thrown number s → DoesPlain s t (form.Throw place)

@@ -1,5 +1,9 @@
 //! Closures, and the methods that they become.
 
+ghost use Rattle.std.specs.Prelude.{◌≡◌, ℕ, IsTrue};
+ghost use Rattle.swift_expressions.specs.States.{form_at, state_of};
+ghost use Rattle.swift_lowering.specs.Statements.{IsSaid};
+
 use crate::capture::{capture_all, refuse_unknown};
 use crate::returns::exits;
 use swift_expressions::{
@@ -59,8 +63,10 @@ pub(crate) fn lone_value(lowering: &Lowering<'_>, first: usize) -> usize {
 }
 
 /// Whether an expression is a call of `print`, `precondition` or `assert`.
-pub(crate) fn is_said(lowering: &Lowering<'_>, value: usize) -> bool {
-    let expr = lowering.tree.expr(value);
+pub(crate) fn is_said(lowering: &Lowering<'_>, value: usize) -> bool
+    ensures said { IsTrue result → (receiver : Receiver) (first : ℕ) → form_at (state_of lowering.now) value ≡ ExprForm.Call receiver first → IsSaid (state_of lowering.now) value }
+{
+    let expr = lowering.expr(value);
     match expr.form {
         ExprForm::Call(Receiver::Nobody, _) => {
             lowering.spells(expr.token, "print")

@@ -1,7 +1,10 @@
 //! Tasks, groups and bindings, beside their closures.
 
 ghost use Rattle.std.specs.Prelude.{IsNone};
+ghost use Rattle.swift_expressions.specs.Instructions.{KeepsRefusal};
+ghost use Rattle.swift_expressions.specs.States.{Becomes, state_of};
 ghost use Rattle.swift_lowering.specs.Ends.{EndsCancelled};
+ghost use Rattle.swift_lowering.specs.Statements.{result_given, result_set};
 
 use crate::closure::{ClosureBody, MadeClosure, lone_value};
 use swift_expressions::{
@@ -202,12 +205,28 @@ pub(crate) fn enter_closure(lowering: &mut Lowering<'_>, variable: usize) {
 }
 
 /// Gives a closure's value to where it goes.
-pub(crate) fn give_result(lowering: &mut Lowering<'_>, found: Typed) {
+pub(crate) fn give_result(lowering: &mut Lowering<'_>, found: Typed)
+    ensures state { Becomes lowering.new (result_given lowering.old.setting.returns found (state_of lowering.old)) }
+    ensures refused { KeepsRefusal lowering.old lowering.new }
+{
     if let Returns::Closure(variable, _) = lowering.setting.returns {
-        if variable != NONE && found.kind != Kind::Void {
-            lowering.put(Instruction::Set(variable, found.value));
-        }
+        set_result(lowering, variable, found);
         lowering.setting.result = Some(found.kind);
+    }
+}
+
+// A value goes to a closure's variable, where it has one.
+fn set_result(lowering: &mut Lowering<'_>, variable: usize, found: Typed)
+    ensures state { Becomes lowering.new (result_set variable found.kind found.value (state_of lowering.old)) }
+    ensures refused { KeepsRefusal lowering.old lowering.new }
+{
+    match found.kind {
+        Kind::Void => {}
+        Kind::Int | Kind::Bool | Kind::Urgency => {
+            if variable != NONE {
+                lowering.put(Instruction::Set(variable, found.value));
+            }
+        }
     }
 }
 
