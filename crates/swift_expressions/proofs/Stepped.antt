@@ -49,8 +49,8 @@ otherwise_lowered {t = t} {u = u} {found = found} e same is_inner is_fallback en
     lowered_to ends (lowered.otherwise e (lowered_from same h) (subst (λ x. Lowers (with_fallback x t) _ u found) is_fallback (lowered_at is_inner k)))
 
 -- no argument so far
-pub hands_all : {n : ℕ} {s t : State} {p : ℕ} {so_far found : Operands} → Hands (n - 0) s p so_far t found → Hands n s p so_far t found
-hands_all {n} {s} {t} {p} {so_far} {found} h = let e : n - 0 ≡ n = omega arith in subst (λ m. Hands m s p so_far t found) e h
+pub hands_all : {n : ℕ} {s t : State} {p : ℕ} {so_far first found : Operands} → so_far ≡ first → Hands (n - 0) s p so_far t found → Hands n s p first t found
+hands_all {n} {s} {t} {p} {first = first} {found = found} e h = let z : n - 0 ≡ n = omega arith in subst (λ m. Hands m s p first t found) z (subst (λ x. Hands (n - 0) s p x t found) e h)
 
 -- one argument more
 pub hands_on : {n i : ℕ} {s t u v w : State} {p : ℕ} {a : Argument} {so_far and_this found : Operands} {given kept : Typed} → i < n → argument_at s p ≡ Some a → Lowers s a.value t given → KeepsIf (has_next a) t given u kept → v ≡ with_operand kept so_far.last u → and_this ≡ and_one so_far (length u.operands) → Hands (n - (i + 1)) v a.next and_this w found → Hands (n - i) s p so_far w found

@@ -170,6 +170,9 @@ pub(crate) fn next_child(
 {
     want_await(lowering, token);
     want_try_where(lowering, found.is_throwing, token);
+    // It is an operand of what a `try?` or a `do` covers, whose fallback it would take.
+    let is_operand = !matches!(lowering.setting.fallback, Fallback::None);
+    lowering.refuse_where(is_operand, Rule::NotYet, token);
     if found.is_used || found.loops != lowering.setting.loops {
         return refused(lowering, Rule::NotYet, token);
     }

@@ -1,9 +1,9 @@
-use Rattle.std.proofs.Common.{◌≡◌, true, ap, ◌∙◌}
+use Rattle.std.proofs.Common.{◌≡◌, true, ap, sym, ◌∙◌}
 use Rattle.swift_expressions.specs.declared.code.Kind.TheVariants as kinds
 use Rattle.swift_expressions.specs.Lowered as lowered
 use Rattle.swift_expressions.specs.Lowered.{close_shortcut, open_shortcut, open_choice, turn_choice}
 use Rattle.swift_expressions.specs.States.{covered, next_value, next_variable}
-use Rattle.swift_expressions.proofs.Stepped.{given_from, choice_given, given_kind, kept_where, lowered_from, otherwise_lowered}
+use Rattle.swift_expressions.proofs.Stepped.{given_from, choice_given, given_kind, hands_all, hands_on, kept_where, lowered_from, otherwise_lowered}
 use Rattle.swift_expressions.proofs.value.+value.Goals as goal
 
 pub negated-returns-clause-negated : goal.negated-returns-clause-negated
@@ -91,3 +91,18 @@ otherwise-returns-clause-otherwise t c = λ p e n6.
     let n2 = c.value-instead.ensures.refused n3 in
     let n1 = c.refuse_where.ensures.refused n2 in
     otherwise_lowered e (c.refuse_where.ensures.state n2 ∙ c.want_wait.ensures.state n1) c.caught-inner.ensures c.fallback_of.ensures (c.want.ensures.state n6 ∙ c.refuse_where-2.ensures.state n5) (c.value-instead.ensures.lowers n3) (c.value-found.ensures.lowers n4)
+
+pub lower_operands-loop-init : goal.lower_operands-loop-init
+lower_operands-loop-init t c = record { refused = λ n. n; hands = λ n s found h. hands_all c.none-found.ensures h }
+
+pub lower_operands-loop-preserved : goal.lower_operands-loop-preserved
+lower_operands-loop-preserved t c = record {
+  refused = λ n3.
+      let n2 = c.with-found.ensures.refused n3 in
+      let n1 = c.keep_if-kept.ensures.refused n2 in
+      c.loop.invariant.refused (c.value-given.ensures.refused n1);
+  hands = λ n3 s found h.
+      let n2 = c.with-found.ensures.refused n3 in
+      let n1 = c.keep_if-kept.ensures.refused n2 in
+      c.loop.invariant.hands (c.value-given.ensures.refused n1) s found (hands_on c.loop-test.true (sym c.in-Some.ensures) (c.value-given.ensures.lowers n1) (c.keep_if-kept.ensures.keeps n2) (c.with-found.ensures.state n3) c.with-found.ensures.found h);
+}
