@@ -1,5 +1,5 @@
 -- Which expressions do something.
-use Rattle.std.proofs.Common.{ℕ, ◌≡◌, ◌<◌, ◌-◌, suc, zero, refl, ap, absurd, arith, sym, ◌∙◌}
+use Rattle.std.proofs.Common.{ℕ, ◌≡◌, ◌<◌, ◌-◌, suc, refl, ap, arith, ◌∙◌}
 use Rattle.swift_expressions.specs.Lowered.{acts_by, is_acting_within}
 use Rattle.swift_expressions.specs.States.{State, form_at}
 

@@ -77,9 +77,9 @@ keeps_grow : {s : State} {given : Typed} {t : State} {found : Typed} → Keeps s
 keeps_grow (lowered.settled is e f) = same e
 keeps_grow {s} (lowered.read is g) = on (puts _ (begins (stays s))) (gives_grow g)
 
-keeps_if_grow : (b : Bool) {s : State} {given : Typed} {t : State} {found : Typed} → KeepsIf b s given t found → Grows s t
-keeps_if_grow true k = keeps_grow k
-keeps_if_grow false k = same k.0
+keeps_if_grow : {b : Bool} {s : State} {given : Typed} {t : State} {found : Typed} → KeepsIf b s given t found → Grows s t
+keeps_if_grow (lowered.kept k) = keeps_grow k
+keeps_if_grow lowered.as_it_is = stays _
 
 counts : (o : Operator) (count : ℕ) {s t : State} → Grows s t → Grows s (counted o count t)
 counts o count g = puts _ (reads _ (reads _ (reads _ g)))
@@ -161,7 +161,7 @@ mutual
   lowers_grow (lowered.call what e h c) = on (hands_if_grow h) (calls_grow c)
   lowers_grow (lowered.negated e h g) = on (lowers_grow h) (gives_grow g)
   lowers_grow (lowered.inverted e h g) = on (lowers_grow h) (gives_grow g)
-  lowers_grow {s} (lowered.binary {r = r} kept e c h k i g) = on (on (on (lowers_grow h) (keeps_if_grow (lowered.acts s r) k)) (lowers_grow i)) (gives_grow g)
+  lowers_grow (lowered.binary kept e c h k i g) = on (on (on (lowers_grow h) (keeps_if_grow k)) (lowers_grow i)) (gives_grow g)
   lowers_grow (lowered.shortcut {t = t} {o = o} {first = first} e c h u i w f) = on (on (lowers_grow h) (on (covers false (to u (opens o first t))) (lowers_grow i))) (to w (puts _ (puts _ (covers _ (stays _)))))
   lowers_grow (lowered.comma {t = t} {first = first} e h u i w f) = on (on (lowers_grow h) (on (covers false (to u (opens operators.And first t))) (lowers_grow i))) (to w (puts _ (puts _ (covers _ (stays _)))))
   lowers_grow (lowered.choice {t = t} {v = v} {x = x} e h u i w j g) = on (on (on (on (on (lowers_grow h) (to u (puts _ (puts _ (reads _ (begins (stays t))))))) (lowers_grow i)) (to w (puts _ (puts _ (stays v))))) (lowers_grow j)) (on (puts _ (puts _ (stays x))) (gives_grow g))
@@ -173,7 +173,7 @@ mutual
   pub hands_grow : {n : ℕ} {s : State} {p : ℕ} {so_far : Operands} {t : State} {found : Operands} → Hands n s p so_far t found → Grows s t
   hands_grow lowered.spent = stays _
   hands_grow (lowered.no_more e) = stays _
-  hands_grow (lowered.one_more {a = a} u kept n e h k v rest) = on (on (on (lowers_grow h) (keeps_if_grow (lowered.has_next a) k)) (to v (alike (stays u) refl refl refl))) (hands_grow rest)
+  hands_grow (lowered.one_more u kept n e h k v rest) = on (on (on (lowers_grow h) (keeps_if_grow k)) (to v (alike (stays u) refl refl refl))) (hands_grow rest)
 
   hands_if_grow : {b : Bool} {s : State} {p : ℕ} {t : State} {found : Operands} → HandsIf b s p t found → Grows s t
   hands_if_grow (lowered.values h) = hands_grow h

@@ -1,16 +1,19 @@
 -- What functions on expressions put, from what they call.
-use Rattle.std.proofs.Common.{◌≡◌, ◌<◌, ◌≤◌, ◌+◌, ◌-◌, ℕ, Bool, Some, length, arith, sym, subst}
+use Rattle.std.proofs.Common.{◌≡◌, ◌<◌, ◌≤◌, ◌+◌, ◌-◌, ℕ, Bool, Some, length, arith, true, false, sym, subst, ◌∙◌}
+use Rattle.swift_types.specs.declared.operator.Operator.{Operator}
 use Rattle.swift_syntax.specs.declared.tree.Argument.{Argument}
 use Rattle.swift_syntax.specs.declared.tree.ExprForm.TheVariants as form
+use Rattle.swift_syntax.specs.declared.tree.Receiver.{Receiver}
+use Rattle.swift_expressions.specs.declared.call.Called.{Called}
 use Rattle.swift_expressions.specs.declared.code.Kind.{Kind}
 use Rattle.swift_expressions.specs.declared.code.Value.{Value}
 use Rattle.swift_expressions.specs.declared.code.Value.TheVariants as value
 use Rattle.swift_expressions.specs.declared.lowering.Fallback.{Fallback}
 use Rattle.swift_expressions.specs.declared.operands.Operands.{Operands}
 use Rattle.swift_expressions.specs.declared.typed.Typed.{Typed}
-use Rattle.swift_expressions.specs.States.{Gives, State, argument_at, form_at, with_fallback, with_operand}
+use Rattle.swift_expressions.specs.States.{Gives, State, argument_at, expr_at, form_at, with_fallback, with_operand}
 use Rattle.swift_expressions.specs.Lowered as lowered
-use Rattle.swift_expressions.specs.Lowered.{Hands, KeepsIf, Lowers, and_one, caught_by, close_shortcut, fallback_by, has_next}
+use Rattle.swift_expressions.specs.Lowered.{Calls, Hands, HandsIf, KeepsIf, Lowers, and_one, caught_by, close_shortcut, fallback_by, has_next, is_cut_short, takes_values}
 
 -- what is put from one state is from another one that is the same
 pub given_from : {s t : State} {v : Value} {kind : Kind} {u : State} {found : Typed} → t ≡ s → Gives t v kind u found → Gives s v kind u found
@@ -40,13 +43,13 @@ pub kept_from : {a : Bool} {s r t : State} {given found : Typed} → r ≡ s →
 kept_from {a} {t = t} {given = given} {found = found} e k = subst (λ x. KeepsIf a x given t found) e k
 
 -- what is chosen goes to a variable that has this place
-pub choice_given : {a b : ℕ} {second : Typed} {s w u : State} {kind : Kind} {found : Typed} → a ≡ b → w ≡ close_shortcut a second s → Gives w (value.Variable a) kind u found → Gives (close_shortcut b second s) (value.Variable b) kind u found
-choice_given {second = second} {s = s} {u = u} {kind = kind} {found = found} e h g = subst (λ x. Gives (close_shortcut x second s) (value.Variable x) kind u found) e (given_from h g)
+pub choice_given : (second : Typed) (s : State) {a b : ℕ} {w u : State} {kind : Kind} {found : Typed} → a ≡ b → w ≡ close_shortcut a second s → Gives w (value.Variable a) kind u found → Gives (close_shortcut b second s) (value.Variable b) kind u found
+choice_given second s {u = u} {kind = kind} {found = found} e h g = subst (λ x. Gives (close_shortcut x second s) (value.Variable x) kind u found) e (given_from h g)
 
 -- `??`, from what is read of its left operand
 pub otherwise_lowered : {s r t u w : State} {p left right inner : ℕ} {instead found : Typed} {fallback : Fallback} → form_at s p ≡ form.Otherwise left right → r ≡ s → inner ≡ caught_by left (form_at s left) → fallback ≡ fallback_by instead.value (form_at t left) → w ≡ u → Lowers r right t instead → Lowers (with_fallback fallback t) inner u found → Lowers s p w found
-otherwise_lowered {t = t} {u = u} {found = found} e same is_inner is_fallback ends h k =
-    lowered_to ends (lowered.otherwise e (lowered_from same h) (subst (λ x. Lowers (with_fallback x t) _ u found) is_fallback (lowered_at is_inner k)))
+otherwise_lowered {s} {t = t} {u = u} {left = left} {found = found} e same is_inner is_fallback ends h k =
+    lowered_to ends (lowered.otherwise e (lowered_from same h) (subst (λ x. Lowers (with_fallback x t) (caught_by left (form_at s left)) u found) is_fallback (lowered_at is_inner k)))
 
 -- no argument so far
 pub hands_all : {n : ℕ} {s t : State} {p : ℕ} {so_far first found : Operands} → so_far ≡ first → Hands (n - 0) s p so_far t found → Hands n s p first t found
@@ -60,3 +63,18 @@ hands_on {n} {i} {u = u} {v = v} {w = w} {a = a} {found = found} {kept = kept} l
 -- no argument is left
 pub hands_none : {n i : ℕ} {s : State} {p : ℕ} {found : Operands} → n ≤ i → Hands (n - i) s p found s found
 hands_none {n} {i} {s} {p} {found} le = let e : 0 ≡ n - i = omega arith in subst (λ m. Hands m s p found s found) e lowered.spent
+
+-- a call, from what is read of its name
+pub call_lowered : {s r t u : State} {p first token : ℕ} {receiver : Receiver} {given : Operands} {found : Typed} {takes : Bool} (what : Called) → form_at s p ≡ form.Call receiver first → token ≡ (expr_at s p).token → r ≡ s → takes ≡ takes_values what → HandsIf takes r first t given → Calls t given token u found what → Lowers s p u found
+call_lowered {s} {t = t} {u = u} {first = first} {given = given} {found = found} {takes = takes} what e named same values hands calls =
+    lowered.call what e (subst (λ b. HandsIf b s first t given) values (subst (λ x. HandsIf takes x first t given) same hands)) (subst (λ n. Calls t given n u found what) named calls)
+
+-- `a && b` that does something on its right, from what is read of that
+pub shortcut_from : {s r t : State} {p left right : ℕ} {o : Operator} {found : Typed} {cut : Bool} → r ≡ s → form_at s p ≡ form.Binary o left right → cut ≡ is_cut_short s o right → cut ≡ true → (form_at r p ≡ form.Binary o left right → is_cut_short r o right ≡ true → Lowers r p t found) → Lowers s p t found
+shortcut_from {s} {t = t} {p = p} {left = left} {right = right} {o = o} {found = found} same e is cut h =
+    lowered_from same (h (subst (λ x. form_at x p ≡ form.Binary o left right) (sym same) e) (subst (λ x. is_cut_short x o right ≡ true) (sym same) (sym is ∙ cut)))
+
+-- any other operator, from what is read of its right
+pub binary_from : {s r t : State} {p left right : ℕ} {o : Operator} {found : Typed} {cut : Bool} → r ≡ s → form_at s p ≡ form.Binary o left right → cut ≡ is_cut_short s o right → cut ≡ false → (form_at r p ≡ form.Binary o left right → is_cut_short r o right ≡ false → Lowers r p t found) → Lowers s p t found
+binary_from {s} {t = t} {p = p} {left = left} {right = right} {o = o} {found = found} same e is cut h =
+    lowered_from same (h (subst (λ x. form_at x p ≡ form.Binary o left right) (sym same) e) (subst (λ x. is_cut_short x o right ≡ false) (sym same) (sym is ∙ cut)))

@@ -113,9 +113,9 @@ pub data Keeps (s : State) (given : Typed) (t : State) (found : Typed) : Type 0 
   read : is_settled (value_in s given.value) ≡ false → Gives (put (instruction.Let (next_variable s) given.value) (with_temporary s)) (value.Variable (next_variable s)) given.kind t found → Keeps s given t found
 
 -- It is kept where something may change it before it is used.
-abbrev pub KeepsIf : Bool → State → Typed → State → Typed → Type 0
-KeepsIf true s given t found = Keeps s given t found
-KeepsIf false s given t found = (t ≡ s) × (found ≡ given)
+pub data KeepsIf : Bool → State → Typed → State → Typed → Type 0 where
+  kept : {s t : State} {given found : Typed} → Keeps s given t found → KeepsIf true s given t found
+  as_it_is : {s : State} {given : Typed} → KeepsIf false s given s given
 
 -- A wait stands by itself, and what it gives is read from a variable.
 abbrev pub Waits : State → Wait → Kind → State → Typed → Type 0

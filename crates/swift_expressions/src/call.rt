@@ -1,9 +1,9 @@
 //! Calls of methods.
 
-ghost use Rattle.std.specs.Prelude.{◌≡◌, ◌≢◌, ℕ, Bool, IsNone, IsTrue, None, Some};
+ghost use Rattle.std.specs.Prelude.{◌≡◌, ◌≢◌, ℕ, Bool, IsNone, IsTrue, None, Some, pos};
 ghost use Rattle.swift_expressions.specs.Instructions.{IsHoisted, KeepsRefusal};
 ghost use Rattle.swift_expressions.specs.Lowered.{Calls, CallsOwn, checked, slept, takes_values, yielding};
-ghost use Rattle.swift_expressions.specs.States.{Becomes, put, state_of};
+ghost use Rattle.swift_expressions.specs.States.{Becomes, Gives, put, state_of};
 ghost use Rattle.swift_expressions.specs.declared.call.Called.TheVariants as callees;
 
 use crate::code::{Instruction, Kind, NONE, Target, UnitKind, Value, Wait};
@@ -364,6 +364,14 @@ fn check(lowering: &mut Lowering<'_>, token: usize)
     }
 }
 
+// What a call gives that gives nothing.
+fn nothing(lowering: &mut Lowering<'_>) -> Typed
+    ensures gives { IsNone lowering.new.refused → Gives (state_of lowering.old) (Value.Number (pos 0)) Kind.Void (state_of lowering.new) result }
+    ensures refused { KeepsRefusal lowering.old lowering.new }
+{
+    with_kind(lowering, Value::Number(0), Kind::Void)
+}
+
 /// A call, with its arguments lowered where it takes values.
 pub(crate) fn call(
     lowering: &mut Lowering<'_>,
@@ -378,20 +386,29 @@ pub(crate) fn call(
     let is_bare = !method.takes_operands && !matches!(method.called, Called::Sleep);
     lowering.refuse_where(is_bare && first != 0, Rule::Arguments, token);
     match method.called {
-        Called::Own(place) => return call_method(lowering, place, None, first, given, token),
+        Called::Own(place) => call_method(lowering, place, None, first, given, token),
         Called::Other(instance, place) => {
-            return call_method(lowering, place, Some(instance), first, given, token);
+            call_method(lowering, place, Some(instance), first, given, token)
         }
-        Called::Next(place) => return group_next(lowering, place, token),
-        Called::WaitForAll(place) => return wait_for_all(lowering, place, token),
-        Called::Nothing => {}
+        Called::Next(place) => group_next(lowering, place, token),
+        Called::WaitForAll(place) => wait_for_all(lowering, place, token),
+        Called::Nothing => nothing(lowering),
         Called::Yield => {
             want_await(lowering, token);
             lowering.put(Instruction::Yield);
+            nothing(lowering)
         }
-        Called::Sleep => sleep(lowering, token),
-        Called::Check => check(lowering, token),
-        Called::Cancel(variable) => cancel(lowering, variable),
+        Called::Sleep => {
+            sleep(lowering, token);
+            nothing(lowering)
+        }
+        Called::Check => {
+            check(lowering, token);
+            nothing(lowering)
+        }
+        Called::Cancel(variable) => {
+            cancel(lowering, variable);
+            nothing(lowering)
+        }
     }
-    with_kind(lowering, Value::Number(0), Kind::Void)
 }

@@ -2,7 +2,7 @@ use Rattle.std.proofs.Common.{◌≡◌, true, ap, sym, ◌∙◌}
 use Rattle.swift_expressions.specs.declared.code.Kind.TheVariants as kinds
 use Rattle.swift_expressions.specs.Lowered as lowered
 use Rattle.swift_expressions.specs.Lowered.{close_shortcut, open_shortcut, open_choice, turn_choice}
-use Rattle.swift_expressions.specs.States.{covered, next_value, next_variable}
+use Rattle.swift_expressions.specs.States.{covered, next_value, next_variable, state_of}
 use Rattle.swift_expressions.proofs.Stepped.{given_from, choice_given, given_kind, hands_all, hands_on, kept_where, lowered_from, otherwise_lowered}
 use Rattle.swift_expressions.proofs.value.+value.Goals as goal
 
@@ -71,7 +71,7 @@ choice-returns-clause-choice t c = λ p e n9.
     (c.value-first.ensures.lowers n4)
     (c.turn_choice.ensures.state n5 ∙ ap (λ x. turn_choice x c.value-first.result _) v)
     (c.value-second.ensures.lowers n6)
-    (choice_given v (c.want-2.ensures.state n8 ∙ c.close_shortcut.ensures.state n7) (c.with_kind.ensures.gives n9))
+    (choice_given c.value-second.result (state_of c.value-second.new.lowering) v (c.want-2.ensures.state n8 ∙ c.close_shortcut.ensures.state n7) (c.with_kind.ensures.gives n9))
 
 pub awaited-returns-clause-awaited : goal.awaited-returns-clause-awaited
 awaited-returns-clause-awaited t c = λ p e n2.
