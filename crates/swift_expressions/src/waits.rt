@@ -119,6 +119,10 @@ pub(crate) fn next_child(
     if found.is_throwing {
         want_try(lowering, token);
     }
+    // It is an operand of what a `try?` or a `do` covers: it would take what stands for the value of that.
+    if !matches!(lowering.setting.fallback, Fallback::None) {
+        lowering.refuse(Rule::NotYet, token);
+    }
     if found.is_used || found.loops != lowering.setting.loops {
         return refused(lowering, Rule::NotYet, token);
     }
