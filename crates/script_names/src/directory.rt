@@ -152,14 +152,6 @@ impl Declared {
         self.roots.place_or_len(name)
     }
 
-    /// The place of an actor among the actors, or how many these are.
-    pub fn actor_or_len(&self, name: &[u8]) -> usize
-        ensures place { result ≡ place_of self.now.actors name.now }
-        ensures within { result ≤ length self.now.actors }
-    {
-        self.actors.place_or_len(name)
-    }
-
     /// The fields of the actor at a place.
     pub fn fields(&self, actor: usize) -> Option<&Names>
         ensures { option_copied result ≡ slice_get self.now.fields actor }
@@ -206,20 +198,6 @@ impl Declared {
             Some(place) => self.methods.place(alloc, place, method),
             None => Ok(None),
         }
-    }
-
-    /// The place of an actor's method, or how many methods there are. `Err` says that there was no memory.
-    pub fn method_or_len(
-        &self,
-        alloc: Global,
-        actor: &[u8],
-        method: &[u8],
-    ) -> Result<usize, AllocError>
-        ensures place { IfOk result (λ n. n ≡ method_place self.now actor.now method.now) }
-        ensures within { IfOk result (λ n. n ≤ length self.now.methods) }
-    {
-        let place = self.actors.place_or_len(actor);
-        self.methods.place_or_len(alloc, place, method)
     }
 
     /// How many parameters the method at a place has.

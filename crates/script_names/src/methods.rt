@@ -64,20 +64,6 @@ impl Methods {
         Ok(self.set.get_index_of(&key))
     }
 
-    /// The place of a method, or how many methods there are.
-    pub(crate) fn place_or_len(
-        &self,
-        alloc: Global,
-        actor: usize,
-        name: &[u8],
-    ) -> Result<usize, AllocError>
-        ensures place { IfOk result (λ n. n ≡ place_of self.now (method_key actor name.now)) }
-        ensures within { IfOk result (λ n. n ≤ length self.now) }
-    {
-        let found = self.place(alloc, actor, name)?;
-        Ok(found.unwrap_or(self.set.len()))
-    }
-
     /// Puts a method after the others, and says whether it is new: one that is there stays where it is.
     pub(crate) fn add(
         &mut self,
