@@ -106,10 +106,7 @@ module _ (facts : BookFacts) (views views' : List BookKnown) (o : ℕ → ℕ) (
   no_job : (x : ℕ) → 1 ≤ o x → times x e.jobs ≡ 0
   no_job x some_one =
       let not_one = no_one x j.task (λ same. other_task x some_one (sym same)) in
-      let old = c.leaves.old x (made_before x some_one) in
-      let b = c.before x in
-      let s = c.single x in
-      omega (arith, some_one, not_one, old, b, s)
+      omega (arith, some_one, not_one, c.leaves.old x (made_before x some_one), c.before x, c.single x)
 
   -- and of no task two
   few_jobs : (x : ℕ) → times x e.jobs ≤ 1

@@ -62,12 +62,11 @@ mild_either roots true es fs p q = p
 mild_either roots false es fs p q = q
 
 effect_mild : (roots t : ℕ) (own : Priority) (log : List Event) (e : EffectView) → AreMild roots (effect_events roots t own log e)
-effect_mild roots t own log (spawning i p bindings) = ((refl, inr (omega arith)), tt)
-effect_mild roots t own log (detaching i p) = ((refl, inr (omega arith)), tt)
 effect_mild roots t own log opening = ((refl, inl refl), tt)
 effect_mild roots t own log (adding g unless i p bindings) = mild_either roots (is_left_out t g unless log) _ _ ((refl, inl refl), tt) ((refl, inr (omega arith)), tt)
 effect_mild roots t own log (cancelling_task name) = mild_either roots (is_some (life_of (named_task t name log).0 log).ending) [] (CancelTask (named_task t name log) ∷ []) tt ((refl, inl refl), tt)
 effect_mild roots t own log (cancelling_group g) = ((refl, inl refl), tt)
+effect_mild roots t own log _ = ((refl, inr (omega arith)), tt)
 
 effects_go : (es : List EffectView) (roots t x : ℕ) (own : Priority) (log : List Event) → GoesOn roots x log (log_after roots t own log es)
 effects_go [] roots t x own log = goes_nowhere roots x log
@@ -81,8 +80,7 @@ wait_mild roots t awaited None = ((refl, inl refl), tt)
 
 next_mild : (roots t g : ℕ) (a : Answer) → AreMild roots (next_events t g a)
 next_mild roots t g answer.Empty = tt
-next_mild roots t g answer.Wait = ((refl, inl refl), tt)
-next_mild roots t g (answer.Result child e) = ((refl, inl refl), tt)
+next_mild roots t g _ = ((refl, inl refl), tt)
 
 close_mild : (roots t g : ℕ) (f : Option Fault) → AreMild roots (close_events t g f)
 close_mild roots t g None = ((refl, inl refl), tt)
@@ -90,17 +88,13 @@ close_mild roots t g (Some f) = ((refl, inl refl), ((refl, inl refl), tt))
 
 end_mild : (roots t : ℕ) (s : Step) → AreMild roots (end_events t s)
 end_mild roots t (Ended e) = ((refl, inl refl), tt)
-end_mild roots t (Run actor resume) = tt
-end_mild roots t Await = tt
+end_mild roots t _ = tt
 
 exit_mild : (roots t : ℕ) (log : List Event) (exit : ExitView) (step : Step) → AreMild roots (exit_events t log exit step)
 exit_mild roots t log (waiting name) step = wait_mild roots t (named_task t name log) (life_of (named_task t name log).0 log).ending
 exit_mild roots t log (asking_next g) step = next_mild roots t g (next_of (group_of t g log))
 exit_mild roots t log (closing g f) step = close_mild roots t g f
-exit_mild roots t log (calling i) step = end_mild roots t step
-exit_mild roots t log yielding step = end_mild roots t step
-exit_mild roots t log (returning v) step = end_mild roots t step
-exit_mild roots t log (failing f) step = end_mild roots t step
+exit_mild roots t log _ step = end_mild roots t step
 
 gives_mild : (js : List JobFacts) (roots : ℕ) → AreMild roots (gives js)
 gives_mild [] roots = tt
@@ -113,13 +107,11 @@ gives_none (j ∷ js) roots x log is =
     let give : Event = Give (task j.task) j.number j.resume in
     let after = log ++ give ∷ [] in
     let is' : is_begun (stage_of x (after ++ gives js)) ≡ true = subst (λ (l : List Event). is_begun (stage_of x l) ≡ true) (sym (append_assoc log (give ∷ []) (gives js))) is in
-    let none = gives_none js roots x after is' in
     let now : is_begun (stage_of x after) ≡ true = (events_go (gives js) roots x after (gives_mild js roots)).begun is' in
     let apart : x ≢ j.task =
     (λ same. false≢true (sym (ap (λ (l : Life). is_begun l.stage) (life_of-push_same x log give (sym same))) ∙ now))
     in
-    let other = no_one x j.task apart in
-    omega (arith, none, other)
+    omega (arith, gives_none js roots x after is', no_one x j.task apart)
 
 -- At the end of a turn its own task has none under way, nor has one that was given a job. The first roots come from where they came.
 pub record TurnKeeps (roots t x : ℕ) (log : List Event) (e : TurnEnd) : Type 0 where

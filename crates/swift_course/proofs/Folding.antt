@@ -26,9 +26,7 @@ with_folds (b ∷ bs) past before = folded_as past before b ∷ with_folds bs pa
 -- no block is folded
 abbrev pub IsPlain : Block → Type 0
 IsPlain (folded e f) = ⊥
-IsPlain (added r) = Unit {0}
-IsPlain (begun t n env) = Unit {0}
-IsPlain (ran e r) = Unit {0}
+IsPlain _ = Unit {0}
 
 abbrev pub ArePlain : List Block → Type 0
 ArePlain [] = Unit {0}

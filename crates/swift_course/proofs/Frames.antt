@@ -28,8 +28,4 @@ frames_go_on script before after callers outer fields fields' resume env effects
     by : (e : ExitView) → exit ≡ e → advanced script after callers outer e ≡ advanced script (left_as before effects (kept_frame e after)) callers outer e
     by (returning v) here = hands_on script after (left_as before effects None) callers outer (GivenValue v) (Value v) counts.0 counts.1
     by (failing f) here = hands_on script after (left_as before effects None) callers outer (Raise f) (Fault f) counts.0 counts.1
-    by (calling c) here = refl
-    by (waiting t) here = refl
-    by (asking_next g) here = refl
-    by (closing g f) here = refl
-    by yielding here = refl
+    by _ here = refl

@@ -147,8 +147,7 @@ report_is_orderly facts v report h all r rest =
     let ordered : (e : ℕ) → e < executor_count script → IsOrdered (h.order e) =
     (λ e lt. let x = rest e lt in
     let says : SaysOrder facts.log h.order x.0 = All-contains (SaysOrder facts.log h.order) v.accounts x.0 h.orders x.1 in
-    let is = ap h.order (sym x.2) ∙ sym says.0 ∙ x.3 in
-    subst IsOrdered (sym is) tt)
+    subst IsOrdered (sym (ap h.order (sym x.2) ∙ sym says.0 ∙ x.3)) tt)
     in
     let orderly : AllAllowed (IsOrderly script) [] h.blocks =
     subst (λ (o : Option Maker). IfSome o (λ m. ((e : ℕ) → e < m.executors → IsOrdered (h.order e)) → AllAllowed (IsOrderly script) [] h.blocks)) all h.orderly ordered

@@ -90,6 +90,4 @@ count_append t ks ls = sum_by-append (λ (x : Ticket). one_if (is_for t x)) ks l
 pub count_own : (ks : List Ticket) (i : ℕ) (d : Ticket) → i < length ks → 1 ≤ count_by (is_for (get_or ks i d).job.task) ks
 count_own ks i d lt =
     let t = (get_or ks i d).job.task in
-    let le = get_or-le-sum_by (λ (x : Ticket). one_if (is_for t x)) ks i d lt in
-    let is = one t t refl in
-    omega (arith, le, is)
+    omega (arith, get_or-le-sum_by (λ (x : Ticket). one_if (is_for t x)) ks i d lt, one t t refl)

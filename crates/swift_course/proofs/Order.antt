@@ -70,11 +70,7 @@ has_begun script s s' e t true at_rest was has = λ u w is and. only u is ∙ sy
       | inl same ↦ same
       | inr before ↦ absurd (has u before)
     ]
-has_begun script s s' e t true under_way was has = tt
-has_begun script s s' e t true unordered was has = tt
-has_begun script s s' e t false at_rest was has = tt
-has_begun script s s' e t false under_way was has = tt
-has_begun script s s' e t false unordered was has = tt
+has_begun script s s' e t _ _ was has = tt
 
 -- after an order has changed
 has_changed : (script : ScriptView) (s : Standing) (x : ℕ) (f : TurnOrder → TurnOrder) (order : ℕ → TurnOrder) → HasUnderWay script s x (f (order x)) → ((e : ℕ) → e ≢ x → HasUnderWay script s e (order e))
@@ -105,11 +101,7 @@ begin_has script s t n x env there order on has =
 
 pub ordered_begun : (there : Bool) (o : TurnOrder) → IsOrdered (order_begun there o) → (there ≡ true) × (o ≡ at_rest)
 ordered_begun true at_rest is = (refl, refl)
-ordered_begun true under_way is = absurd is
-ordered_begun true unordered is = absurd is
-ordered_begun false at_rest is = absurd is
-ordered_begun false under_way is = absurd is
-ordered_begun false unordered is = absurd is
+ordered_begun _ _ is = absurd is
 
 not_true : (b : Bool) → (b ≡ true → ⊥) → b ≡ false
 not_true true never = absurd (never refl)
@@ -197,9 +189,8 @@ applied_has script log s t x e order is keeps own has =
     (λ k apart. has_stays script s s' k (order k) (was k) (has k))
 
 pub ordered_applied : (o : TurnOrder) → IsOrdered (order_applied o) → IsOrdered o
-ordered_applied at_rest is = tt
-ordered_applied under_way is = tt
 ordered_applied unordered is = is
+ordered_applied _ is = tt
 
 -- where all orders are in order after one has changed, they were before
 pub ordered_before : (x : ℕ) (f : TurnOrder → TurnOrder) (order : ℕ → TurnOrder) → (IsOrdered (f (order x)) → IsOrdered (order x)) → ((e : ℕ) → IsOrdered (changed_at x f order e)) → (e : ℕ) → IsOrdered (order e)

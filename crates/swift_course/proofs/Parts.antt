@@ -248,9 +248,7 @@ seat_gathers v w facts views seat other c at apart at' =
     record {
       sums = λ x.
           (let t = total_set (tickets_in x) views seat v both at in
-          let u = total_set (tickets_in x) front other w no_view at' in
-          let more = count_append x w.tickets v.tickets in
-          omega (arith, t, u, more));
+          omega (arith, t, total_set (tickets_in x) front other w no_view at', count_append x w.tickets v.tickets));
     }
     in
     let both_right : SeatIsRight facts.script c.blocks owner c.maker c.maker_seat seat both =

@@ -45,9 +45,7 @@ add_next v taken views seat c at makes maker_seat lt unborn =
     let none_yet : ways r taken views ≡ 0 = c.unadded r (omega arith) within in
     let sum : (x : ℕ) → sum_by (tickets_in x) (set views seat w) ≡ sum_by (tickets_in x) views + one_if (x == r) =
     (λ x. let t = total_set (tickets_in x) views seat v w at in
-    let more = count_append x v.tickets (fresh (root_job script r) ∷ []) in
-    let last = count_cons x (fresh (root_job script r)) [] in
-    omega (arith, t, more, last))
+    omega (arith, t, count_append x v.tickets (fresh (root_job script r) ∷ []), count_cons x (fresh (root_job script r)) []))
     in
     let tasks : tasks_of (root_count script) (taken.log ++ root_events script r) ≡ tasks_of (root_count script) taken.log = tasks_stay (root_events script r) (root_count script) taken.log (refl, (refl, tt)) in
     let stay : (ks : List Ticket) → ((x : ℕ) → count_by (is_for x) ks ≤ sum_by (tickets_in x) views) → All (IsGiven s) ks → All (IsGiven (standing script bs')) ks =
@@ -77,9 +75,7 @@ add_next v taken views seat c at makes maker_seat lt unborn =
       single = λ x. elim (cases_eq x r) [
         | inl same ↦
             (let was : ways x taken views ≡ 0 = ap (λ y. ways y taken views) same ∙ none_yet in
-            let now = sum x in
-            let yes = one x r same in
-            omega (arith, was, now, yes))
+            omega (arith, was, sum x, one x r same))
         | inr apart ↦ (let was = c.single x in let now = sum x in let not_one = no_one x r apart in omega (arith, was, now, not_one))
       ];
       unadded = λ x le few. (let was = c.unadded x (omega (arith, le)) few in let now = sum x in let not_one = no_one x r (λ same. omega (arith, same, le)) in omega (arith, was, now, not_one));

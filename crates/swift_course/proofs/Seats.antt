@@ -7,9 +7,7 @@ use Rattle.swift_course.proofs.Lists.{all_both, at_set, count_cons, count_own, i
 pub tickets_stay : (s s' : Standing) (o : ℕ → ℕ) → ((k : Ticket) → 1 ≤ o k.job.task → IsGiven s k → IsGiven s' k) → (ks : List Ticket) → ((x : ℕ) → count_by (is_for x) ks ≤ o x) → All (IsGiven s) ks → All (IsGiven s') ks
 tickets_stay s s' o stay ks le all = λ i d lt.
     (let k = get_or ks i d in
-    let own = count_own ks i d lt in
-    let most = le k.job.task in
-    stay k (omega (arith, own, most)) (all i d lt))
+    stay k (omega (arith, count_own ks i d lt, le k.job.task)) (all i d lt))
 
 -- the tickets of jobs that were made
 given_each : (s : Standing) (js : List JobFacts) → AllByRecursion (λ j. s.jobs j.task ≡ Some j) js → AllByRecursion (IsGiven s) (map fresh js)
@@ -50,9 +48,8 @@ others views seat v rest x = sum_by (tickets_in x) (without views seat v rest)
 pub others_and : (views : List BookKnown) (seat : ℕ) (v : BookKnown) (k : Ticket) (rest : List Ticket) (x : ℕ) → get_elem? views seat ≡ some v → v.tickets ≡ k ∷ rest
     → others views seat v rest x + one_if (x == k.job.task) ≡ sum_by (tickets_in x) views
 others_and views seat v k rest x at is =
-    let t = total_set (tickets_in x) views seat v (record v { tickets = rest }) at in
     let own : tickets_in x v ≡ one_if (x == k.job.task) + count_by (is_for x) rest = ap (count_by (is_for x)) is ∙ count_cons x k rest in
-    omega (arith, t, own)
+    omega (arith, total_set (tickets_in x) views seat v (record v { tickets = rest }) at, own)
 
 pub rest_counts : (views : List BookKnown) (seat : ℕ) (v : BookKnown) (rest : List Ticket) (x : ℕ) → get_elem? views seat ≡ some v → count_by (is_for x) rest ≤ others views seat v rest x
 rest_counts views seat v rest x at = total_most (tickets_in x) (without views seat v rest) seat (record v { tickets = rest }) (set_there views seat (record v { tickets = rest }) v at)

@@ -72,8 +72,7 @@ wait_silent t x awaited None apart = ((inl apart, tt), (refl, tt))
 
 next_silent : (t x g : ℕ) (a : Answer) → t ≢ x → AreSilent x (next_events t g a) × AreIdle (next_events t g a)
 next_silent t x g answer.Empty apart = (tt, tt)
-next_silent t x g answer.Wait apart = ((inl apart, tt), (refl, tt))
-next_silent t x g (answer.Result child e) apart = ((inl apart, tt), (refl, tt))
+next_silent t x g _ apart = ((inl apart, tt), (refl, tt))
 
 close_silent : (t x g : ℕ) (f : Option Fault) → t ≢ x → AreSilent x (close_events t g f) × AreIdle (close_events t g f)
 close_silent t x g None apart = ((inl apart, tt), (refl, tt))
@@ -81,17 +80,13 @@ close_silent t x g (Some f) apart = ((inl apart, (inl apart, tt)), (refl, (refl,
 
 end_silent : (t x : ℕ) (s : Step) → t ≢ x → AreSilent x (end_events t s) × AreIdle (end_events t s)
 end_silent t x (Ended e) apart = ((inl apart, tt), (refl, tt))
-end_silent t x (Run actor resume) apart = (tt, tt)
-end_silent t x Await apart = (tt, tt)
+end_silent t x _ apart = (tt, tt)
 
 exit_silent : (t : ℕ) (log : List Event) (exit : ExitView) (step : Step) (x : ℕ) → t ≢ x → AreSilent x (exit_events t log exit step) × AreIdle (exit_events t log exit step)
 exit_silent t log (waiting name) step x apart = wait_silent t x (named_task t name log) (life_of (named_task t name log).0 log).ending apart
 exit_silent t log (asking_next g) step x apart = next_silent t x g (next_of (group_of t g log)) apart
 exit_silent t log (closing g f) step x apart = close_silent t x g f apart
-exit_silent t log (calling i) step x apart = end_silent t x step apart
-exit_silent t log yielding step x apart = end_silent t x step apart
-exit_silent t log (returning v) step x apart = end_silent t x step apart
-exit_silent t log (failing f) step x apart = end_silent t x step apart
+exit_silent t log _ step x apart = end_silent t x step apart
 
 pub exit_stays : (t : ℕ) (log : List Event) (exit : ExitView) (step : Step) (x : ℕ) → t ≢ x → stage_of x (log ++ exit_events t log exit step) ≡ stage_of x log
 exit_stays t log exit step x apart = stage_stays (exit_events t log exit step) x log (exit_silent t log exit step x apart).0

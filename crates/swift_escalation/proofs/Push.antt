@@ -82,9 +82,8 @@ settled_push es xs p s from to k h =
 pub open_push : (es : List TaskEdge) (xs : List Priority) (a b top : ℕ) → IsSettled es xs → level_of xs a ≡ top → IsSettledBut (es ++ (record { from = a; to = b }) ∷ []) xs b top
 open_push es xs a b top s level k h =
     let e : TaskEdge = record { from = a; to = b } in
-    let n = length_push es e in
     let P : TaskEdge → Type 0 = λ d. (level_of xs d.from ≤ level_of xs d.to) ⊎ ((d.to ≡ b) × (level_of xs d.from ≤ top)) in
     elim (cases_lt k (length es)) [
       | inl lt ↦ subst P (sym (edge_at-push_old es e k lt)) (inl (s k lt))
-      | inr ge ↦ subst P (sym (edge_at-push_new es e k (omega (arith, n, ge, h)))) (inr (refl, omega (arith, level)))
+      | inr ge ↦ subst P (sym (edge_at-push_new es e k (omega (arith, length_push es e, ge, h)))) (inr (refl, omega (arith, level)))
     ]

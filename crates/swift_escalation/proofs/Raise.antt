@@ -16,24 +16,9 @@ none_below m n h = grind (arith, common_steps)
 -- a raise leaves one fewer below
 pub below-set : (xs : List Priority) (i : ℕ) (p : Priority) → i < length xs → level_of xs i < rank p → below (rank p) (set xs i p) + 1 ≡ below (rank p) xs
 below-set xs i p h low =
-    let s = sum_by-set (λ (q : Priority). cond (ltb (rank q) (rank p)) 1 0) xs i p Background h in
     let a : ◌≡◌ {A = ℕ} (cond (ltb (rank (get_or xs i Background)) (rank p)) 1 0) 1 = one_below _ _ low in
     let b : ◌≡◌ {A = ℕ} (cond (ltb (rank p) (rank p)) 1 0) 0 = none_below _ _ (omega arith) in
-    omega (arith, s, a, b)
-
--- some place is not below a rank
-pub some_below : (xs : List Priority) (i : ℕ) (p : Priority) → i < length xs → level_of xs i < rank p → 0 < below (rank p) xs
-some_below xs i p h low = omega (arith, below-set xs i p h low)
-
-pub raise_none : (edges : List TaskEdge) (task top : ℕ) (xs : List Priority) (stack : List ℕ) → All (λ i. i < length xs) stack → Raising edges task top xs xs stack stack
-raise_none edges task top xs stack h = record {
-  up = λ i. omega arith;
-  raised = λ i l. absurd (omega arith);
-  kept = λ i c. c;
-  only = λ i c. inl c;
-  inside = h;
-  count = omega arith;
-}
+    omega (arith, sum_by-set (λ (q : Priority). cond (ltb (rank q) (rank p)) 1 0) xs i p Background h, a, b)
 
 raised_at : (old new : List Priority) (t i : ℕ) (p : Priority) (P : Type 0) → t < length new → level_of new t < rank p
     → (i ≡ t → P) → (level_of (set new t p) i ≡ level_of new i → P) → P

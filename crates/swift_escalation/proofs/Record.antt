@@ -5,21 +5,10 @@ use Rattle.swift_escalation.proofs.Push.{level_of-push_old, level_of-push_new, e
 -- priorities of one rank are one
 pub rank_one : (p q : Priority) → rank p ≡ rank q → p ≡ q
 rank_one Background Background e = refl
-rank_one Background Low e = absurd (omega (arith, e))
-rank_one Background Medium e = absurd (omega (arith, e))
-rank_one Background High e = absurd (omega (arith, e))
-rank_one Low Background e = absurd (omega (arith, e))
 rank_one Low Low e = refl
-rank_one Low Medium e = absurd (omega (arith, e))
-rank_one Low High e = absurd (omega (arith, e))
-rank_one Medium Background e = absurd (omega (arith, e))
-rank_one Medium Low e = absurd (omega (arith, e))
 rank_one Medium Medium e = refl
-rank_one Medium High e = absurd (omega (arith, e))
-rank_one High Background e = absurd (omega (arith, e))
-rank_one High Low e = absurd (omega (arith, e))
-rank_one High Medium e = absurd (omega (arith, e))
 rank_one High High e = refl
+rank_one _ _ e = absurd (omega (arith, e))
 
 pub slice_get-push_old : (xs ys : List TaskId) (i : ℕ) (x : TaskId) → slice_get xs i ≡ Some x → slice_get (xs ++ ys) i ≡ Some x
 slice_get-push_old [] ys i x h = absurd (cc h)
@@ -192,8 +181,7 @@ own_only (Free t p) t' p' h = record {
   ];
   leads = λ a b g. elim g [ inl c ↦ cc (one_event (Free t p) (Child b a c.0) c.1) | inr c ↦ cc (one_event (Free t p) (Wait a b) c) ];
 }
-own_only (Child t u p) t' p' h = absurd h
-own_only (Wait u t) t' p' h = absurd h
+own_only _ t' p' h = absurd h
 
 pub are_of_own : (es : List PriorityEvent) (place place' : TaskId → Option ℕ) (levels : List Priority) (edges : List TaskEdge) (e : PriorityEvent) (t : TaskId) (p : Priority)
     → AreOf es place levels edges → IsOwn e t p → place t ≡ None → Added place place' t (length levels)
@@ -378,8 +366,7 @@ are_of_wait es place levels levels' edges u t i j k su st same up =
             let one : w.0 ≡ q = same_Some w.0 q (sym w.2 ∙ h) in
             record { from = r.from; steps = w.1; priority = r.priority; given = r.given; reached = subst (λ (x : TaskId). Reaches (es ++ fs) w.1 r.from x) one w.3; same = r.same ∙ sym g.0 }
         | inr ge ↦
-            let l = up.up n in
-            let e : level_of levels' n ≡ level_of levels n = omega (arith, l, ge) in
+            let e : level_of levels' n ≡ level_of levels n = omega (arith, up.up n, ge) in
             subst (λ (x : ℕ). HasReason (es ++ fs) q x) (sym e) (reason_more es fs q (level_of levels n) (k.reasons q n (stood q n h)))
       ];
     }

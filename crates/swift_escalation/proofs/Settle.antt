@@ -12,9 +12,6 @@ settling_start edges start p xs h low = record {
   ];
 }
 
-abbrev EdgeUp : List TaskEdge → ℕ → List Priority → List ℕ → ℕ → Type 0
-EdgeUp edges top levels stack k = (level_of levels (edge_at edges k).from ≤ level_of levels (edge_at edges k).to) ⊎ ((level_of levels (edge_at edges k).from ≤ top) × Contains stack (edge_at edges k).from)
-
 -- an edge after the start was raised: a and b are its ends
 start_edge : (start a b : ℕ) (p : Priority) (xs : List Priority) (stack : List ℕ) → start < length xs → level_of xs start < rank p → Contains stack start
     → (level_of xs a ≤ level_of xs b) ⊎ ((b ≡ start) × (level_of xs a ≤ rank p))
@@ -92,21 +89,3 @@ todo_more edges start task top xs ys stack stack' o r same done = record {
   ];
   inside = subst (λ (n : ℕ). All (λ i. i < n) stack') (sym same) r.inside;
 }
-
--- with nothing left to do each edge leads up
-pub settled_end : (edges : List TaskEdge) (start top : ℕ) (xs : List Priority) (stack : List ℕ) → length stack ≡ 0 → IsOpen edges start top xs stack
-    → (k : ℕ) → k < length edges → level_of xs (edge_at edges k).from ≤ level_of xs (edge_at edges k).to
-settled_end edges start top xs stack none o k h =
-    elim (o.edges_up k h) [
-      | inl le ↦ le
-      | inr d ↦ absurd (let g = d.1.1 in omega (arith, g, none))
-    ]
-
--- where the start is not below the rank, nothing is to do
-pub settled_already : (a b start top : ℕ) (xs : List Priority) → top ≤ level_of xs start
-    → (level_of xs a ≤ level_of xs b) ⊎ ((b ≡ start) × (level_of xs a ≤ top)) → level_of xs a ≤ level_of xs b
-settled_already a b start top xs high was =
-    elim was [
-      | inl le ↦ le
-      | inr d ↦ subst (λ (j : ℕ). level_of xs a ≤ level_of xs j) (sym d.0) (let g = d.1 in omega (arith, g, high))
-    ]

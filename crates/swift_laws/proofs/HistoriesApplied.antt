@@ -72,16 +72,13 @@ module _ (script : ScriptView) (cps : List CheckpointView) where
   first_or_later : (before : List Block) (c : Block) (bs : List Block) (t n : ℕ) → Stands script cps before c → Good before → applied t (LogOf before) ≤ n
       → Applies t (LogOf before) (after_block script (after_blocks script (at_first script) before) c).log c → IsRun (c ∷ bs) t n ⊎ (applied t (LogOf (before ++ c ∷ [])) ≤ n)
   first_or_later before c bs t n stands good le (other same) =
-      let now = ap (λ (z : Standing). applied t z.log) (after_push script (at_first script) before c) in
-      inr (omega (arith, le, same, now))
+      inr (omega (arith, le, same, ap (λ (z : Standing). applied t z.log) (after_push script (at_first script) before c)))
   first_or_later before c bs t n stands good le (this m of) =
       let next = block_next script cps before c t m stands of good in
       let was = next.was in
-      let is = next.is in
-      let now = ap (λ (z : Standing). applied t z.log) (after_push script (at_first script) before c) in
       elim (cases_eq m n) [
         | inl same ↦ inl (record { place = 0; block = c; at = refl; is_turn = of ∙ ap (λ (k : ℕ). Some (t, k)) same })
-        | inr ne ↦ inr (omega (arith, le, was, is, now, ne))
+        | inr ne ↦ inr (omega (arith, le, was, next.is, ap (λ (z : Standing). applied t z.log) (after_push script (at_first script) before c), ne))
       ]
 
   is_run : (before bs : List Block) (t n : ℕ) → AllStand script cps before bs → Good before → applied t (LogOf before) ≤ n → n < applied t (LogOf (before ++ bs)) → IsRun bs t n
@@ -99,19 +96,16 @@ module _ (script : ScriptView) (cps : List CheckpointView) where
       let one = applied_stays script cps before c t all.0 in
       let now = ap (λ (z : Standing). applied t z.log) (after_push script (at_first script) before c) in
       let on = stays_applied (before ++ c ∷ []) bs t all.1 in
-      let whole = ap (λ (xs : List Block). applied t (LogOf xs)) (append_assoc before (c ∷ []) bs) in
-      omega (arith, one, now, on, whole)
+      omega (arith, one, now, on, ap (λ (xs : List Block). applied t (LogOf xs)) (append_assoc before (c ∷ []) bs))
 
   -- and a turn of a block was applied
   run_applied : (before bs : List Block) (p : ℕ) (b : Block) (t n : ℕ) → AllStand script cps before bs → Good before → slice_get bs p ≡ Some b → turn_of b ≡ Some (t, n) → n < applied t (LogOf (before ++ bs))
   run_applied before [] p b t n all good at of = absurd (none-some b at)
   run_applied before (c ∷ bs) zero b t n all good at of =
       let next = block_next script cps before c t n all.0 (ap turn_of (same_Some c b at) ∙ of) good in
-      let is = next.is in
       let now = ap (λ (z : Standing). applied t z.log) (after_push script (at_first script) before c) in
       let on = stays_applied (before ++ c ∷ []) bs t all.1 in
-      let whole = ap (λ (xs : List Block). applied t (LogOf xs)) (append_assoc before (c ∷ []) bs) in
-      omega (arith, is, now, on, whole)
+      omega (arith, next.is, now, on, ap (λ (xs : List Block). applied t (LogOf xs)) (append_assoc before (c ∷ []) bs))
   run_applied before (c ∷ bs) (suc p) b t n all good at of =
       let on = run_applied (before ++ c ∷ []) bs p b t n all.1 (subst (λ (z : Standing). AreCounted (root_count script) z.log z.held) (sym (after_push script (at_first script) before c)) (block_keeps script cps before c all.0 good)) at of in
       subst (λ (xs : List Block). n < applied t (LogOf xs)) (append_assoc before (c ∷ []) bs) on

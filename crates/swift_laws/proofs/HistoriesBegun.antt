@@ -32,14 +32,7 @@ was_begun (Give u n resume) s g env none is = absurd (false≢true (ap is_begun 
 was_begun (Wait u awaited) s g env none is = absurd (false≢true (ap is_begun is))
 was_begun (Next o k) s g env none is = absurd (false≢true (ap is_begun is))
 was_begun (Close o k) s g env none is = absurd (false≢true (ap is_begun is))
-was_begun (Root u p) s g env none is = (is, refl)
-was_begun (Free u by p detached) s g env none is = (is, refl)
-was_begun (Open o k) s g env none is = (is, refl)
-was_begun (Child u o k p) s g env none is = (is, refl)
-was_begun (Skip o k) s g env none is = (is, refl)
-was_begun (CancelTask u) s g env none is = (is, refl)
-was_begun (CancelGroup o k) s g env none is = (is, refl)
-was_begun (End u ending) s g env none is = (is, refl)
+was_begun _ s g env none is = (is, refl)
 
 more_begun : (script : ScriptView) (log : List Event) (e : Event) (t : ℕ) (env : Env) (g : Option LastJob) → begins_turn t e ≡ false → (life_of t log).given ≡ g → HasBegun script log (life_of t log).given t env → HasBegun script (log ++ e ∷ []) g t env
 more_begun script log e t env g none same h = record {

@@ -43,20 +43,8 @@ starts (Give t n resume) = true
 starts _ = false
 
 pub idle_turn : (t : ℕ) (e : Event) → starts e ≡ false → turn_in t e ≡ None
-idle_turn t (Begin u n env) h = refl
 idle_turn t (Apply u n) h = absurd (true≢false h)
-idle_turn t (Give u n resume) h = refl
-idle_turn t (Root u p) h = refl
-idle_turn t (Free u by p detached) h = refl
-idle_turn t (Open o g) h = refl
-idle_turn t (Child u o g p) h = refl
-idle_turn t (Skip o g) h = refl
-idle_turn t (CancelTask u) h = refl
-idle_turn t (CancelGroup o g) h = refl
-idle_turn t (Wait u awaited) h = refl
-idle_turn t (Next o g) h = refl
-idle_turn t (Close o g) h = refl
-idle_turn t (End u ending) h = refl
+idle_turn t _ h = refl
 
 pub idle_applied : (t : ℕ) (log : List Event) (e : Event) → turn_in t e ≡ None → applied t (log ++ e ∷ []) ≡ applied t log
 idle_applied t log e none = ap length (filter_map-push_none (turn_in t) log e none)
@@ -92,14 +80,10 @@ idle_counted (Root u p) h c = is_made_now _ c
 idle_counted (Free u by p true) h c = is_made_now _ c
 idle_counted (Free u by p false) h c = is_made_now _ c
 idle_counted (Child u o g p) h c = is_made_now _ c
-idle_counted (Open o g) h c = c
-idle_counted (Skip o g) h c = c
-idle_counted (CancelTask u) h c = c
-idle_counted (CancelGroup o g) h c = c
 idle_counted (Wait u awaited) h c = rests_now _ refl c
 idle_counted (Next o g) h c = rests_now _ refl c
 idle_counted (Close o g) h c = rests_now _ refl c
-idle_counted (End u ending) h c = c
+idle_counted _ h c = c
 
 -- what is held of a task is taken, or held
 pub none_held : {o : Option Origin} {g : Option LastJob} {s : Option JobStage} {n : ℕ} {h : Option WaitingTaskView} → IsCounted o g s n h → IsCounted o g s n None
@@ -132,8 +116,7 @@ MakesWithin roots log e = (origin_in e ≡ None) ⊎ (task_of e < tasks_of roots
 
 pub beyond_push : (roots : ℕ) (log : List Event) (e : Event) → MakesWithin roots log e → Beyond roots log → Beyond roots (log ++ e ∷ [])
 beyond_push roots log e within beyond t le =
-    let more = tasks-grow roots log e in
-    let was : tasks_of roots log ≤ t = omega (arith, more, le) in
+    let was : tasks_of roots log ≤ t = omega (arith, tasks-grow roots log e, le) in
     elim within [
       | inl none ↦ origin-push t log e none ∙ beyond t was
       | inr less ↦ (let ne : task_of e ≢ t = omega (arith, less, le) in ap (λ (l : Life). l.origin) (life_of-push_other t log e ne) ∙ beyond t was)
@@ -156,17 +139,7 @@ pub written_idle : (roots t : ℕ) (log : List Event) (e : Event) → IsWritten 
 written_idle roots t log (Begin u n env) w = absurd w
 written_idle roots t log (Apply u n) w = absurd w
 written_idle roots t log (Give u n resume) w = absurd w
-written_idle roots t log (Root u p) w = refl
-written_idle roots t log (Free u by p detached) w = refl
-written_idle roots t log (Open o g) w = refl
-written_idle roots t log (Child u o g p) w = refl
-written_idle roots t log (Skip o g) w = refl
-written_idle roots t log (CancelTask u) w = refl
-written_idle roots t log (CancelGroup o g) w = refl
-written_idle roots t log (Wait u awaited) w = refl
-written_idle roots t log (Next o g) w = refl
-written_idle roots t log (Close o g) w = refl
-written_idle roots t log (End u ending) w = refl
+written_idle roots t log _ w = refl
 
 taken_then : (roots : ℕ) (log : List Event) (e : Event) → is_made e ≡ true → task_of e ≡ tasks_of roots log → task_of e < tasks_of roots (log ++ e ∷ [])
 taken_then roots log e made at = let more = tasks_of-push_made roots log e made in omega (arith, more, at)
@@ -178,14 +151,7 @@ written_within roots t log (Give u n resume) w = absurd w
 written_within roots t log (Root u p) w = absurd w
 written_within roots t log (Free u by p detached) w = inr (taken_then roots log (Free u by p detached) refl w.0)
 written_within roots t log (Child u o g p) w = inr (taken_then roots log (Child u o g p) refl w.0)
-written_within roots t log (Open o g) w = inl refl
-written_within roots t log (Skip o g) w = inl refl
-written_within roots t log (CancelTask u) w = inl refl
-written_within roots t log (CancelGroup o g) w = inl refl
-written_within roots t log (Wait u awaited) w = inl refl
-written_within roots t log (Next o g) w = inl refl
-written_within roots t log (Close o g) w = inl refl
-written_within roots t log (End u ending) w = inl refl
+written_within roots t log _ w = inl refl
 
 -- a turn is applied
 
@@ -280,17 +246,10 @@ pub idle_stage : (e : Event) (s : Option JobStage) → starts e ≡ false → is
 idle_stage (Begin u n env) s h is = absurd (true≢false h)
 idle_stage (Apply u n) s h is = absurd (true≢false h)
 idle_stage (Give u n resume) s h is = absurd (true≢false h)
-idle_stage (Root u p) s h is = is
-idle_stage (Free u by p detached) s h is = is
-idle_stage (Open o g) s h is = is
-idle_stage (Child u o g p) s h is = is
-idle_stage (Skip o g) s h is = is
-idle_stage (CancelTask u) s h is = is
-idle_stage (CancelGroup o g) s h is = is
 idle_stage (Wait u awaited) s h is = refl
 idle_stage (Next o g) s h is = refl
 idle_stage (Close o g) s h is = refl
-idle_stage (End u ending) s h is = is
+idle_stage _ s h is = is
 
 pub rest_push : (t : ℕ) (log : List Event) (e : Event) → starts e ≡ false → is_under_way (life_of t log).stage ≡ false → is_under_way (life_of t (log ++ e ∷ [])).stage ≡ false
 rest_push t log e idle rest = elim (cases_eq (task_of e) t) [

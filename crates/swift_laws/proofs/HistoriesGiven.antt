@@ -56,16 +56,10 @@ same_way roots t log (Begin u n env) w rest = absurd w
 same_way roots t log (Apply u n) w rest = absurd w
 same_way roots t log (Give u n resume) w rest = absurd w
 same_way roots t log (Root u p) w rest = absurd w
-same_way roots t log (Free u by p detached) w rest = refl
-same_way roots t log (Open o g) w rest = refl
-same_way roots t log (Child u o g p) w rest = refl
-same_way roots t log (Skip o g) w rest = refl
-same_way roots t log (CancelTask u) w rest = refl
-same_way roots t log (CancelGroup o g) w rest = refl
 same_way roots t log (Wait u awaited) w rest = sym (subst (λ (k : ℕ). is_under_way (life_of k log).stage ≡ false) (sym w) rest)
 same_way roots t log (Next o g) w rest = sym (subst (λ (k : ℕ). is_under_way (life_of k log).stage ≡ false) (sym w) rest)
 same_way roots t log (Close o g) w rest = sym (subst (λ (k : ℕ). is_under_way (life_of k log).stage ≡ false) (sym w) rest)
-same_way roots t log (End u ending) w rest = refl
+same_way roots t log _ w rest = refl
 
 written_given : (roots t : ℕ) (log : List Event) (e : Event) → IsWritten roots t log e → is_under_way (life_of t log).stage ≡ false → AreGiven log → AreGiven (log ++ e ∷ [])
 written_given roots t log e w rest are =
@@ -206,5 +200,4 @@ jobs_stand stand applied numbered script report t n resume accepted legal has =
     let is : given_job t.0 (Give t n resume) ≡ Some n = ap (λ (b : Bool). if b then Some n else None) (eq-eqb t.0 t.0 refl) in
     let gave = in_filter_map (given_job t.0) report.log (Give t n resume) n (in_contains report.log (Give t n resume) has) is in
     let turn = subst (λ (ns : List ℕ). In ns n) (applied script report t.0 legal ∙ (numbered script report t.0 legal).0) gave in
-    let lt = in_range 0 (length (turns_of t.0 report.log)) n turn in
-    stand script report t.0 n accepted legal (omega (arith, lt))
+    stand script report t.0 n accepted legal (omega (arith, in_range 0 (length (turns_of t.0 report.log)) n turn))

@@ -10,19 +10,7 @@ begins _ = false
 
 written_after : (roots t : ℕ) (log : List Event) (e : Event) → IsWritten roots t log e → begins e ≡ false
 written_after roots t log (Begin u n env) w = absurd w
-written_after roots t log (Apply u n) w = refl
-written_after roots t log (Give u n resume) w = refl
-written_after roots t log (Root u p) w = refl
-written_after roots t log (Free u by p detached) w = refl
-written_after roots t log (Open o g) w = refl
-written_after roots t log (Child u o g p) w = refl
-written_after roots t log (Skip o g) w = refl
-written_after roots t log (CancelTask u) w = refl
-written_after roots t log (CancelGroup o g) w = refl
-written_after roots t log (Wait u awaited) w = refl
-written_after roots t log (Next o g) w = refl
-written_after roots t log (Close o g) w = refl
-written_after roots t log (End u ending) w = refl
+written_after roots t log _ w = refl
 
 module _ (P : List Event → Type 0) (keeps : (log : List Event) (e : Event) → begins e ≡ false → P log → P (log ++ e ∷ [])) where
   keeps_gives : (log : List Event) (jobs : List JobFacts) → P log → P (log ++ gives jobs)
@@ -81,8 +69,7 @@ module _ (P : List Event → Type 0) (keeps : (log : List Event) (e : Event) →
 
 more_applied : (t k : ℕ) (log : List Event) (e : Event) → k ≤ applied t log → k ≤ applied t (log ++ e ∷ [])
 more_applied t k log e le =
-    let more = ap length (filter_map-append (turn_in t) log (e ∷ [])) ∙ length-append (turns_of t log) (filter_map (turn_in t) (e ∷ [])) in
-    omega (arith, more, le)
+    omega (arith, ap length (filter_map-append (turn_in t) log (e ∷ [])) ∙ length-append (turns_of t log) (filter_map (turn_in t) (e ∷ [])), le)
 
 pub applied_stays : (script : ScriptView) (cps : List CheckpointView) (before : List Block) (b : Block) (t : ℕ) → Stands script cps before b
     → applied t (after_blocks script (at_first script) before).log ≤ applied t (after_block script (after_blocks script (at_first script) before) b).log

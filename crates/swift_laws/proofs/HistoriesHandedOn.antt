@@ -34,9 +34,8 @@ if_steps x before true n m p q = p
 if_steps x before false n m p q = q
 
 given_steps : (x : List (ℕ × ℤ)) (place : Option NumberPlace) (rest : Code) (s : TurnStateView) (v : ℤ) → Step x s.effects (given place rest s v)
-given_steps x None rest s v = inl refl
 given_steps x (Some (Variable y)) rest s v = inl refl
-given_steps x (Some (Field p)) rest s v = inl refl
+given_steps x _ rest s v = inl refl
 
 make_steps : (x : List (ℕ × ℤ)) (e : EffectView) (handle : Option ℕ) (rest : Code) (s : TurnStateView) → HandsOn x e → Step x s.effects (Turn.make e handle rest s)
 make_steps x e handle rest s on = if_steps x s.effects (nat_lt 0 s.room) _ _ (if_steps x s.effects (nat_lt s.made (2 ^ 32)) _ _ (inr (record { effect = e; more = refl; hands_on = on })) refl) refl
@@ -50,14 +49,11 @@ close_steps x (g ∷ gs) rest s = refl
 
 wait_steps : (g : TurnInputView) (w : Wanted) (rest : Code) (s : TurnStateView) → Step (standing g s) s.effects (Turn.wait_for g w rest s)
 wait_steps g (code.call c) rest s = invocation_steps (standing g s) (Turn.invoked c (evs c.args (scene g s))) s _ (λ i. refl)
-wait_steps g (code.root r) rest s = refl
-wait_steps g (code.task x) rest s = refl
-wait_steps g (code.next x) rest s = refl
+wait_steps g _ rest s = refl
 
 cancel_on : (x : List (ℕ × ℤ)) (handles : List ℕ) (c : Subject) → HandsOn x (Turn.cancel_of handles c)
-cancel_on x handles (subject.Root r) = tt
-cancel_on x handles (subject.Task y) = tt
 cancel_on x handles (subject.Group y) = tt
+cancel_on x handles _ = tt
 
 perform_steps : (g : TurnInputView) (d : Operation) (rest : Code) (s : TurnStateView) → Step (standing g s) s.effects (perform g d rest s)
 perform_steps g (code.set_variable x t) rest s = value_steps (standing g s) (ev t (scene g s)) s _ (λ v. inl refl)
@@ -117,10 +113,7 @@ last_or_before before x after xs y is = elim (in_order before x after xs y [] (s
   | inr (inl more) ↦ inr more
   | inr (inr less) ↦ absurd
       (let long = ap length is in
-      let a = length-append xs (y ∷ []) in
-      let b = length-append before (x ∷ after) in
-      let c = ap length less.1 ∙ length-append xs (y ∷ less.0) in
-      omega (arith, long, a, b, c))
+      omega (arith, long, length-append xs (y ∷ []), length-append before (x ∷ after), ap length less.1 ∙ length-append xs (y ∷ less.0)))
 ]
 
 abbrev HasEffect : List EffectView → List EffectView → EffectView → Type 0
@@ -165,9 +158,8 @@ SameEffects es (goes s) = s.effects ≡ es
 SameEffects es (leaves s e) = s.effects ≡ es
 
 given_same : (place : Option NumberPlace) (rest : Code) (s : TurnStateView) (v : ℤ) → SameEffects s.effects (given place rest s v)
-given_same None rest s v = refl
 given_same (Some (Variable y)) rest s v = refl
-given_same (Some (Field p)) rest s v = refl
+given_same _ rest s v = refl
 
 value_same : (v : Option ℤ) (s : TurnStateView) (go : ℤ → AfterStatement) → ((y : ℤ) → SameEffects s.effects (go y)) → SameEffects s.effects (with_value v s go)
 value_same None s go k = refl

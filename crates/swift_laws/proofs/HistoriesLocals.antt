@@ -42,12 +42,9 @@ either_outer false x y base p q = q
 advanced_outer : (script : ScriptView) (p : FrameView) (callers : List FrameView) (outer base : List (ℕ × ℤ)) (exit : ExitView) → outer ≡ bindings_over callers base
     → (let a = advanced script p callers outer exit in a.task.outer ≡ bindings_over (callers_of a.task.frames) base)
 advanced_outer script p callers outer base (calling c) is = either_outer (nat_lt (length (p ∷ callers)) FRAMES) _ _ base (ap (λ (xs : List (ℕ × ℤ)). p.own ++ xs) is) is
-advanced_outer script p callers outer base (waiting t) is = is
-advanced_outer script p callers outer base (asking_next g) is = is
-advanced_outer script p callers outer base (closing g f) is = is
-advanced_outer script p callers outer base yielding is = is
 advanced_outer script p callers outer base (returning v) is = resumed_outer script p callers outer base _ _ is
 advanced_outer script p callers outer base (failing f) is = resumed_outer script p callers outer base _ _ is
+advanced_outer script p callers outer base _ is = is
 
 -- the jobs of the tasks that effects make
 
@@ -64,10 +61,8 @@ left_out_first script by own log g unless i p bindings es false is = (record { m
 first_made : (script : ScriptView) (by : ℕ) (own : Priority) (log : List Event) (e : EffectView) (es : List EffectView) → AllByRecursion (IsFirst script by own log (e ∷ es)) (effect_jobs script by log e)
 first_made script by own log (spawning i p bindings) es = (record { made_with = bindings; makes = inl (refl, refl); outer = refl }, tt)
 first_made script by own log (detaching i p) es = (record { made_with = []; makes = inl (refl, refl); outer = refl }, tt)
-first_made script by own log opening es = tt
 first_made script by own log (adding g unless i p bindings) es = left_out_first script by own log g unless i p bindings es (is_left_out by g unless log) refl
-first_made script by own log (cancelling_task name) es = tt
-first_made script by own log (cancelling_group g) es = tt
+first_made script by own log _ es = tt
 
 all_made : (script : ScriptView) (by : ℕ) (own : Priority) (log : List Event) (es : List EffectView) → AllByRecursion (IsFirst script by own log es) (jobs_made script by own log es)
 all_made script by own log [] = tt

@@ -42,9 +42,7 @@ makes_unborn : (script : ScriptView) (by : ℕ) (log : List Event) (e : EffectVi
 makes_unborn script by log (spawning i p b) t bindings beyond m = let at = m.0 in beyond t (omega (arith, at))
 makes_unborn script by log (detaching i p) t bindings beyond m = let at = m.0 in beyond t (omega (arith, at))
 makes_unborn script by log (adding g unless i p b) t bindings beyond m = let at = m.1 in beyond t (omega (arith, at))
-makes_unborn script by log opening t bindings beyond m = absurd m
-makes_unborn script by log (cancelling_task name) t bindings beyond m = absurd m
-makes_unborn script by log (cancelling_group g) t bindings beyond m = absurd m
+makes_unborn script by log _ t bindings beyond m = absurd m
 
 born_now : (t : ℕ) (log : List Event) (e : Event) (x : Origin) → origin_in e ≡ Some x → task_of e ≡ t → IsBorn t (log ++ e ∷ [])
 born_now t log e x made of = subst (λ (l : Life). l.origin ≢ None) (sym (life_of-push_same t log e of)) (subst (λ (o : Option Origin). later o (life_of t log).origin ≢ None) (sym made) (some_not x))
@@ -67,9 +65,7 @@ makes_twice : (script : ScriptView) (by : ℕ) (log : List Event) (e : EffectVie
 makes_twice script by log (spawning i p b) t x y m n = m.1 ∙ sym n.1
 makes_twice script by log (detaching i p) t x y m n = m.1 ∙ sym n.1
 makes_twice script by log (adding g unless i p b) t x y m n = m.2 ∙ sym n.2
-makes_twice script by log opening t x y m n = absurd m
-makes_twice script by log (cancelling_task name) t x y m n = absurd m
-makes_twice script by log (cancelling_group g) t x y m n = absurd m
+makes_twice script by log _ t x y m n = absurd m
 
 one_unborn : (script : ScriptView) (by : ℕ) (own : Priority) (log : List Event) (es : List EffectView) (t : ℕ) (bindings : List (ℕ × ℤ)) → Beyond (root_count script) log → OneMakes script by own log es t bindings → IsUnborn t log
 one_unborn script by own log [] t bindings beyond m = absurd m

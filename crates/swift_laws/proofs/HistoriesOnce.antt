@@ -8,8 +8,7 @@ use Rattle.swift_laws.proofs.HistoriesGrow.{applied_stays}
 abbrev pub turn_of : Block → Option (ℕ × ℕ)
 turn_of (ran e r) = Some (r.task, r.number)
 turn_of (folded e f) = Some (f.task, f.number)
-turn_of (added r) = None
-turn_of (begun t n env) = None
+turn_of _ = None
 
 pub record IsNext (before after : Standing) (t n : ℕ) : Type 0 where
   pub was : applied t before.log ≡ n
@@ -46,22 +45,17 @@ module _ (script : ScriptView) (cps : List CheckpointView) where
   later_turn : (before bs : List Block) (q : ℕ) (b : Block) (t n : ℕ) → AllStand script cps before bs → Good before → slice_get bs q ≡ Some b → turn_of b ≡ Some (t, n) → applied t (after_blocks script (at_first script) before).log ≤ n
   later_turn before [] q b t n all are at of = absurd (none-some b at)
   later_turn before (c ∷ bs) zero b t n all are at of =
-      let next = block_next script cps before c t n all.0 (ap turn_of (same_Some c b at) ∙ of) are in
-      let was = next.was in
-      omega (arith, was)
+      omega (arith, (block_next script cps before c t n all.0 (ap turn_of (same_Some c b at) ∙ of) are).was)
   later_turn before (c ∷ bs) (suc q) b t n all are at of =
       let le = later_turn (before ++ c ∷ []) bs q b t n all.1 (good_push before c all.0 are) at of in
       let same = ap (λ (z : Standing). applied t z.log) (after_push script (at_first script) before c) in
-      let more = applied_stays script cps before c t all.0 in
-      omega (arith, le, same, more)
+      omega (arith, le, same, applied_stays script cps before c t all.0)
 
   passed : (before : List Block) (c : Block) (bs : List Block) (q : ℕ) (b : Block) (t n : ℕ) → AllStand script cps before (c ∷ bs) → Good before → turn_of c ≡ Some (t, n) → slice_get bs q ≡ Some b → turn_of b ≡ Some (t, n) → ⊥
   passed before c bs q b t n all are first at of =
       let le = later_turn (before ++ c ∷ []) bs q b t n all.1 (good_push before c all.0 are) at of in
       let same = ap (λ (z : Standing). applied t z.log) (after_push script (at_first script) before c) in
-      let next = block_next script cps before c t n all.0 first are in
-      let is = next.is in
-      omega (arith, le, same, is)
+      omega (arith, le, same, (block_next script cps before c t n all.0 first are).is)
 
   pub one_block : (before bs : List Block) (p q : ℕ) (a b : Block) (t n : ℕ) → AllStand script cps before bs → Good before
       → slice_get bs p ≡ Some a → turn_of a ≡ Some (t, n) → slice_get bs q ≡ Some b → turn_of b ≡ Some (t, n) → p ≡ q
@@ -100,16 +94,12 @@ some_if true x y is = (refl, same_Some x y is)
 some_if false x y is = absurd (none-some y is)
 
 pub ran_is : (e : ℕ) (b : Block) (r : RecordView) → record_in e b ≡ Some r → b ≡ ran e r
-ran_is e (added k) r is = absurd (none-some r is)
-ran_is e (begun t n env) r is = absurd (none-some r is)
-ran_is e (folded k f) r is = absurd (none-some r is)
 ran_is e (ran k q) r is = (let p = some_if (k == e) q r is in ap (λ (x : ℕ). ran x q) (eqb-true k e p.0) ∙ ap (λ (x : RecordView). ran e x) p.1)
+ran_is e _ r is = absurd (none-some r is)
 
 pub folded_is : (e : ℕ) (b : Block) (f : FoldedView) → folded_in e b ≡ Some f → b ≡ folded e f
-folded_is e (added k) f is = absurd (none-some f is)
-folded_is e (begun t n env) f is = absurd (none-some f is)
-folded_is e (ran k r) f is = absurd (none-some f is)
 folded_is e (folded k g) f is = (let p = some_if (k == e) g f is in ap (λ (x : ℕ). folded x g) (eqb-true k e p.0) ∙ ap (λ (x : FoldedView). folded e x) p.1)
+folded_is e _ f is = absurd (none-some f is)
 
 pub record_picked : (script : ScriptView) (report : ReportView) (legal : IsLegal script report) (e i : ℕ) (r : RecordView) → IsRecord report e i r → IsPicked (record_in e) legal.blocks i r
 record_picked script report legal e i r is = picked (record_in e) legal.blocks i r (subst (λ (rs : List RecordView). slice_get rs i ≡ Some r) (legal.journals e is.journal is.is_journal) is.stands)
@@ -121,8 +111,7 @@ folded_picked script report legal e i f is = picked (folded_in e) legal.blocks i
 abbrev pub place_of : List Block → ℕ → Block → Option TurnPlace
 place_of blocks p (ran e r) = Some (in_journal e (length (records_of e (take p blocks))))
 place_of blocks p (folded e f) = Some (in_checkpoint e (length (folded_of e (take p blocks))))
-place_of blocks p (added r) = None
-place_of blocks p (begun t n env) = None
+place_of blocks p _ = None
 
 pub record HasBlock (blocks : List Block) (place : TurnPlace) (t n : ℕ) : Type 0 where
   pub at : ℕ

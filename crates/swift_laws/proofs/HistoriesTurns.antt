@@ -218,11 +218,10 @@ made_later n m js le p = (all_map (λ (j : JobFacts) (at : m ≤ j.task). (let i
 made_next : (roots : ℕ) (log : List Event) (e : Event) (j : JobFacts) (js : List JobFacts) → is_made e ≡ true → j.task ≡ tasks_of roots log → MadeFrom (tasks_of roots (log ++ e ∷ [])) js → MadeFrom (tasks_of roots log) (j ∷ js)
 made_next roots log e j js made at p =
     let more = tasks_of-push_made roots log e made in
-    let later = made_later (tasks_of roots log) (tasks_of roots (log ++ e ∷ [])) js (omega (arith, more)) p in
     let here : tasks_of roots log ≤ j.task = omega (arith, at) in
     let others : AllByRecursion (IsOther j.task) js =
     all_map (λ (i : JobFacts) (le : tasks_of roots (log ++ e ∷ []) ≤ i.task). λ (same : i.task ≡ j.task). absurd (omega (arith, more, at, le, same))) js p.0 in
-    ((here, later.0), (others, p.1))
+    ((here, (made_later (tasks_of roots log) (tasks_of roots (log ++ e ∷ [])) js (omega (arith, more)) p).0), (others, p.1))
 
 module _ (script : ScriptView) (t : ℕ) (own : Priority) where
   made_or : (log : List Event) (skip child : Event) (j : JobFacts) (es : List EffectView) (b : Bool) → is_made child ≡ true → j.task ≡ tasks_of (root_count script) log

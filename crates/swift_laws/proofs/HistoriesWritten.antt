@@ -51,8 +51,7 @@ module _ (P : List Event → Type 0) (roots t : ℕ) (own : Priority) (keeps : (
 
   keeps_next : (log : List Event) (g : ℕ) (a : Answer) → P log → P (log ++ next_events t g a)
   keeps_next log g answer.Empty is = keeps_nothing log is
-  keeps_next log g answer.Wait is = keeps log (Next (task t) g) refl is
-  keeps_next log g (answer.Result child e) is = keeps log (Next (task t) g) refl is
+  keeps_next log g _ is = keeps log (Next (task t) g) refl is
 
   keeps_close : (log : List Event) (g : ℕ) (f : Option Fault) → P log → P (log ++ close_events t g f)
   keeps_close log g None is = keeps log (Close (task t) g) refl is
@@ -62,14 +61,10 @@ module _ (P : List Event → Type 0) (roots t : ℕ) (own : Priority) (keeps : (
 
   keeps_end : (log : List Event) (step : Step) → P log → P (log ++ end_events t step)
   keeps_end log (Ended e) is = keeps log (End (task t) e) refl is
-  keeps_end log (Run actor resume) is = keeps_nothing log is
-  keeps_end log Await is = keeps_nothing log is
+  keeps_end log _ is = keeps_nothing log is
 
   pub keeps_exit : (log : List Event) (exit : ExitView) (step : Step) → P log → P (log ++ exit_events t log exit step)
   keeps_exit log (waiting name) step is = keeps_wait log (named_task t name log) (life_of (named_task t name log).0 log).ending is
   keeps_exit log (asking_next g) step is = keeps_next log g (next_of (group_of t g log)) is
   keeps_exit log (closing g f) step is = keeps_close log g f is
-  keeps_exit log (calling i) step is = keeps_end log step is
-  keeps_exit log yielding step is = keeps_end log step is
-  keeps_exit log (returning v) step is = keeps_end log step is
-  keeps_exit log (failing f) step is = keeps_end log step is
+  keeps_exit log _ step is = keeps_end log step is

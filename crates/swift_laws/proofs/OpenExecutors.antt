@@ -81,8 +81,7 @@ names_in d seen at (Binds l ∷ ds) e = names_in d (seen_after seen (Binds l)) (
 names_in d seen at (Acts a ∷ ds) e =
     let parts = earlier_parts (decl_error d seen at (Acts a)) _ e in
     let one = earlier_parts (repeat_error seen.places at a.name) _ parts.0 in
-    let two = earlier_parts _ _ one.1 in
-    let three = earlier_parts (on_error d (suc at) a.executor) _ two.1 in
+    let three = earlier_parts (on_error d (suc at) a.executor) _ (earlier_parts _ _ one.1).1 in
     (on_declared d (suc at) a.executor three.0, names_in d (seen_after seen (Acts a)) (past_decl (Acts a) at) ds parts.1)
 names_in d seen at (Roots r ∷ ds) e = names_in d (seen_after seen (Roots r)) (past_decl (Roots r) at) ds (earlier_parts (decl_error d seen at (Roots r)) _ e).1
 
@@ -139,10 +138,7 @@ unfolding parts_of
 count_is ds =
     let s = script_in ds in
     let a = views_many (plan_in s) s.actors 0 (s.executors ++ own_executors s.actors) in
-    let b = length-append s.executors (own_executors s.actors) in
-    let c = count_owners s.actors in
-    let d = declared_many ds in
-    omega (arith, a, b, c, d)
+    omega (arith, a, length-append s.executors (own_executors s.actors), count_owners s.actors, declared_many ds)
 
 some_actor : (script : ScriptView) → 0 < method_count script → 0 < length script.actors
 unfolding parts_of
@@ -154,15 +150,11 @@ on_executors ds a e some =
     let s = script_in ds in
     let bound : ℕ = length (executors_in ds) + owners s.actors in
     let all = plan_below ds e in
-    let many = plan_many ds in
-    let positive : 0 < bound = some_bound bound (plan_in s).executors (omega (arith, many, some)) all in
-    let lt = actor_on (plan_in s) 0 s.actors a bound positive all in
-    let is = count_is ds in
-    omega (arith, lt, is)
+    let positive : 0 < bound = some_bound bound (plan_in s).executors (omega (arith, plan_many ds, some)) all in
+    omega (arith, actor_on (plan_in s) 0 s.actors a bound positive all, count_is ds)
 
 -- in an accepted script with a root each actor runs on an executor of the script
 pub runs_on_executor : (script : ScriptView) → WasAccepted script → 0 < root_count script → (a : ℕ) → actor_executor script a < executor_count script
 runs_on_executor script was some a =
-    let there = root_method_there script 0 was some in
-    let actors : 0 < length script.actors = some_actor script (omega (arith, there)) in
+    let actors : 0 < length script.actors = some_actor script (omega (arith, root_method_there script 0 was some)) in
     subst (λ (s : ScriptView). 0 < length s.actors → actor_executor s a < executor_count s) (sym was.1.is) (λ h. on_executors was.1.decls a was.1.names h) actors

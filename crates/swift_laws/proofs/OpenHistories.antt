@@ -27,13 +27,9 @@ current_is t log n resume h =
     record { given = given_some (life_of t log).given n resume first.0; under_way = (both (nat_lt n (2 ^ 32 - 1)) (is_under_way (stage_at t log)) first.1).1 }
 
 under_free : (o : Option JobStage) → is_under_way o ≡ true → holds_at o ≡ false
-under_free None h = absurd (false≢true h)
 under_free (Some stage.Given) h = refl
 under_free (Some (stage.Begun env)) h = refl
-under_free (Some stage.Applied) h = absurd (false≢true h)
-under_free (Some (stage.Waits u)) h = absurd (false≢true h)
-under_free (Some (stage.Asks g)) h = absurd (false≢true h)
-under_free (Some (stage.Closes g)) h = absurd (false≢true h)
+under_free _ h = absurd (false≢true h)
 
 under_alive : (roots : ℕ) (t : ℕ) (log : List Event) → Sound roots log → UnderWay t log → HasEnded t log → ⊥
 under_alive roots t log s u ended = false≢true (sym (ap is_under_way (s.rests t ended).1) ∙ u.under_way)
@@ -95,9 +91,8 @@ module _ (script : ScriptView) where
       let sound : Sound roots s.log = sound_from roots s.log written in
       let u = current_is t s.log n job.resume stands.current in
       let e : Event = Apply (task t) n in
-      let may = may_go_on t s.log e sound u refl refl refl refl refl in
       let first : List Event = s.log ++ e ∷ [] in
-      let leads_first = leads_by roots s.log e may in
+      let leads_first = leads_by roots s.log e (may_go_on t s.log e sound u refl refl refl refl refl) in
       let active : Active t first = record {
         given = given_stays t s.log e u.given;
         applied = stage_now t s.log e refl refl;

@@ -51,14 +51,9 @@ action_leads : (limit : ℕ) (r : Region) (p : PlanView) (s : ScopeView) (a : Ac
 action_leads limit r p s (Let x v) n fits deep = value_leads p s (Variable (numbers_in s)) v n
 action_leads limit r p s (LetTask x m) n fits deep = make_leads p s (Some (handles_in s)) m n
 action_leads limit r p s (Assign x v) n fits deep = value_leads p s (place_named p s x) v n
-action_leads limit r p s (Await w) n fits deep = refl
 action_leads limit r p s (Makes m) n fits deep = make_leads p s None m n
-action_leads limit r p s (Adds a) n fits deep = refl
-action_leads limit r p s (Cancel x) n fits deep = refl
 action_leads limit r p s (Return t) n fits deep = deep fits.0
-action_leads limit r p s (Throw t) n fits deep = refl
-action_leads limit r p s Check n fits deep = refl
-action_leads limit r p s Yield n fits deep = refl
+action_leads limit r p s _ n fits deep = refl
 
 assume_leads : (b : Bool) (inner : Code) (n : ℕ) → LeadsTo inner n n → LeadsTo (if b then act code.assume inner else act code.isolated end) n n
 assume_leads true inner n h = h

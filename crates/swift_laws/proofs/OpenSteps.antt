@@ -236,12 +236,8 @@ module _ (script : ScriptView) (t : ℕ) where
       plain log e [] (may_calm (root_count script) log e (calm refl refl refl) refl refl) (calm refl refl refl) a refl (λ k. refl) tt
 
   counted_opened : (c : Counters) (e : EffectView) → (counted c e).opened ≡ c.opened + cond (opens_group e) 1 0
-  counted_opened c (spawning i p bindings) = omega arith
-  counted_opened c (detaching i p) = omega arith
   counted_opened c opening = refl
-  counted_opened c (adding g unless i p bindings) = omega arith
-  counted_opened c (cancelling_task name) = omega arith
-  counted_opened c (cancelling_group g) = omega arith
+  counted_opened c _ = omega arith
 
   fresh_on : (a b : List Event) (n : ℕ) (js : List JobFacts) → Effects script t a b n js → (j : JobFacts) → Fresh a j → Fresh b j
   fresh_on a b n js f j h = record { made = f.origins j.task h.made; new = f.givens j.task ∙ h.new }

@@ -13,9 +13,8 @@ loop-task-init c =
       todo = todo_start c.args.edges.now c.args.start c.args.level c.args.levels.now c.push.new.self.items c.requires.start low is c.requires.«open»;
       room =
           let w = below-set c.args.levels.now c.args.start c.args.level c.requires.start low in
-          let few = count_by-le-length (λ (q : Priority). nat_lt (rank q) (rank c.args.level)) c.args.levels.now in
           let r = c.requires.room in let n = c.in-Ok.ensures.len in let e = c.requires.empty in let k = c.in-Ok.ensures.capacity in
-          omega (arith, w, few, r, n, e, k);
+          omega (arith, w, count_by-le-length (λ (q : Priority). nat_lt (rank q) (rank c.args.level)) c.args.levels.now, r, n, e, k);
       capacity = omega arith;
     }
 

@@ -10,7 +10,6 @@ link-requires-clause-chained c =
 pub invariant_of-self : goal.invariant_of-self
 invariant_of-self c =
     let n : (with_items c.push-2.new.self c.link.new.newest).items ≡ c.link.new.newest = with_items_is c.push-2.new.self c.link.new.newest (omega arith) in
-    let room = ap (λ (g : GraphView). g.room) c.self.view_is in
     let levels = ap (λ (g : GraphView). g.levels) c.self.view_is in
     let parent : c.args.parent < length c.self.inside.levels.items = subst (λ (s : List Priority). c.args.parent < length s) (sym levels) c.requires.parent in
     let above : Priority = get_or c.self.inside.levels.items c.args.parent Background in
@@ -32,5 +31,5 @@ invariant_of-self c =
       newest_room = omega arith;
       edges_room = omega arith;
       before_room = omega arith;
-      raised_room = omega (arith, c.in-Ok.ensures.len, room);
+      raised_room = omega (arith, c.in-Ok.ensures.len, ap (λ (g : GraphView). g.room) c.self.view_is);
     }

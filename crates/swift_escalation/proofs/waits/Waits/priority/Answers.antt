@@ -7,8 +7,7 @@ level-requires c =
     let k = c.self.invariant.are_of in
     let h : place_in c.self.inside.places c.args.task.0 ≡ Some c.in_ok-place.place = sym c.in_ok-place.ensures in
     let w = slice_get_within (tasks_of c.self.inside.events.items) c.in_ok-place.place c.args.task (k.found c.args.task c.in_ok-place.place h) in
-    let n = k.count in
-    omega (arith, w, n)
+    omega (arith, w, k.count)
 
 pub returns-clause-known : goal.returns-clause-known
 returns-clause-known c =
