@@ -249,7 +249,7 @@ view_head (head.Assume n) = Assume n.text.items
 
 -- the tree of one statement of the code, in which the inner ones are trees already
 abbrev pub view_one : Stmt-F StmtTree → StmtTree
-view_one (stmt.Do a) = Do (view_action a)
+view_one (stmt.Do a) = Do (view_action a.value)
 view_one (stmt.Block h b) = Headed (view_head h) (block_tree b.items)
 view_one (stmt.IfElse e a b) = IfElse (view e) (block_tree a.items) (block_tree b.items)
 

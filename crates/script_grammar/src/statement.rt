@@ -122,7 +122,7 @@ impl Drop for Head {
 #[derive(Drop)]
 pub enum Stmt {
     /// One that holds no block.
-    Do(Action),
+    Do(Box<Action>),
     /// One with a block.
     Block(Head, Vec<Stmt>),
     /// `if e { .. } else { .. }`

@@ -129,7 +129,7 @@ fn stmt(
         ] => { head_and_block(alloc, region, blocks, tokens) }
         _ => {
             let (action, rest) = action(alloc, region, tokens)?;
-            Ok((Stmt::Do(action), rest))
+            Ok((Stmt::Do(Box::new(alloc, action)?), rest))
         }
     }
 }

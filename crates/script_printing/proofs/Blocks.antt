@@ -1,5 +1,6 @@
 -- The statements of a block, one after the other.
 use Rattle.script_printing.proofs.Prelude.{◌≡◌, ◌++◌, ◌∷◌, [], ℕ, List, ap, sym, refl, ◌∙◌, ◌+◌, ◌<◌, length, map, take, Vec, Global, rules, flat_map, get_or, StmtTree, block_tree, view, view_action, view_head, view_stmt, pieces_of_stmt, pieces_of_block, after}
+use Rattle.std.proofs.Common.{Box}
 use Rattle.script_grammar.specs.declared.expression.Expr.{Expr}
 use Rattle.script_grammar.specs.declared.statement.Action.{Action}
 use Rattle.script_grammar.specs.declared.statement.Head.{Head}
@@ -16,7 +17,7 @@ pub after_next_stmt : (xs : List Stmt) (i : ℕ) (x : Stmt) → i < length xs �
 after_next_stmt xs i x h e start before now p q =
     after_next pieces_of_stmt view_stmt xs i x h e start before now (p ∙ ap (after start) (pieces-block_tree (map view_stmt (take i xs)))) q ∙ ap (after start) (sym (pieces-block_tree (map view_stmt (take (i + 1) xs))))
 
-pub view_stmt-Do : (a : Action) → view_stmt (Do a) ≡ tree.Do (view_action a)
+pub view_stmt-Do : (a : Box Action Global) → view_stmt (Do a) ≡ tree.Do (view_action a.value)
 view_stmt-Do a = search (rules, the_lemmas)
 
 pub view_stmt-Block : (h : Head) (b : Vec Stmt Global) → view_stmt (Block h b) ≡ tree.Headed (view_head h) (block_tree (map view_stmt b.items))

@@ -49,12 +49,15 @@ pub(crate) fn ends(place: Place<'_>, stmts: &[Stmt]) -> bool {
     false
 }
 
+fn ends_by(action: &Action) -> bool {
+    matches!(action, Action::Return(_) | Action::Throw(_))
+}
+
 /// Whether nothing that stands after this statement runs, so that Swift sees it.
 #[cycle(ends)]
 pub(crate) fn ends_at(place: Place<'_>, stmt: &Stmt) -> bool {
     match stmt {
-        Stmt::Do(Action::Return(_) | Action::Throw(_)) => true,
-        Stmt::Do(_) => false,
+        Stmt::Do(action) => ends_by(action),
         Stmt::Block(Head::Assume(name), _) => !can_assume(place, name),
         Stmt::Block(_, _) => false,
         Stmt::IfElse(_, held, failed) => ends(place, held) && ends(place, failed),
@@ -78,8 +81,7 @@ pub(crate) fn returns(place: Place<'_>, stmts: &[Stmt]) -> bool {
 #[cycle(returns)]
 fn returns_in(place: Place<'_>, stmt: &Stmt) -> bool {
     match stmt {
-        Stmt::Do(Action::Return(_)) => true,
-        Stmt::Do(_) => false,
+        Stmt::Do(action) => matches!(&**action, Action::Return(_)),
         Stmt::Block(_, block) => returns(place, block),
         Stmt::IfElse(_, held, failed) => returns(place, held) || returns(place, failed),
     }

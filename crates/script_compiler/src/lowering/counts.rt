@@ -1,7 +1,7 @@
 //! How many numbers and handles stand.
 
 ghost use Rattle.std.specs.Prelude.{◌≡◌, ◌≤◌, ◌<◌, ◌+◌, map};
-ghost use Rattle.script_grammar.specs.Tree.{view_head, view_stmt, block_tree};
+ghost use Rattle.script_grammar.specs.Tree.{Do, view_action, view_head, view_stmt, block_tree};
 ghost use Rattle.script_grammar.specs.Size.{stmt_size, block_size};
 ghost use Rattle.script_compiler.specs.Counts.{counted, greater, counts_after, counts_within, most_in, most_of};
 ghost use Rattle.script_code.specs.Layout.{greatest};
@@ -47,14 +47,24 @@ fn greater(a: PlaceCounts, b: PlaceCounts) -> PlaceCounts
     }
 }
 
+fn counts_with(counts: PlaceCounts, action: &Action) -> PlaceCounts
+    requires { counts.numbers + counts.handles < greatest }
+    ensures { result ≡ counts_after counts (Do (view_action action.now)) }
+{
+    match action {
+        Action::Let(_, _) => count_name(counts, NameKind::Number),
+        Action::LetTask(_, _) => count_name(counts, NameKind::Task),
+        _ => counts,
+    }
+}
+
 fn counts_after(counts: PlaceCounts, stmt: &Stmt) -> PlaceCounts
     requires { counts.numbers + counts.handles < greatest }
     ensures { result ≡ counts_after counts (view_stmt stmt.now) }
 {
     match stmt {
-        Stmt::Do(Action::Let(_, _)) => count_name(counts, NameKind::Number),
-        Stmt::Do(Action::LetTask(_, _)) => count_name(counts, NameKind::Task),
-        _ => counts,
+        Stmt::Do(action) => counts_with(counts, action),
+        Stmt::Block(_, _) | Stmt::IfElse(_, _, _) => counts,
     }
 }
 

@@ -15,11 +15,11 @@ write_stmts-loop-stmt-preserved t c =
 
 pub write_stmt-returns-in_ok-write-in-Do : goal.write_stmt-returns-in_ok-write-in-Do
 write_stmt-returns-in_ok-write-in-Do t c =
-    rw (ap view_stmt c.in-Do.is ∙ view_stmt-Do c.in-Do.action) (then_after c.write_sign.result c.args.out.now.items c.write.new.out.items c.write_sign.new.out.items _ _ c.in_ok-write-in-Do.ensures c.write_sign.ensures)
+    rw (ap view_stmt c.in-Do.is ∙ view_stmt-Do c.in-Do.action) (then_after c.write_sign.result c.args.out.now.items c.write.new.out.items c.write_sign.new.out.items _ _ (rw c.deref.ensures at c.in_ok-write-in-Do.ensures) c.write_sign.ensures)
 
 pub write_stmt-returns-in_ok-write-in-Block : goal.write_stmt-returns-in_ok-write-in-Block
 write_stmt-returns-in_ok-write-in-Block t c =
-    rw (ap view_stmt c.in-Block.is ∙ view_stmt-Block c.in-Block.head c.in-Block.block) (then_after c.write_block.result c.args.out.now.items c.write-in-Block.new.out.items c.write_block.new.out.items _ _ c.in_ok-write-in-Block.ensures (rw c.deref.ensures.value at c.write_block.ensures))
+    rw (ap view_stmt c.in-Block.is ∙ view_stmt-Block c.in-Block.head c.in-Block.block) (then_after c.write_block.result c.args.out.now.items c.write-in-Block.new.out.items c.write_block.new.out.items _ _ c.in_ok-write-in-Block.ensures (rw c.deref-in-Block.ensures.value at c.write_block.ensures))
 
 pub write_stmt-returns-in_ok-write_keyword-in-IfElse : goal.write_stmt-returns-in_ok-write_keyword-in-IfElse
 write_stmt-returns-in_ok-write_keyword-in-IfElse t c =

@@ -53,10 +53,10 @@ block-returns-clause-scope t c = c.leave.ensures ∙ c.loop-stmt.invariant.outsi
 
 pub statement-headed-requires : goal.statement-headed-requires
 statement-headed-requires t c =
-    let size = headed_size c.args.stmt.now c.in-Block.head c.in-Block.body c.deref.result.now c.in-Block.is c.deref.ensures.value in (
+    let size = headed_size c.args.stmt.now c.in-Block.head c.in-Block.body c.deref-in-Block.result.now c.in-Block.is c.deref-in-Block.ensures.value in (
       omega (arith, c.decreases, size),
       (
-        headed_fits c.args.stmt.now c.in-Block.head c.in-Block.body c.deref.result.now c.args.at.now BYTES c.in-Block.is c.deref.ensures.value c.requires.names,
+        headed_fits c.args.stmt.now c.in-Block.head c.in-Block.body c.deref-in-Block.result.now c.args.at.now BYTES c.in-Block.is c.deref-in-Block.ensures.value c.requires.names,
         omega (arith, c.requires.room, size),
       ),
     )
