@@ -80,7 +80,7 @@ fn say_turn_ends(page: &mut SwiftPage, decls: &[Decl], actor: &Actor) {
 }
 
 // What stands before an actor's methods.
-fn members(alloc: Global, decls: &[Decl], actor: &Actor) -> Result<Vec<u8>, AllocError> {
+fn members<'a>(alloc: Global, decls: &'a [Decl], actor: &'a Actor) -> Result<Vec<u8>, AllocError> {
     let mut page = SwiftPage::new(alloc, 1);
     page.begin();
     page.say("static let shared = ");
@@ -94,7 +94,7 @@ fn members(alloc: Global, decls: &[Decl], actor: &Actor) -> Result<Vec<u8>, Allo
         say_field(&mut page, field);
     }
     if let Some(test) = &actor.invariant {
-        let scope = MethodScope::new(alloc, decls, actor, &[], false);
+        let scope = MethodScope::new(alloc, decls, actor, None, false);
         say_invariant(&mut page, &scope, test);
     }
     if has_invariant(decls, actor) {
@@ -128,7 +128,7 @@ fn body(
 ) -> Result<Vec<u8>, AllocError> {
     let is_checked = has_invariant(decls, actor);
     let mut page = SwiftPage::new(alloc, 2);
-    let mut scope = MethodScope::new(alloc, decls, actor, &method.body, is_checked);
+    let mut scope = MethodScope::new(alloc, decls, actor, Some(&method.body), is_checked);
     for param in &method.params {
         say_param(&mut page, &mut scope, param);
     }

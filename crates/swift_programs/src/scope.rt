@@ -36,8 +36,9 @@ pub(crate) struct MethodScope<'a> {
     pub decls: &'a [Decl],
     /// The actor whose method it is.
     pub actor: &'a Actor,
-    /// What is printed, and those after it in its block.
-    pub rest: &'a [Stmt],
+    // The block of what is printed, and its place there. By its vector: the prover spells out what a slice leads to, wherever it is passed.
+    block: Option<&'a Vec<Stmt>>,
+    first: usize,
     /// The actor whose fields stand, where that is the one of an `assume`.
     pub assumed: Option<&'a Actor>,
     /// Whether an invariant is tested at the end of each turn.
@@ -50,7 +51,8 @@ impl Drop for MethodScope<'_> {
         let MethodScope {
             decls: _,
             actor: _,
-            rest: _,
+            block: _,
+            first: _,
             assumed: _,
             is_checked: _,
             handles,
@@ -60,18 +62,19 @@ impl Drop for MethodScope<'_> {
 }
 
 impl<'a> MethodScope<'a> {
-    /// The beginning of a method.
+    /// The beginning of a method with this body.
     pub(crate) fn new(
         alloc: Global,
         decls: &'a [Decl],
         actor: &'a Actor,
-        rest: &'a [Stmt],
+        block: Option<&'a Vec<Stmt>>,
         is_checked: bool,
     ) -> MethodScope<'a> {
         MethodScope {
             decls,
             actor,
-            rest,
+            block,
+            first: 0,
             assumed: None,
             is_checked,
             handles: Vec::new(alloc),
@@ -108,6 +111,20 @@ impl<'a> MethodScope<'a> {
         None
     }
 
+    /// Goes to the statement at a place of a block.
+    pub(crate) fn stand(&mut self, block: &'a Vec<Stmt>, place: usize) {
+        self.block = Some(block);
+        self.first = place;
+    }
+
+    // What is printed, and those after it in its block.
+    fn rest(&self) -> &'a [Stmt] {
+        match self.block {
+            Some(block) if self.first < block.len() => &block[self.first..],
+            _ => &[],
+        }
+    }
+
     /// What has to be known to say where statements end.
     pub(crate) fn place(&self) -> Place<'a> {
         Place {
@@ -118,7 +135,7 @@ impl<'a> MethodScope<'a> {
 
     /// Whether the statements after this one, in its block, do this with a name.
     pub(crate) fn is_used(&self, what: Use, name: &Name) -> bool {
-        uses(self.place(), self.rest, what, name)
+        uses(self.place(), self.rest(), what, name)
     }
 
     /// Whether a name is a number that is never read.

@@ -300,7 +300,7 @@ fn say_bind(
 }
 
 // The line of a group. Swift takes it for a race where a closure in its block uses the group, so it gets a copy, which is the same group.
-fn say_group_head(page: &mut SwiftPage, scope: &MethodScope<'_>, name: &Name, block: &[Stmt]) {
+fn say_group_head(page: &mut SwiftPage, scope: &MethodScope<'_>, name: &Name, block: &Vec<Stmt>) {
     page.begin();
     page.say("try await withThrowingTaskGroup(of: Int64.self) { ");
     if uses_in_closure(scope.place(), block, name) {
@@ -322,7 +322,7 @@ fn say_group_head(page: &mut SwiftPage, scope: &MethodScope<'_>, name: &Name, bl
 }
 
 // The end of a `bind`, which hands on what its block returns.
-fn say_bound(page: &mut SwiftPage, scope: &MethodScope<'_>, block: &[Stmt]) {
+fn say_bound(page: &mut SwiftPage, scope: &MethodScope<'_>, block: &Vec<Stmt>) {
     if !returns(scope.place(), block) {
         return page.close("}");
     }
@@ -358,7 +358,7 @@ fn begin_block<'a>(
     page: &mut SwiftPage,
     scope: &mut MethodScope<'a>,
     head: &'a Head,
-    block: &[Stmt],
+    block: &Vec<Stmt>,
 ) -> bool {
     match head {
         Head::If(test) => say_headed(page, scope, "if ", test),
@@ -377,7 +377,7 @@ fn begin_block<'a>(
 }
 
 // What stands after a block.
-fn end_block(page: &mut SwiftPage, scope: &MethodScope<'_>, head: &Head, block: &[Stmt]) {
+fn end_block(page: &mut SwiftPage, scope: &MethodScope<'_>, head: &Head, block: &Vec<Stmt>) {
     match head {
         Head::Bind(_, _) => say_bound(page, scope, block),
         Head::Group(_) => {
@@ -411,7 +411,7 @@ fn say_block<'a>(
     page: &mut SwiftPage,
     scope: &mut MethodScope<'a>,
     head: &'a Head,
-    block: &'a [Stmt],
+    block: &'a Vec<Stmt>,
 ) {
     let outside = scope.outside();
     if begin_block(page, scope, head, block) {
@@ -423,7 +423,7 @@ fn say_block<'a>(
 
 // Statements whose names end with them.
 #[cycle(statement)]
-fn say_inner<'a>(page: &mut SwiftPage, scope: &mut MethodScope<'a>, block: &'a [Stmt]) {
+fn say_inner<'a>(page: &mut SwiftPage, scope: &mut MethodScope<'a>, block: &'a Vec<Stmt>) {
     let outside = scope.outside();
     say_stmts(page, scope, block);
     scope.leave(outside)
@@ -431,9 +431,13 @@ fn say_inner<'a>(page: &mut SwiftPage, scope: &mut MethodScope<'a>, block: &'a [
 
 /// Statements, one after the other, up to one that ends them.
 #[cycle(statement)]
-pub(crate) fn say_stmts<'a>(page: &mut SwiftPage, scope: &mut MethodScope<'a>, stmts: &'a [Stmt]) {
+pub(crate) fn say_stmts<'a>(
+    page: &mut SwiftPage,
+    scope: &mut MethodScope<'a>,
+    stmts: &'a Vec<Stmt>,
+) {
     for (index, stmt) in stmts.iter().enumerate() {
-        scope.rest = &stmts[index..];
+        scope.stand(stmts, index);
         say_stmt(page, scope, stmt);
         if ends_at(scope.place(), stmt) {
             return;
