@@ -1,2 +1,4 @@
 -- What is put among the instructions of a file.
 pub mod Instructions
+pub mod Lowered
+pub mod States

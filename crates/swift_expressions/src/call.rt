@@ -1,7 +1,10 @@
 //! Calls of methods.
 
-ghost use Rattle.std.specs.Prelude.{◌≡◌, IsNone, IsTrue};
-ghost use Rattle.swift_expressions.specs.Instructions.{IsHoisted};
+ghost use Rattle.std.specs.Prelude.{◌≡◌, ◌≢◌, ℕ, Bool, IsNone, IsTrue, None, Some, pos};
+ghost use Rattle.swift_expressions.specs.Instructions.{IsHoisted, KeepsRefusal};
+ghost use Rattle.swift_expressions.specs.Lowered.{Calls, CallsOwn, checked, slept, takes_values, yielding};
+ghost use Rattle.swift_expressions.specs.States.{Becomes, Gives, put, state_of};
+ghost use Rattle.swift_expressions.specs.declared.call.Called.TheVariants as callees;
 
 use crate::code::{Instruction, Kind, NONE, Target, UnitKind, Value, Wait};
 use crate::lowering::{Fallback, Lowering};
@@ -11,7 +14,10 @@ use crate::naming::{
 use crate::operands::Operands;
 use crate::scope::{Standing, binding_at, find};
 use crate::typed::{Typed, kind_of, refused, with_kind};
-use crate::waits::{group_next, wait, wait_for_all, want_await, want_try};
+use crate::waits::{
+    group_next, wait, wait_for_all, want_await, want_await_where, want_try, want_try_where,
+    yield_where,
+};
 use swift_syntax::{Access, MethodDecl, Receiver, Rule};
 
 /// What is called.
@@ -46,7 +52,10 @@ pub(crate) struct Method {
     pub takes_operands: bool,
 }
 
-fn as_method(called: Called) -> Method {
+fn as_method(called: Called) -> Method
+    ensures called { result.called ≡ called }
+    ensures values { result.takes_operands ≡ takes_values called }
+{
     let takes_operands = matches!(called, Called::Own(_) | Called::Other(..));
     Method {
         called,
@@ -54,21 +63,41 @@ fn as_method(called: Called) -> Method {
     }
 }
 
+// Nothing is called: a refusal is noted.
+fn unknown(lowering: &mut Lowering<'_>, rule: Rule, token: usize) -> Method
+    ensures state { Becomes lowering.new (state_of lowering.old) }
+    ensures known { IsNone lowering.new.refused → result.called ≢ callees.Nothing }
+    ensures values { result.takes_operands ≡ takes_values result.called }
+    ensures refused { KeepsRefusal lowering.old lowering.new }
+{
+    lowering.refuse(rule, token);
+    as_method(Called::Nothing)
+}
+
 // A method of the own actor.
-fn own_method(lowering: &mut Lowering<'_>, token: usize) -> Method {
+fn own_method(lowering: &mut Lowering<'_>, token: usize) -> Method
+    ensures state { Becomes lowering.new (state_of lowering.old) }
+    ensures known { IsNone lowering.new.refused → result.called ≢ callees.Nothing }
+    ensures values { result.takes_operands ≡ takes_values result.called }
+    ensures refused { KeepsRefusal lowering.old lowering.new }
+{
     let actor = lowering.setting.actor;
     match method_named(lowering, actor, token) {
         Some(place) => as_method(Called::Own(place)),
         None => {
             let rule = rule_of_unknown(lowering, token);
-            lowering.refuse(rule, token);
-            as_method(Called::Nothing)
+            unknown(lowering, rule, token)
         }
     }
 }
 
 // A method of the own actor; else a function outside of actors, which it would hide.
-fn own_or_function(lowering: &mut Lowering<'_>, token: usize) -> Method {
+fn own_or_function(lowering: &mut Lowering<'_>, token: usize) -> Method
+    ensures state { Becomes lowering.new (state_of lowering.old) }
+    ensures known { IsNone lowering.new.refused → result.called ≢ callees.Nothing }
+    ensures values { result.takes_operands ≡ takes_values result.called }
+    ensures refused { KeepsRefusal lowering.old lowering.new }
+{
     let actor = lowering.setting.actor;
     if method_named(lowering, actor, token).is_none() {
         if let Some(place) = function_named(lowering, token) {
@@ -97,7 +126,12 @@ fn rule_of_unknown(lowering: &Lowering<'_>, token: usize) -> Rule {
 }
 
 // A method of the type `Task`.
-fn task_method(lowering: &mut Lowering<'_>, token: usize) -> Method {
+fn task_method(lowering: &mut Lowering<'_>, token: usize) -> Method
+    ensures state { Becomes lowering.new (state_of lowering.old) }
+    ensures known { IsNone lowering.new.refused → result.called ≢ callees.Nothing }
+    ensures values { result.takes_operands ≡ takes_values result.called }
+    ensures refused { KeepsRefusal lowering.old lowering.new }
+{
     if lowering.spells(token, "yield") {
         return as_method(Called::Yield);
     }
@@ -107,14 +141,18 @@ fn task_method(lowering: &mut Lowering<'_>, token: usize) -> Method {
     if lowering.spells(token, "checkCancellation") {
         return as_method(Called::Check);
     }
-    lowering.refuse(Rule::UnknownName, token);
-    as_method(Called::Nothing)
+    unknown(lowering, Rule::UnknownName, token)
 }
 
 // A method of the task or group at a place in scope.
-fn scope_method(lowering: &mut Lowering<'_>, place: usize, token: usize) -> Method {
+fn scope_method(lowering: &mut Lowering<'_>, place: usize, token: usize) -> Method
+    ensures state { Becomes lowering.new (state_of lowering.old) }
+    ensures known { IsNone lowering.new.refused → result.called ≢ callees.Nothing }
+    ensures values { result.takes_operands ≡ takes_values result.called }
+    ensures refused { KeepsRefusal lowering.old lowering.new }
+{
     let Some(found) = binding_at(lowering, place) else {
-        return as_method(Called::Nothing);
+        return unknown(lowering, Rule::UnknownName, token);
     };
     if found.standing == Standing::Group {
         if lowering.spells(token, "next") {
@@ -130,17 +168,20 @@ fn scope_method(lowering: &mut Lowering<'_>, place: usize, token: usize) -> Meth
     if found.standing == Standing::Task && lowering.spells(token, "cancel") {
         return as_method(Called::Cancel(found.variable));
     }
-    lowering.refuse(Rule::UnknownName, token);
-    as_method(Called::Nothing)
+    unknown(lowering, Rule::UnknownName, token)
 }
 
 /// What a call names.
-pub(crate) fn method_of(lowering: &mut Lowering<'_>, receiver: Receiver, token: usize) -> Method {
+pub(crate) fn method_of(lowering: &mut Lowering<'_>, receiver: Receiver, token: usize) -> Method
+    ensures state { Becomes lowering.new (state_of lowering.old) }
+    ensures known { IsNone lowering.new.refused → result.called ≢ callees.Nothing }
+    ensures values { result.takes_operands ≡ takes_values result.called }
+    ensures refused { KeepsRefusal lowering.old lowering.new }
+{
     let of = match receiver {
         Receiver::Nobody => {
-            if find(lowering, token).is_some() {
-                lowering.refuse(Rule::NameTwice, token);
-            }
+            let is_variable = find(lowering, token).is_some();
+            lowering.refuse_where(is_variable, Rule::NameTwice, token);
             return own_or_function(lowering, token);
         }
         Receiver::Own => return own_method(lowering, token),
@@ -153,17 +194,13 @@ pub(crate) fn method_of(lowering: &mut Lowering<'_>, receiver: Receiver, token: 
         return task_method(lowering, token);
     }
     let Some(instance) = instance_named(lowering, of) else {
-        lowering.refuse(Rule::UnknownName, of);
-        return as_method(Called::Nothing);
+        return unknown(lowering, Rule::UnknownName, of);
     };
     refuse_hidden(lowering, of);
     let actor = actor_of(lowering, instance);
     match method_named(lowering, actor, token) {
         Some(place) => as_method(Called::Other(instance, place)),
-        None => {
-            lowering.refuse(Rule::UnknownName, token);
-            as_method(Called::Nothing)
-        }
+        None => unknown(lowering, Rule::UnknownName, token),
     }
 }
 
@@ -183,7 +220,10 @@ pub fn want_arguments(
     first: usize,
     given: Operands,
     token: usize,
-) {
+)
+    ensures state { Becomes lowering.new (state_of lowering.old) }
+    ensures refused { KeepsRefusal lowering.old lowering.new }
+{
     if given.count != params_end.saturating_sub(first_param) {
         lowering.refuse(Rule::Arguments, token);
         return;
@@ -219,15 +259,13 @@ fn call_own(
 ) -> Typed
     // A function that is `async` runs outside of the actor that calls it, so other turns come in there.
     ensures hops { IsTrue declared.is_async → declared.actor ≡ NONE → IsNone lowering.new.refused → IsHoisted lowering.old lowering.new (Wait.Own place given.first) result }
+    ensures calls { IsNone lowering.new.refused → CallsOwn (state_of lowering.old) place declared given token (state_of lowering.new) result }
+    ensures refused { KeepsRefusal lowering.old lowering.new }
 {
     let kind = kind_of(declared.result);
-    if declared.is_async {
-        want_await(lowering, token);
-    }
+    want_await_where(lowering, declared.is_async, token);
     if let Fallback::Fault(_) = lowering.setting.fallback {
-        if !declared.is_async {
-            lowering.refuse(Rule::NotYet, token);
-        }
+        lowering.refuse_where(!declared.is_async, Rule::NotYet, token);
         return wait(lowering, Wait::Own(place, given.first), kind);
     }
     if declared.is_async && declared.actor == NONE {
@@ -251,7 +289,11 @@ fn call_method(
     first: usize,
     given: Operands,
     token: usize,
-) -> Typed {
+) -> Typed
+    ensures own { instance ≡ None → IsNone lowering.new.refused → Calls (state_of lowering.old) given token (state_of lowering.new) result (callees.Own place) }
+    ensures other { (i : ℕ) → instance ≡ Some i → IsNone lowering.new.refused → Calls (state_of lowering.old) given token (state_of lowering.new) result (callees.Other i place) }
+    ensures refused { KeepsRefusal lowering.old lowering.new }
+{
     let Some(declared) = method_at(lowering, place) else {
         return refused(lowering, Rule::UnknownName, token);
     };
@@ -261,14 +303,10 @@ fn call_method(
         ..
     } = declared;
     want_arguments(lowering, first_param, params_end, first, given, token);
-    if declared.is_throwing {
-        want_try(lowering, token);
-    }
+    want_try_where(lowering, declared.is_throwing, token);
     match instance {
         Some(instance) => {
-            if declared.access == Access::Private {
-                lowering.refuse(Rule::Private, token);
-            }
+            lowering.refuse_where(declared.access == Access::Private, Rule::Private, token);
             want_await(lowering, token);
             let what = Wait::Method(instance, place, given.first);
             wait(lowering, what, kind_of(declared.result))
@@ -291,15 +329,20 @@ fn begins_behind(lowering: &Lowering<'_>, variable: usize) -> bool {
 }
 
 // Cancels a task or a group. What was made before may begin before it is cancelled; in an actor's method others would come in here.
-fn cancel(lowering: &mut Lowering<'_>, variable: usize) {
-    if lowering.setting.is_closure && !begins_behind(lowering, variable) {
-        lowering.put(Instruction::Yield);
-    }
+fn cancel(lowering: &mut Lowering<'_>, variable: usize)
+    ensures state { IsNone lowering.new.refused → (yields : Bool) × (state_of lowering.new ≡ put (Instruction.Cancel variable) (yielding yields (state_of lowering.old))) }
+    ensures refused { KeepsRefusal lowering.old lowering.new }
+{
+    let yields = lowering.setting.is_closure && !begins_behind(lowering, variable);
+    yield_where(lowering, yields);
     lowering.put(Instruction::Cancel(variable));
 }
 
 // `Task.sleep`: any delay is among the orders that are searched.
-fn sleep(lowering: &mut Lowering<'_>, token: usize) {
+fn sleep(lowering: &mut Lowering<'_>, token: usize)
+    ensures state { Becomes lowering.new (slept (state_of lowering.old)) }
+    ensures refused { KeepsRefusal lowering.old lowering.new }
+{
     want_await(lowering, token);
     want_try(lowering, token);
     let is_caught = matches!(lowering.setting.fallback, Fallback::Fault(_));
@@ -310,6 +353,25 @@ fn sleep(lowering: &mut Lowering<'_>, token: usize) {
     }
 }
 
+// `Task.checkCancellation`
+fn check(lowering: &mut Lowering<'_>, token: usize)
+    ensures state { Becomes lowering.new (checked (state_of lowering.old)) }
+    ensures refused { KeepsRefusal lowering.old lowering.new }
+{
+    want_try(lowering, token);
+    if lowering.take_fault() == NONE {
+        lowering.put(Instruction::Check);
+    }
+}
+
+// What a call gives that gives nothing.
+fn nothing(lowering: &mut Lowering<'_>) -> Typed
+    ensures gives { IsNone lowering.new.refused → Gives (state_of lowering.old) (Value.Number (pos 0)) Kind.Void (state_of lowering.new) result }
+    ensures refused { KeepsRefusal lowering.old lowering.new }
+{
+    with_kind(lowering, Value::Number(0), Kind::Void)
+}
+
 /// A call, with its arguments lowered where it takes values.
 pub(crate) fn call(
     lowering: &mut Lowering<'_>,
@@ -317,31 +379,36 @@ pub(crate) fn call(
     first: usize,
     given: Operands,
     token: usize,
-) -> Typed {
+) -> Typed
+    ensures calls { method.called ≢ callees.Nothing → IsNone lowering.new.refused → Calls (state_of lowering.old) given token (state_of lowering.new) result method.called }
+    ensures refused { KeepsRefusal lowering.old lowering.new }
+{
     let is_bare = !method.takes_operands && !matches!(method.called, Called::Sleep);
-    if is_bare && first != 0 {
-        lowering.refuse(Rule::Arguments, token);
-    }
+    lowering.refuse_where(is_bare && first != 0, Rule::Arguments, token);
     match method.called {
-        Called::Own(place) => return call_method(lowering, place, None, first, given, token),
+        Called::Own(place) => call_method(lowering, place, None, first, given, token),
         Called::Other(instance, place) => {
-            return call_method(lowering, place, Some(instance), first, given, token);
+            call_method(lowering, place, Some(instance), first, given, token)
         }
-        Called::Next(place) => return group_next(lowering, place, token),
-        Called::WaitForAll(place) => return wait_for_all(lowering, place, token),
-        Called::Nothing => {}
+        Called::Next(place) => group_next(lowering, place, token),
+        Called::WaitForAll(place) => wait_for_all(lowering, place, token),
+        Called::Nothing => nothing(lowering),
         Called::Yield => {
             want_await(lowering, token);
             lowering.put(Instruction::Yield);
+            nothing(lowering)
         }
-        Called::Sleep => sleep(lowering, token),
+        Called::Sleep => {
+            sleep(lowering, token);
+            nothing(lowering)
+        }
         Called::Check => {
-            want_try(lowering, token);
-            if lowering.take_fault() == NONE {
-                lowering.put(Instruction::Check);
-            }
+            check(lowering, token);
+            nothing(lowering)
         }
-        Called::Cancel(variable) => cancel(lowering, variable),
+        Called::Cancel(variable) => {
+            cancel(lowering, variable);
+            nothing(lowering)
+        }
     }
-    with_kind(lowering, Value::Number(0), Kind::Void)
 }

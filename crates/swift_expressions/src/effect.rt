@@ -1,15 +1,19 @@
 //! Which expressions do something, or may change what is read beside them.
 
+ghost use Rattle.std.specs.Prelude.{◌≡◌};
+ghost use Rattle.swift_expressions.specs.Lowered.{acts, is_acting, is_acting_within};
+ghost use Rattle.swift_expressions.specs.States.{state_of};
+
 use crate::lowering::Lowering;
-use swift_syntax::{ExprForm, Tree};
+use swift_syntax::ExprForm;
 
 // Whether an argument of a list does something.
-fn arguments_act(tree: &Tree, first: usize) -> bool {
+fn arguments_act(lowering: &Lowering<'_>, first: usize) -> bool {
     let mut place = first;
-    for _ in 0..tree.arguments.len() {
-        match tree.argument(place) {
+    for _ in 0..lowering.tree.arguments.len() {
+        match lowering.argument(place) {
             Some(argument) => {
-                if acts_at(tree, argument.value, DEPTH) {
+                if acts_at(lowering, argument.value, DEPTH) {
                     return true;
                 }
                 place = argument.next;
@@ -21,19 +25,22 @@ fn arguments_act(tree: &Tree, first: usize) -> bool {
 }
 
 // Whether an expression does something.
-fn acts_at(tree: &Tree, place: usize, depth: u32) -> bool {
+#[tactic(auto, using(crate::proofs::Acting::acts_deeper))]
+fn acts_at(lowering: &Lowering<'_>, place: usize, depth: u32) -> bool
+    ensures { result ≡ is_acting_within (state_of lowering.now) depth place }
+{
     if depth == 0 {
         return true;
     }
-    match tree.expr(place).form {
+    match lowering.expr(place).form {
         ExprForm::Call(..) | ExprForm::Await(_) | ExprForm::TryOptional(_) => true,
         ExprForm::Negate(inner) | ExprForm::Not(inner) | ExprForm::Try(inner) => {
-            acts_at(tree, inner, depth - 1)
+            acts_at(lowering, inner, depth - 1)
         }
         ExprForm::Binary(_, left, right)
         | ExprForm::Both(left, right)
         | ExprForm::Otherwise(left, right) => {
-            acts_at(tree, left, depth - 1) || acts_at(tree, right, depth - 1)
+            acts_at(lowering, left, depth - 1) || acts_at(lowering, right, depth - 1)
         }
         // It becomes a statement.
         ExprForm::Choice(..) => true,
@@ -53,17 +60,21 @@ fn acts_at(tree: &Tree, place: usize, depth: u32) -> bool {
 pub const DEPTH: u32 = 400;
 
 /// Whether an expression itself becomes more than a value.
-pub(crate) fn is_acting(lowering: &Lowering<'_>, place: usize) -> bool {
-    acts_at(lowering.tree, place, DEPTH)
+pub(crate) fn is_acting(lowering: &Lowering<'_>, place: usize) -> bool
+    ensures { result ≡ is_acting (state_of lowering.now) place }
+{
+    acts_at(lowering, place, DEPTH)
 }
 
 /// Whether an expression becomes more than a value: a call, a wait, a choice, or a part that is one. `await x` of an `async let` has the
 /// keyword somewhere on its left, so a name under an `await` counts too. Fields of instances in an expectation are values.
-pub(crate) fn acts(lowering: &Lowering<'_>, place: usize) -> bool {
+pub(crate) fn acts(lowering: &Lowering<'_>, place: usize) -> bool
+    ensures { result ≡ acts (state_of lowering.now) place }
+{
     !lowering.setting.is_expectation && (is_acting(lowering, place) || lowering.setting.is_awaited)
 }
 
 /// Whether one of these arguments does.
 pub(crate) fn any_acts(lowering: &Lowering<'_>, first: usize) -> bool {
-    arguments_act(lowering.tree, first)
+    arguments_act(lowering, first)
 }

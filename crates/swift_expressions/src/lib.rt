@@ -8,6 +8,8 @@ mod call;
 mod code;
 // Which expressions do something.
 mod effect;
+// What holds of the definitions.
+mod laws;
 // Lines of a file.
 mod lines;
 // A lowering under way.
@@ -32,6 +34,7 @@ pub use code::{
     Callee, Code, Instruction, Kind, NONE, Operand, Target, Unit, UnitKind, Value, Variable, Wait,
 };
 pub use effect::DEPTH;
+pub use laws::what_is_put_stays;
 pub use lines::Spot;
 pub use lowering::{Fallback, Lowering, Returns, Setting, setting_of};
 pub use name::{field_kind, local_kind, priority_named};

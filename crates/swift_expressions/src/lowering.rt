@@ -1,14 +1,16 @@
 //! A lowering under way.
 
-ghost use Rattle.std.specs.Prelude.{◌≡◌, ◌++◌, ◌∷◌, [], IsTrue, IsNone, IsSome};
+ghost use Rattle.std.specs.List.{slice_get};
+ghost use Rattle.std.specs.Prelude.{◌≡◌, ◌++◌, ◌∷◌, [], IsTrue, IsNone, IsSome, length, ℕ, false, ◌↔◌};
 ghost use Rattle.swift_expressions.specs.Instructions.{IsPlaced, IsVariableOf, KeepsRefusal, Puts, value_at};
+ghost use Rattle.swift_expressions.specs.States.{Becomes, IsDeclared, argument_at, bytes_at, expr_at, fault_of, in_scope, named, next_value, next_variable, put, returned_inside, state_of, stmt_at, with_done, with_fallback, with_operand, with_temporary, with_value, with_variable};
 
 use crate::code::{Code, Instruction, Kind, NONE, Operand, Unit, UnitKind, Value, Variable};
 use crate::lines::{Lines, Spot};
 use crate::scope::Binding;
 use crate::typed::Typed;
 use std::alloc::Global;
-use swift_syntax::{Breach, Rule, Token, TokenKind, Tree};
+use swift_syntax::{Argument, Breach, Expr, ExprForm, Rule, Stmt, Token, TokenKind, Tree};
 
 /// What stands for a value that does not come.
 #[derive(Clone, Copy)]
@@ -146,6 +148,7 @@ impl<'a> Lowering<'a> {
         ensures code { self.new.code ≡ self.old.code }
         ensures scope { self.new.scope ≡ self.old.scope }
         ensures noted { IsSome self.new.refused }
+        ensures state { Becomes self.new (state_of self.old) }
         ensures refused { KeepsRefusal self.old self.new }
     {
         if self.refused.is_none() {
@@ -153,8 +156,21 @@ impl<'a> Lowering<'a> {
         }
     }
 
+    /// Notes that a token breaks a rule, where it does.
+    pub fn refuse_where(&mut self, is_broken: bool, rule: Rule, place: usize)
+        ensures state { Becomes self.new (state_of self.old) }
+        ensures refused { KeepsRefusal self.old self.new }
+    {
+        if is_broken {
+            self.refuse(rule, place);
+        }
+    }
+
     /// Refuses what is thrown at a token where its unit may not throw. What a `do` catches is a wait of its own.
-    pub fn refuse_thrown(&mut self, place: usize) {
+    pub fn refuse_thrown(&mut self, place: usize)
+        ensures state { Becomes self.new (state_of self.old) }
+        ensures refused { KeepsRefusal self.old self.new }
+    {
         if self.setting.is_throwing {
             return;
         }
@@ -168,6 +184,7 @@ impl<'a> Lowering<'a> {
     fn note(&mut self, is_grown: bool)
         ensures code { self.new.code ≡ self.old.code }
         ensures scope { self.new.scope ≡ self.old.scope }
+        ensures state { Becomes self.new (state_of self.old) }
         ensures refused { KeepsRefusal self.old self.new }
         ensures grown { IsNone self.new.refused → IsTrue is_grown }
     {
@@ -177,7 +194,9 @@ impl<'a> Lowering<'a> {
     }
 
     /// The bytes of a token; none where there is no such token.
-    pub fn bytes(&self, place: usize) -> &'a [u8] {
+    pub fn bytes(&self, place: usize) -> &'a [u8]
+        ensures { result.now ≡ bytes_at (state_of self.now) place }
+    {
         match self.tokens.get(place) {
             Some(token) => self.text.get(token.from..token.to).unwrap_or(b""),
             None => b"",
@@ -185,13 +204,50 @@ impl<'a> Lowering<'a> {
     }
 
     /// Whether a token has these bytes.
-    pub fn spells(&self, place: usize, name: &str) -> bool {
+    pub fn spells(&self, place: usize, name: &str) -> bool
+        ensures { IsTrue result ↔ (bytes_at (state_of self.now) place ≡ name.now) }
+    {
         self.bytes(place) == name.as_bytes()
     }
 
     /// Whether two tokens have the same bytes.
-    pub fn are_same(&self, left: usize, right: usize) -> bool {
+    pub fn are_same(&self, left: usize, right: usize) -> bool
+        ensures { IsTrue result ↔ (bytes_at (state_of self.now) left ≡ bytes_at (state_of self.now) right) }
+    {
         self.bytes(left) == self.bytes(right)
+    }
+
+    /// The expression at a place of the tree; none where there is no such place.
+    pub fn expr(&self, place: usize) -> Expr
+        ensures { result ≡ expr_at (state_of self.now) place }
+    {
+        match self.tree.exprs.get(place) {
+            Some(expr) => *expr,
+            None => Expr {
+                form: ExprForm::Missing,
+                token: 0,
+            },
+        }
+    }
+
+    /// The argument at a place of the tree; there is none at 0.
+    pub fn argument(&self, place: usize) -> Option<Argument>
+        ensures { result ≡ argument_at (state_of self.now) place }
+    {
+        if place == 0 {
+            return None;
+        }
+        self.tree.arguments.get(place).copied()
+    }
+
+    /// The statement at a place of the tree; there is none at 0.
+    pub fn stmt(&self, place: usize) -> Option<Stmt>
+        ensures { result ≡ stmt_at (state_of self.now) place }
+    {
+        if place == 0 {
+            return None;
+        }
+        self.tree.stmts.get(place).copied()
     }
 
     /// Whether a token is a name.
@@ -208,6 +264,8 @@ impl<'a> Lowering<'a> {
         ensures put { IsNone self.new.refused → IsPlaced self.old.code self.new.code value result }
         ensures instructions { self.new.code.instructions ≡ self.old.code.instructions }
         ensures scope { self.new.scope ≡ self.old.scope }
+        ensures state { Becomes self.new (with_value value (state_of self.old)) }
+        ensures place { result ≡ next_value (state_of self.old) }
         ensures refused { KeepsRefusal self.old self.new }
     {
         let place = self.code.values.len();
@@ -230,6 +288,8 @@ impl<'a> Lowering<'a> {
     pub fn number(&mut self, number: i64) -> usize
         ensures put { IsNone self.new.refused → IsPlaced self.old.code self.new.code (Value.Number number) result }
         ensures instructions { self.new.code.instructions ≡ self.old.code.instructions }
+        ensures state { Becomes self.new (with_value (Value.Number number) (state_of self.old)) }
+        ensures place { result ≡ next_value (state_of self.old) }
         ensures refused { KeepsRefusal self.old self.new }
     {
         self.value(Value::Number(number))
@@ -238,6 +298,8 @@ impl<'a> Lowering<'a> {
     /// Takes what stands for the value of the next wait where that ends with a fault, or `NONE`.
     pub fn take_fault(&mut self) -> usize
         ensures code { self.new.code ≡ self.old.code }
+        ensures state { Becomes self.new (with_fallback Fallback.None (state_of self.old)) }
+        ensures fault { result ≡ fault_of self.old.setting.fallback }
         ensures refused { KeepsRefusal self.old self.new }
     {
         let found = self.setting.fallback;
@@ -256,6 +318,7 @@ impl<'a> Lowering<'a> {
     pub fn put(&mut self, instruction: Instruction)
         ensures put { Puts self.old self.new instruction }
         ensures values { self.new.code.values ≡ self.old.code.values }
+        ensures state { Becomes self.new (put instruction (state_of self.old)) }
         ensures refused { KeepsRefusal self.old self.new }
     {
         let is_grown = self.code.instructions.push(instruction).is_ok();
@@ -273,7 +336,11 @@ impl<'a> Lowering<'a> {
     }
 
     /// Puts an operand into its table, and after another one where there is one. Its place.
-    pub fn operand(&mut self, given: Typed, last: usize) -> usize {
+    pub fn operand(&mut self, given: Typed, last: usize) -> usize
+        ensures state { Becomes self.new (with_operand given last (state_of self.old)) }
+        ensures place { result ≡ length self.old.code.operands.items }
+        ensures refused { KeepsRefusal self.old self.new }
+    {
         let place = self.code.operands.len();
         if let Some(before) = self.code.operands.get_mut(last) {
             before.next = place;
@@ -315,28 +382,40 @@ impl<'a> Lowering<'a> {
     /// A variable of the unit, with the name of a token, or without one where that is 0. Its place.
     pub fn variable(&mut self, token: usize, is_param: bool) -> usize
         ensures made { IsNone self.new.refused → IsVariableOf self.new.code result self.old.setting.unit is_param }
+        ensures declared { IsNone self.new.refused → IsDeclared (state_of self.old) token is_param (state_of self.new) }
+        ensures place { result ≡ next_variable (state_of self.old) }
         ensures instructions { self.new.code.instructions ≡ self.old.code.instructions }
         ensures values { self.new.code.values ≡ self.old.code.values }
         ensures scope { self.new.scope ≡ self.old.scope }
         ensures refused { KeepsRefusal self.old self.new }
     {
-        let place = self.code.variables.len();
         let duplicate = if token == 0 {
             0
         } else {
             self.duplicates(token)
         };
         let unit = self.setting.unit;
-        let is_grown = self
-            .code
-            .variables
-            .push(Variable {
-                unit,
-                token,
-                duplicate,
-                is_param,
-            })
-            .is_ok();
+        self.add_variable(Variable {
+            unit,
+            token,
+            duplicate,
+            is_param,
+        })
+    }
+
+    // Puts a variable into its table. Its place.
+    #[tactic(auto, using(std::proofs::lemmas::List::get_or_push))]
+    fn add_variable(&mut self, variable: Variable) -> usize
+        ensures made { IsNone self.new.refused → slice_get self.new.code.variables.items result ≡ Some variable }
+        ensures instructions { self.new.code.instructions ≡ self.old.code.instructions }
+        ensures values { self.new.code.values ≡ self.old.code.values }
+        ensures scope { self.new.scope ≡ self.old.scope }
+        ensures state { Becomes self.new (with_variable variable (state_of self.old)) }
+        ensures place { result ≡ next_variable (state_of self.old) }
+        ensures refused { KeepsRefusal self.old self.new }
+    {
+        let place = self.code.variables.len();
+        let is_grown = self.code.variables.push(variable).is_ok();
         self.note(is_grown);
         place
     }
@@ -345,15 +424,24 @@ impl<'a> Lowering<'a> {
     pub fn temporary(&mut self) -> usize
         ensures instructions { self.new.code.instructions ≡ self.old.code.instructions }
         ensures values { self.new.code.values ≡ self.old.code.values }
+        ensures state { Becomes self.new (with_temporary (state_of self.old)) }
+        ensures place { result ≡ next_variable (state_of self.old) }
         ensures refused { KeepsRefusal self.old self.new }
     {
-        self.variable(0, false)
+        let unit = self.setting.unit;
+        self.add_variable(Variable {
+            unit,
+            token: 0,
+            duplicate: 0,
+            is_param: false,
+        })
     }
 
     /// Puts a variable into scope.
     pub fn bind(&mut self, binding: Binding)
         ensures bound { IsNone self.new.refused → self.new.scope.items ≡ self.old.scope.items ++ binding ∷ [] }
         ensures code { self.new.code ≡ self.old.code }
+        ensures state { Becomes self.new (in_scope binding (state_of self.old)) }
         ensures refused { KeepsRefusal self.old self.new }
     {
         let is_grown = self.scope.push(binding).is_ok();
@@ -405,7 +493,11 @@ impl<'a> Lowering<'a> {
     }
 
     /// Gives a variable without a name the name of a token. Whether it had none.
-    pub fn name_variable(&mut self, place: usize, token: usize) -> bool {
+    pub fn name_variable(&mut self, place: usize, token: usize) -> bool
+        ensures named { IsTrue result → IsNone self.new.refused → (duplicate : ℕ) × (state_of self.new ≡ named place token duplicate (state_of self.old)) }
+        ensures other { result ≡ false → Becomes self.new (state_of self.old) }
+        ensures refused { KeepsRefusal self.old self.new }
+    {
         let duplicate = self.duplicates(token);
         let unit = self.setting.unit;
         match self.code.variables.get_mut(place) {
@@ -422,14 +514,20 @@ impl<'a> Lowering<'a> {
     }
 
     /// Notes that something of the unit may follow a `return`.
-    pub fn need_done(&mut self) {
+    pub fn need_done(&mut self)
+        ensures state { Becomes self.new (with_done (state_of self.old)) }
+        ensures refused { KeepsRefusal self.old self.new }
+    {
         if let Some(unit) = self.code.units.get_mut(self.setting.unit) {
             unit.needs_done = true;
         }
     }
 
     /// Notes that a `return` of the unit stands in a group's block.
-    pub fn return_inside(&mut self) {
+    pub fn return_inside(&mut self)
+        ensures state { Becomes self.new (returned_inside (state_of self.old)) }
+        ensures refused { KeepsRefusal self.old self.new }
+    {
         if let Some(unit) = self.code.units.get_mut(self.setting.unit) {
             unit.returns_inside = true;
         }

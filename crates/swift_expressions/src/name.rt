@@ -2,6 +2,8 @@
 
 ghost use Rattle.std.specs.Prelude.{◌≡◌, IsNone};
 ghost use Rattle.swift_expressions.specs.Instructions.{KeepsRefusal};
+ghost use Rattle.swift_expressions.specs.Lowered.{Names};
+ghost use Rattle.swift_expressions.specs.States.{Becomes, state_of};
 
 use crate::code::{Kind, Value};
 use crate::lowering::Lowering;
@@ -17,6 +19,7 @@ use swift_types::Priority;
 /// The type of a field of an actor.
 pub fn field_kind(lowering: &mut Lowering<'_>, field: usize) -> Kind
     ensures code { IsNone lowering.new.refused → lowering.new.code ≡ lowering.old.code }
+    ensures state { Becomes lowering.new (state_of lowering.old) }
     ensures refused { KeepsRefusal lowering.old lowering.new }
 {
     let Some(declared) = field_at(lowering, field) else {
@@ -32,7 +35,10 @@ pub fn field_kind(lowering: &mut Lowering<'_>, field: usize) -> Kind
 }
 
 // A name that stands in no scope.
-fn global_name(lowering: &mut Lowering<'_>, token: usize) -> Typed {
+fn global_name(lowering: &mut Lowering<'_>, token: usize) -> Typed
+    ensures names { IsNone lowering.new.refused → Names (state_of lowering.old) (state_of lowering.new) result }
+    ensures refused { KeepsRefusal lowering.old lowering.new }
+{
     let actor = lowering.setting.actor;
     if let Some(field) = field_named(lowering, actor, token) {
         let kind = field_kind(lowering, field);
@@ -51,7 +57,10 @@ fn global_name(lowering: &mut Lowering<'_>, token: usize) -> Typed {
 }
 
 /// A name.
-pub(crate) fn name(lowering: &mut Lowering<'_>, token: usize) -> Typed {
+pub(crate) fn name(lowering: &mut Lowering<'_>, token: usize) -> Typed
+    ensures names { IsNone lowering.new.refused → Names (state_of lowering.old) (state_of lowering.new) result }
+    ensures refused { KeepsRefusal lowering.old lowering.new }
+{
     if lowering.spells(token, "_") {
         return refused(lowering, Rule::UnknownName, token);
     }
@@ -71,7 +80,10 @@ pub(crate) fn name(lowering: &mut Lowering<'_>, token: usize) -> Typed {
 }
 
 /// A field of the own actor.
-pub(crate) fn own_field(lowering: &mut Lowering<'_>, token: usize) -> Typed {
+pub(crate) fn own_field(lowering: &mut Lowering<'_>, token: usize) -> Typed
+    ensures names { IsNone lowering.new.refused → Names (state_of lowering.old) (state_of lowering.new) result }
+    ensures refused { KeepsRefusal lowering.old lowering.new }
+{
     let actor = lowering.setting.actor;
     match field_named(lowering, actor, token) {
         Some(field) => {
@@ -83,7 +95,10 @@ pub(crate) fn own_field(lowering: &mut Lowering<'_>, token: usize) -> Typed {
 }
 
 // A member of the type `Task`.
-fn task_member(lowering: &mut Lowering<'_>, token: usize) -> Typed {
+fn task_member(lowering: &mut Lowering<'_>, token: usize) -> Typed
+    ensures names { IsNone lowering.new.refused → Names (state_of lowering.old) (state_of lowering.new) result }
+    ensures refused { KeepsRefusal lowering.old lowering.new }
+{
     if lowering.spells(token, "isCancelled") {
         return with_kind(lowering, Value::Cancelled, Kind::Bool);
     }
@@ -94,7 +109,10 @@ fn task_member(lowering: &mut Lowering<'_>, token: usize) -> Typed {
 }
 
 // A field of an instance at the end of a run. A constant one is its number there.
-fn field_at_end(lowering: &mut Lowering<'_>, of: usize, token: usize) -> Typed {
+fn field_at_end(lowering: &mut Lowering<'_>, of: usize, token: usize) -> Typed
+    ensures names { IsNone lowering.new.refused → Names (state_of lowering.old) (state_of lowering.new) result }
+    ensures refused { KeepsRefusal lowering.old lowering.new }
+{
     let Some(instance) = instance_named(lowering, of) else {
         return refused(lowering, Rule::UnknownName, of);
     };
@@ -108,7 +126,10 @@ fn field_at_end(lowering: &mut Lowering<'_>, of: usize, token: usize) -> Typed {
 }
 
 /// `OF.NAME`
-pub(crate) fn member(lowering: &mut Lowering<'_>, of: usize, token: usize) -> Typed {
+pub(crate) fn member(lowering: &mut Lowering<'_>, of: usize, token: usize) -> Typed
+    ensures names { IsNone lowering.new.refused → Names (state_of lowering.old) (state_of lowering.new) result }
+    ensures refused { KeepsRefusal lowering.old lowering.new }
+{
     if lowering.setting.is_expectation {
         return field_at_end(lowering, of, token);
     }
@@ -133,7 +154,10 @@ pub(crate) fn member(lowering: &mut Lowering<'_>, of: usize, token: usize) -> Ty
 }
 
 /// The type of a task local.
-pub fn local_kind(lowering: &mut Lowering<'_>, local: usize) -> Kind {
+pub fn local_kind(lowering: &mut Lowering<'_>, local: usize) -> Kind
+    ensures state { Becomes lowering.new (state_of lowering.old) }
+    ensures refused { KeepsRefusal lowering.old lowering.new }
+{
     let Some(declared) = lowering.tree.locals.get(local).copied() else {
         return Kind::Int;
     };
@@ -144,7 +168,10 @@ pub fn local_kind(lowering: &mut Lowering<'_>, local: usize) -> Kind {
 }
 
 /// The priority that a token names (SE-0304).
-pub fn priority_named(lowering: &mut Lowering<'_>, token: usize) -> Priority {
+pub fn priority_named(lowering: &mut Lowering<'_>, token: usize) -> Priority
+    ensures state { Becomes lowering.new (state_of lowering.old) }
+    ensures refused { KeepsRefusal lowering.old lowering.new }
+{
     if lowering.spells(token, "background") {
         return Priority::Background;
     }

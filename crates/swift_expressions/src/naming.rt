@@ -1,5 +1,9 @@
 //! Names.
 
+ghost use Rattle.std.specs.Prelude.{◌≡◌, slice_get};
+ghost use Rattle.swift_expressions.specs.Instructions.{KeepsRefusal};
+ghost use Rattle.swift_expressions.specs.States.{Becomes, state_of};
+
 use crate::code::NONE;
 use crate::lowering::Lowering;
 use swift_syntax::{FieldDecl, InstanceDecl, MethodDecl, Rule};
@@ -107,7 +111,10 @@ pub fn is_hidden(lowering: &Lowering<'_>, token: usize) -> bool {
 }
 
 /// Refuses a global name that means a member here.
-pub fn refuse_hidden(lowering: &mut Lowering<'_>, token: usize) {
+pub fn refuse_hidden(lowering: &mut Lowering<'_>, token: usize)
+    ensures state { Becomes lowering.new (state_of lowering.old) }
+    ensures refused { KeepsRefusal lowering.old lowering.new }
+{
     if is_hidden(lowering, token) {
         lowering.refuse(Rule::NameTwice, token);
     }
@@ -126,7 +133,9 @@ pub fn is_kept(lowering: &Lowering<'_>, name: usize) -> bool {
 }
 
 /// The method at a place.
-pub fn method_at(lowering: &Lowering<'_>, place: usize) -> Option<MethodDecl> {
+pub fn method_at(lowering: &Lowering<'_>, place: usize) -> Option<MethodDecl>
+    ensures { result ≡ slice_get lowering.now.tree.now.methods.items place }
+{
     lowering.tree.methods.get(place).copied()
 }
 

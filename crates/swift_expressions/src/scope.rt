@@ -1,7 +1,9 @@
 //! What stands in scope.
 
-ghost use Rattle.std.specs.Prelude.{◌≡◌, IsNone};
+ghost use Rattle.std.specs.Prelude.{◌≡◌, IsNone, slice_get};
 ghost use Rattle.swift_expressions.specs.Instructions.{IsBound, KeepsRefusal};
+ghost use Rattle.swift_expressions.specs.Lowered.{used};
+ghost use Rattle.swift_expressions.specs.States.{Becomes, Binds, left_to, standing_of, state_of};
 
 use crate::code::Kind;
 use crate::lowering::Lowering;
@@ -58,7 +60,9 @@ pub fn find(lowering: &Lowering<'_>, token: usize) -> Option<usize> {
 }
 
 /// The name in scope at a place.
-pub fn binding_at(lowering: &Lowering<'_>, place: usize) -> Option<Binding> {
+pub fn binding_at(lowering: &Lowering<'_>, place: usize) -> Option<Binding>
+    ensures { result ≡ slice_get lowering.now.scope.items place }
+{
     lowering.scope.get(place).copied()
 }
 
@@ -71,7 +75,10 @@ pub fn standing_at(lowering: &Lowering<'_>, token: usize) -> Option<Binding> {
 }
 
 /// Notes that the name in scope at a place is awaited.
-pub fn mark_used(lowering: &mut Lowering<'_>, place: usize) {
+pub fn mark_used(lowering: &mut Lowering<'_>, place: usize)
+    ensures state { Becomes lowering.new (used place (state_of lowering.old)) }
+    ensures refused { KeepsRefusal lowering.old lowering.new }
+{
     if let Some(binding) = lowering.scope.get_mut(place) {
         binding.is_used = true;
     }
@@ -85,7 +92,10 @@ pub fn mark_partial(lowering: &mut Lowering<'_>, place: usize) {
 }
 
 // Refuses a task that is not awaited.
-fn refuse_left(lowering: &mut Lowering<'_>, from: usize) {
+fn refuse_left(lowering: &mut Lowering<'_>, from: usize)
+    ensures state { Becomes lowering.new (state_of lowering.old) }
+    ensures refused { KeepsRefusal lowering.old lowering.new }
+{
     let mut left = None;
     for (place, binding) in lowering.scope.iter().enumerate() {
         if place >= from && binding.standing == Standing::Task && !binding.is_used {
@@ -98,7 +108,10 @@ fn refuse_left(lowering: &mut Lowering<'_>, from: usize) {
 }
 
 /// Ends the names in scope from a place on.
-pub fn leave(lowering: &mut Lowering<'_>, from: usize) {
+pub fn leave(lowering: &mut Lowering<'_>, from: usize)
+    ensures state { Becomes lowering.new (left_to from (state_of lowering.old)) }
+    ensures refused { KeepsRefusal lowering.old lowering.new }
+{
     refuse_left(lowering, from);
     lowering.scope.truncate(from);
 }
@@ -107,6 +120,7 @@ pub fn leave(lowering: &mut Lowering<'_>, from: usize) {
 pub fn declare(lowering: &mut Lowering<'_>, token: usize, variable: usize, kind: Kind, is_var: bool)
     ensures bound { IsNone lowering.new.refused → IsBound lowering.old lowering.new token variable }
     ensures code { lowering.new.code ≡ lowering.old.code }
+    ensures binds { IsNone lowering.new.refused → Binds (state_of lowering.old) token (standing_of is_var) variable kind variable (state_of lowering.new) }
     ensures refused { KeepsRefusal lowering.old lowering.new }
 {
     let standing = if is_var {
@@ -129,6 +143,7 @@ pub fn declare_as(
 )
     ensures bound { IsNone lowering.new.refused → IsBound lowering.old lowering.new token variable }
     ensures code { lowering.new.code ≡ lowering.old.code }
+    ensures binds { IsNone lowering.new.refused → Binds (state_of lowering.old) token standing variable kind count (state_of lowering.new) }
     ensures refused { KeepsRefusal lowering.old lowering.new }
 {
     let loops = lowering.setting.loops;

@@ -2,13 +2,17 @@
 
 ghost use Rattle.std.specs.Prelude.{◌≡◌, IsNone, IsSome};
 ghost use Rattle.swift_expressions.specs.Instructions.{IsKept, IsPlaced, KeepsRefusal};
+ghost use Rattle.swift_expressions.specs.Lowered.{Keeps, KeepsIf, kind_in};
+ghost use Rattle.swift_expressions.specs.States.{Becomes, Gives, state_of};
 
 use crate::code::{Instruction, Kind, Value};
 use crate::lowering::Lowering;
 use swift_syntax::{ExprForm, Rule, ValueType};
 
 /// The kind of a type.
-pub fn kind_of(found: ValueType) -> Kind {
+pub fn kind_of(found: ValueType) -> Kind
+    ensures { result ≡ kind_in found }
+{
     match found {
         ValueType::Int => Kind::Int,
         ValueType::Bool => Kind::Bool,
@@ -42,6 +46,7 @@ pub fn with_kind(lowering: &mut Lowering<'_>, value: Value, kind: Kind) -> Typed
     ensures put { IsNone lowering.new.refused → IsPlaced lowering.old.code lowering.new.code value result.value }
     ensures kind { result.kind ≡ kind }
     ensures instructions { lowering.new.code.instructions ≡ lowering.old.code.instructions }
+    ensures gives { IsNone lowering.new.refused → Gives (state_of lowering.old) value kind (state_of lowering.new) result }
     ensures refused { KeepsRefusal lowering.old lowering.new }
 {
     let value = lowering.value(value);
@@ -51,6 +56,7 @@ pub fn with_kind(lowering: &mut Lowering<'_>, value: Value, kind: Kind) -> Typed
 /// Refuses a value of another kind than is wanted.
 pub fn want(lowering: &mut Lowering<'_>, found: Typed, kind: Kind, token: usize)
     ensures code { lowering.new.code ≡ lowering.old.code }
+    ensures state { Becomes lowering.new (state_of lowering.old) }
     ensures refused { KeepsRefusal lowering.old lowering.new }
 {
     if found.kind != kind {
@@ -61,13 +67,14 @@ pub fn want(lowering: &mut Lowering<'_>, found: Typed, kind: Kind, token: usize)
 /// The value of a literal.
 pub fn literal(lowering: &mut Lowering<'_>, place: usize) -> (i64, Kind)
     ensures code { lowering.new.code ≡ lowering.old.code }
+    ensures state { Becomes lowering.new (state_of lowering.old) }
     ensures refused { KeepsRefusal lowering.old lowering.new }
 {
-    let expr = lowering.tree.expr(place);
+    let expr = lowering.expr(place);
     match expr.form {
         ExprForm::Number(number) => (number, Kind::Int),
         ExprForm::Truth(truth) => (i64::from(truth), Kind::Bool),
-        ExprForm::Negate(inner) => match lowering.tree.expr(inner).form {
+        ExprForm::Negate(inner) => match lowering.expr(inner).form {
             ExprForm::Number(number) => (number.checked_neg().unwrap_or(0), Kind::Int),
             _ => (0, Kind::Int),
         },
@@ -82,6 +89,7 @@ pub fn literal(lowering: &mut Lowering<'_>, place: usize) -> (i64, Kind)
 pub fn keep(lowering: &mut Lowering<'_>, found: Typed) -> Typed
     ensures kept { IsNone lowering.new.refused → IsKept lowering.old lowering.new found result }
     ensures kind { result.kind ≡ found.kind }
+    ensures keeps { IsNone lowering.new.refused → Keeps (state_of lowering.old) found (state_of lowering.new) result }
     ensures refused { KeepsRefusal lowering.old lowering.new }
 {
     match lowering.value_at(found.value) {
@@ -91,5 +99,17 @@ pub fn keep(lowering: &mut Lowering<'_>, found: Typed) -> Typed
             lowering.put(Instruction::Let(variable, found.value));
             with_kind(lowering, Value::Variable(variable), found.kind)
         }
+    }
+}
+
+/// Keeps a value in a variable where something may change it before it is used, unless nothing can.
+pub(crate) fn keep_if(lowering: &mut Lowering<'_>, found: Typed, may_change: bool) -> Typed
+    ensures keeps { IsNone lowering.new.refused → KeepsIf may_change (state_of lowering.old) found (state_of lowering.new) result }
+    ensures refused { KeepsRefusal lowering.old lowering.new }
+{
+    if may_change {
+        keep(lowering, found)
+    } else {
+        found
     }
 }

@@ -1,7 +1,11 @@
 //! What is waited for.
 
-ghost use Rattle.std.specs.Prelude.{◌≡◌, IsNone};
+ghost use Rattle.std.specs.Prelude.{◌≡◌, ℕ, Bool, IsNone, Some, slice_get};
 ghost use Rattle.swift_expressions.specs.Instructions.{IsHoisted, KeepsRefusal};
+ghost use Rattle.swift_expressions.specs.Lowered.{Calls, Names, Waits, child_test, counted, counted_child, with_child_test, yielding};
+ghost use Rattle.swift_expressions.specs.States.{Becomes, state_of};
+ghost use Rattle.swift_expressions.specs.declared.call.Called.TheVariants as callees;
+ghost use Rattle.swift_expressions.specs.declared.operands.Operands.{Operands};
 
 use crate::code::{Instruction, Kind, NONE, Target, Value, Wait};
 use crate::lowering::{Fallback, Lowering};
@@ -15,6 +19,7 @@ use swift_types::Operator;
 /// Refuses what is not covered by `await`.
 pub(crate) fn want_await(lowering: &mut Lowering<'_>, token: usize)
     ensures code { lowering.new.code ≡ lowering.old.code }
+    ensures state { Becomes lowering.new (state_of lowering.old) }
     ensures refused { KeepsRefusal lowering.old lowering.new }
 {
     if !lowering.setting.is_awaited {
@@ -22,8 +27,21 @@ pub(crate) fn want_await(lowering: &mut Lowering<'_>, token: usize)
     }
 }
 
+/// The same of what may wait or not.
+pub(crate) fn want_await_where(lowering: &mut Lowering<'_>, waits: bool, token: usize)
+    ensures state { Becomes lowering.new (state_of lowering.old) }
+    ensures refused { KeepsRefusal lowering.old lowering.new }
+{
+    if waits {
+        want_await(lowering, token);
+    }
+}
+
 /// Refuses what may throw and is not covered by `try`.
-pub(crate) fn want_try(lowering: &mut Lowering<'_>, token: usize) {
+pub(crate) fn want_try(lowering: &mut Lowering<'_>, token: usize)
+    ensures state { Becomes lowering.new (state_of lowering.old) }
+    ensures refused { KeepsRefusal lowering.old lowering.new }
+{
     if let Fallback::Fault(_) = lowering.setting.fallback {
         return;
     }
@@ -33,10 +51,21 @@ pub(crate) fn want_try(lowering: &mut Lowering<'_>, token: usize) {
     }
 }
 
+/// The same of what may throw or not.
+pub(crate) fn want_try_where(lowering: &mut Lowering<'_>, is_throwing: bool, token: usize)
+    ensures state { Becomes lowering.new (state_of lowering.old) }
+    ensures refused { KeepsRefusal lowering.old lowering.new }
+{
+    if is_throwing {
+        want_try(lowering, token);
+    }
+}
+
 /// Waits, and gives what comes of it.
 pub(crate) fn wait(lowering: &mut Lowering<'_>, what: Wait, kind: Kind) -> Typed
     ensures hoisted { IsNone lowering.new.refused → IsHoisted lowering.old lowering.new what result }
     ensures kind { result.kind ≡ kind }
+    ensures waits { IsNone lowering.new.refused → Waits (state_of lowering.old) what kind (state_of lowering.new) result }
     ensures refused { KeepsRefusal lowering.old lowering.new }
 {
     let otherwise = lowering.take_fault();
@@ -55,7 +84,10 @@ pub(crate) fn field_of(lowering: &Lowering<'_>, instance: usize, token: usize) -
 }
 
 /// A field of an instance.
-pub(crate) fn getter(lowering: &mut Lowering<'_>, instance: usize, token: usize) -> Typed {
+pub(crate) fn getter(lowering: &mut Lowering<'_>, instance: usize, token: usize) -> Typed
+    ensures names { IsNone lowering.new.refused → Names (state_of lowering.old) (state_of lowering.new) result }
+    ensures refused { KeepsRefusal lowering.old lowering.new }
+{
     let Some(field) = field_of(lowering, instance, token) else {
         return refused(lowering, Rule::UnknownName, token);
     };
@@ -79,6 +111,25 @@ pub(crate) fn getter(lowering: &mut Lowering<'_>, instance: usize, token: usize)
     }
 }
 
+// What was made before may read its priority before it is raised by a wait: its turn comes first.
+fn yield_before(lowering: &mut Lowering<'_>)
+    ensures state { IsNone lowering.new.refused → (yields : Bool) × (state_of lowering.new ≡ yielding yields (state_of lowering.old)) }
+    ensures refused { KeepsRefusal lowering.old lowering.new }
+{
+    let yields = lowering.setting.is_closure && reads_priority(lowering);
+    yield_where(lowering, yields);
+}
+
+/// The turn ends here, where that is so.
+pub(crate) fn yield_where(lowering: &mut Lowering<'_>, yields: bool)
+    ensures state { Becomes lowering.new (yielding yields (state_of lowering.old)) }
+    ensures refused { KeepsRefusal lowering.old lowering.new }
+{
+    if yields {
+        lowering.put(Instruction::Yield);
+    }
+}
+
 // Whether something in the file reads a priority.
 fn reads_priority(lowering: &Lowering<'_>) -> bool {
     lowering
@@ -89,7 +140,10 @@ fn reads_priority(lowering: &Lowering<'_>) -> bool {
 }
 
 /// The value of the task at a place in scope.
-pub(crate) fn task_value(lowering: &mut Lowering<'_>, place: usize, token: usize) -> Typed {
+pub(crate) fn task_value(lowering: &mut Lowering<'_>, place: usize, token: usize) -> Typed
+    ensures names { IsNone lowering.new.refused → Names (state_of lowering.old) (state_of lowering.new) result }
+    ensures refused { KeepsRefusal lowering.old lowering.new }
+{
     let Some(found) = binding_at(lowering, place) else {
         return refused(lowering, Rule::UnknownName, token);
     };
@@ -97,14 +151,9 @@ pub(crate) fn task_value(lowering: &mut Lowering<'_>, place: usize, token: usize
         return refused(lowering, Rule::UnknownName, token);
     }
     want_await(lowering, token);
-    if found.is_throwing {
-        want_try(lowering, token);
-    }
+    want_try_where(lowering, found.is_throwing, token);
     mark_used(lowering, place);
-    // What was made before may read its priority before it is raised by this wait.
-    if lowering.setting.is_closure && reads_priority(lowering) {
-        lowering.put(Instruction::Yield);
-    }
+    yield_before(lowering);
     wait(lowering, Wait::Task(found.variable), found.kind)
 }
 
@@ -114,37 +163,55 @@ pub(crate) fn next_child(
     place: usize,
     found: Binding,
     token: usize,
-) -> Typed {
+) -> Typed
+    requires { slice_get lowering.old.scope.items place ≡ Some found }
+    ensures names { IsNone lowering.new.refused → Names (state_of lowering.old) (state_of lowering.new) result }
+    ensures refused { KeepsRefusal lowering.old lowering.new }
+{
     want_await(lowering, token);
-    if found.is_throwing {
-        want_try(lowering, token);
-    }
+    want_try_where(lowering, found.is_throwing, token);
     // It is an operand of what a `try?` or a `do` covers: it would take what stands for the value of that.
-    if !matches!(lowering.setting.fallback, Fallback::None) {
-        lowering.refuse(Rule::NotYet, token);
-    }
+    let is_operand = !matches!(lowering.setting.fallback, Fallback::None);
+    lowering.refuse_where(is_operand, Rule::NotYet, token);
     if found.is_used || found.loops != lowering.setting.loops {
         return refused(lowering, Rule::NotYet, token);
     }
     mark_used(lowering, place);
     let value = wait(lowering, Wait::Next(found.variable), found.kind);
-    if found.count != found.variable {
-        count_down(lowering, found.count);
-    }
+    count_child(lowering, found);
     value
 }
 
+// Takes the child of an `async let` from its count, where it has one.
+fn count_child(lowering: &mut Lowering<'_>, found: Binding)
+    ensures state { Becomes lowering.new (counted_child found (state_of lowering.old)) }
+    ensures refused { KeepsRefusal lowering.old lowering.new }
+{
+    if found.count != found.variable {
+        count_down(lowering, found.count);
+    }
+}
+
 /// Takes one from a group's count of children.
-pub fn count_down(lowering: &mut Lowering<'_>, count: usize) {
+pub fn count_down(lowering: &mut Lowering<'_>, count: usize)
+    ensures state { Becomes lowering.new (counted Operator.Minus count (state_of lowering.old)) }
+    ensures refused { KeepsRefusal lowering.old lowering.new }
+{
     count_by(lowering, count, Operator::Minus);
 }
 
 /// Adds one to a group's count of children.
-pub fn count_up(lowering: &mut Lowering<'_>, count: usize) {
+pub fn count_up(lowering: &mut Lowering<'_>, count: usize)
+    ensures state { Becomes lowering.new (counted Operator.Plus count (state_of lowering.old)) }
+    ensures refused { KeepsRefusal lowering.old lowering.new }
+{
     count_by(lowering, count, Operator::Plus);
 }
 
-fn count_by(lowering: &mut Lowering<'_>, count: usize, operator: Operator) {
+fn count_by(lowering: &mut Lowering<'_>, count: usize, operator: Operator)
+    ensures state { Becomes lowering.new (counted operator count (state_of lowering.old)) }
+    ensures refused { KeepsRefusal lowering.old lowering.new }
+{
     let before = lowering.value(Value::Variable(count));
     let one = lowering.number(1);
     let after = lowering.value(Value::Binary(operator, before, one));
@@ -154,6 +221,8 @@ fn count_by(lowering: &mut Lowering<'_>, count: usize, operator: Operator) {
 /// Whether a group's count says that a child is left.
 pub fn has_child(lowering: &mut Lowering<'_>, count: usize) -> usize
     ensures instructions { lowering.new.code.instructions ≡ lowering.old.code.instructions }
+    ensures state { Becomes lowering.new (with_child_test count (state_of lowering.old)) }
+    ensures place { IsNone lowering.new.refused → result ≡ child_test count (state_of lowering.old) }
     ensures refused { KeepsRefusal lowering.old lowering.new }
 {
     let many = lowering.value(Value::Variable(count));
@@ -162,21 +231,21 @@ pub fn has_child(lowering: &mut Lowering<'_>, count: usize) -> usize
 }
 
 /// The next result of a group, or a fallback where no child is left.
-pub(crate) fn group_next(lowering: &mut Lowering<'_>, place: usize, token: usize) -> Typed {
+pub(crate) fn group_next(lowering: &mut Lowering<'_>, place: usize, token: usize) -> Typed
+    ensures calls { (given : Operands) (at : ℕ) → IsNone lowering.new.refused → Calls (state_of lowering.old) given at (state_of lowering.new) result (callees.Next place) }
+    ensures refused { KeepsRefusal lowering.old lowering.new }
+{
     let Some(found) = binding_at(lowering, place) else {
         return refused(lowering, Rule::UnknownName, token);
     };
     want_await(lowering, token);
-    if found.is_throwing {
-        want_try(lowering, token);
-    }
+    want_try_where(lowering, found.is_throwing, token);
     let Fallback::Nil(otherwise) = lowering.setting.fallback else {
         return refused(lowering, Rule::NotYet, token);
     };
     lowering.setting.fallback = Fallback::None;
-    if found.is_partial || found.kind == Kind::Void {
-        lowering.refuse(Rule::NotYet, token);
-    }
+    let is_left_out = found.is_partial || found.kind == Kind::Void;
+    lowering.refuse_where(is_left_out, Rule::NotYet, token);
     let variable = lowering.temporary();
     lowering.put(Instruction::Let(variable, otherwise));
     let test = has_child(lowering, found.count);
@@ -190,17 +259,16 @@ pub(crate) fn group_next(lowering: &mut Lowering<'_>, place: usize, token: usize
 }
 
 /// Takes all results that are left of a group.
-pub(crate) fn wait_for_all(lowering: &mut Lowering<'_>, place: usize, token: usize) -> Typed {
+pub(crate) fn wait_for_all(lowering: &mut Lowering<'_>, place: usize, token: usize) -> Typed
+    ensures calls { (given : Operands) (at : ℕ) → IsNone lowering.new.refused → Calls (state_of lowering.old) given at (state_of lowering.new) result (callees.WaitForAll place) }
+    ensures refused { KeepsRefusal lowering.old lowering.new }
+{
     let Some(found) = binding_at(lowering, place) else {
         return refused(lowering, Rule::UnknownName, token);
     };
     want_await(lowering, token);
-    if found.is_throwing {
-        want_try(lowering, token);
-    }
-    if found.is_partial {
-        lowering.refuse(Rule::NotYet, token);
-    }
+    want_try_where(lowering, found.is_throwing, token);
+    lowering.refuse_where(found.is_partial, Rule::NotYet, token);
     let test = has_child(lowering, found.count);
     lowering.put(Instruction::While(test));
     lowering.put(Instruction::Wait(Target::Nothing, Wait::Next(found.variable), NONE));

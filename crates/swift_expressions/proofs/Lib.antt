@@ -1,0 +1,5 @@
+pub mod Acting
+pub mod Called
+pub mod Grown
+pub mod Stepped
+pub mod Waited
