@@ -12,7 +12,7 @@ use swift_expressions::{
     expression, field_at, field_kind, field_named, kind_of, refuse_hidden, standing_at, want,
     with_kind,
 };
-use swift_syntax::{Assigning, ExprForm, Into, Rule, Stmt, StmtForm};
+use swift_syntax::{Assigning, ExprForm, Into, Rule, Stmt, StmtForm, ValueType};
 use swift_types::Operator;
 
 // Refuses a value of another type, where one is wanted.
@@ -263,12 +263,17 @@ pub(crate) fn give_back(lowering: &mut Lowering<'_>, found: Option<Typed>, stmt:
     }
 }
 
+// The type that a declaration names, if it names one.
+fn kind_if(named: Option<ValueType>) -> Option<Kind> {
+    Some(kind_of(named?))
+}
+
 /// Gives a value to where it goes.
 pub(crate) fn give(lowering: &mut Lowering<'_>, into: Into, found: Typed, stmt: Stmt) {
     match into {
         Into::Nothing => {}
-        Into::Let(name, wanted) => define(lowering, name, wanted.map(kind_of), found, false),
-        Into::Var(name, wanted) => define(lowering, name, wanted.map(kind_of), found, true),
+        Into::Let(name, wanted) => define(lowering, name, kind_if(wanted), found, false),
+        Into::Var(name, wanted) => define(lowering, name, kind_if(wanted), found, true),
         Into::Assign(name) => set(lowering, name, false, found),
         Into::Return => give_back(lowering, Some(found), stmt),
     }
