@@ -1,10 +1,7 @@
--- One more event of a log is read.
-use Rattle.swift_explorer.proofs.Prelude.{◌≡◌, ℕ, ◌+◌, ◌<◌, ◌≤◌, ℤ, Bool, true, false, List, [], ◌∷◌, ◌++◌, length, take, get_or, refl, sym, ◌∙◌, ap, subst, arith, if◌then◌else◌, ◌==◌, ◌||◌, cons_option, take_more, TaskId, Event, Life, task_of, is_made, lived, unborn, own_in, waiter_in, names_task, opens, child_in, asks, closes, names_group, Digest, no_digest, digest_of, noted, card_noted, group_noted, one_if, open_ending, own_link, said, some_numbers, task_numbers, link_numbers, ended_numbers, card_numbers, group_numbers, IsWithin, other_of, group_end, IsCard, IsKeyGroup, card_of_parts, group_of_parts, KeyCard}
+-- Cards after one more event, and as numbers.
+use Rattle.swift_explorer.proofs.Prelude.{◌≡◌, ℕ, ◌+◌, ◌≤◌, ℤ, Bool, true, false, List, [], ◌++◌, refl, sym, ◌∙◌, ap, arith, if◌then◌else◌, ◌==◌, ◌||◌, cons_option, TaskId, Event, Life, task_of, lived, own_in, waiter_in, names_task, opens, child_in, asks, closes, names_group, no_card, card_noted, group_noted, one_if, open_ending, own_link, said, some_numbers, task_numbers, link_numbers, ended_numbers, card_numbers, group_numbers, IsBlank, IsCard, IsKeyGroup, card_of_parts, group_of_parts, KeyCard, KeyGroup}
 use Rattle.swift_digest.specs.Digests.{Card as CardView, GroupCard as GroupView, remembered}
-use Rattle.swift_explorer.specs.declared.keys.digest.KeyGroup.{KeyGroup}
-use Rattle.swift_digest.proofs.Cards.{digest_of-push, digest_of-none}
 use Rattle.swift_explorer.proofs.Steps.{some-append}
-use Rattle.swift_explorer.proofs.Within.{within_none, within_more}
 
 pub one_at_most : (b : Bool) → one_if b ≤ 1
 one_at_most true = omega arith
@@ -14,16 +11,11 @@ pub fewer_unless : (over : Bool) (n : ℕ) → (if over then 0 else n) ≤ n
 fewer_unless true n = omega arith
 fewer_unless false n = omega arith
 
--- the digest of one more event
-pub digest_more : (log : List Event) (i : ℕ) (d e : Event) → i < length log → get_or log i d ≡ e → digest_of (take (i + 1) log) ≡ noted (digest_of (take i log)) e
-digest_more log i d e low at =
-    ap digest_of (take_more log i d low ∙ ap (λ x. take i log ++ x ∷ []) at) ∙ digest_of-push (take i log) e
+-- a blank card is that of a task of which nothing is said
+pub blank_is : (c : KeyCard) → IsBlank c → IsCard c no_card
+blank_is c b = record { life = b.life; links = b.links; own = b.own; waiters = b.waiters; named = b.named; opened = b.opened }
 
-pub card_none : (c : KeyCard) (t : ℕ) → c.life ≡ unborn → c.links.items ≡ [] → c.own.items ≡ [] → c.waiters.items ≡ [] → c.named ≡ false → c.opened ≡ 0 → IsCard c ((digest_of []).cards t)
-card_none c t life links own waiters named opened =
-    subst (λ (d : Digest). IsCard c (d.cards t)) (sym digest_of-none) (record { life = life; links = links; own = own; waiters = waiters; named = named; opened = opened })
-
-card_more : (t : ℕ) (d : CardView) (e : Event) (c n : KeyCard) → IsCard c d
+pub card_more : (t : ℕ) (d : CardView) (e : Event) (c n : KeyCard) → IsCard c d
     → n.life ≡ (if task_of e == t then remembered (lived c.life e) else c.life)
     → n.links.items ≡ c.links.items ++ some_numbers link_numbers (cons_option (own_link t e) [])
     → n.own.items ≡ c.own.items ++ some_numbers task_numbers (cons_option (own_in t e) [])
@@ -40,26 +32,11 @@ card_more t d e c n was life links own waiters named opened = record {
   opened = opened ∙ ap (λ k. k + one_if (opens t e)) was.opened;
 }
 
-pub card_step : (t : ℕ) (log : List Event) (i : ℕ) (d e : Event) (c n : KeyCard) → i < length log → get_or log i d ≡ e → IsCard c ((digest_of (take i log)).cards t)
-    → n.life ≡ (if task_of e == t then remembered (lived c.life e) else c.life)
-    → n.links.items ≡ c.links.items ++ some_numbers link_numbers (cons_option (own_link t e) [])
-    → n.own.items ≡ c.own.items ++ some_numbers task_numbers (cons_option (own_in t e) [])
-    → n.waiters.items ≡ c.waiters.items ++ some_numbers task_numbers (cons_option (waiter_in t e) [])
-    → n.named ≡ (c.named || names_task t e)
-    → n.opened ≡ c.opened + one_if (opens t e)
-    → IsCard n ((digest_of (take (i + 1) log)).cards t)
-card_step t log i d e c n low at was life links own waiters named opened =
-    subst (λ (x : Digest). IsCard n (x.cards t)) (sym (digest_more log i d e low at)) (card_more t ((digest_of (take i log)).cards t) e c n was life links own waiters named opened)
-
-pub group_none : (c : KeyGroup) (o g : ℕ) → c.children.items ≡ [] → c.added.items ≡ [] → c.ended.items ≡ [] → c.asked ≡ 0 → c.closed ≡ false → c.named ≡ false → IsKeyGroup c ((digest_of []).groups o g)
-group_none c o g children added ended asked closed named =
-    subst (λ (d : Digest). IsKeyGroup c (d.groups o g)) (sym digest_of-none) (record { children = children; added = added; ended = ended; asked = asked; closed = closed; named = named })
-
 unless_append : {A : Type 0} (f : A → List ℤ) (xs ys : List A) (over : Bool) → (if over then [] else some_numbers f xs ++ some_numbers f ys) ≡ some_numbers f (if over then [] else xs ++ ys)
 unless_append f xs ys true = refl
 unless_append f xs ys false = sym (some-append f xs ys)
 
-group_more : (o g : ℕ) (d : GroupView) (e : Event) (c n : KeyGroup) → IsKeyGroup c d
+pub group_more : (o g : ℕ) (d : GroupView) (e : Event) (c n : KeyGroup) → IsKeyGroup c d
     → n.children.items ≡ c.children.items ++ cons_option (child_in o g e) []
     → n.added.items ≡ c.added.items ++ some_numbers task_numbers (cons_option (child_in o g e) [])
     → n.ended.items ≡ (if closes o g e then [] else c.ended.items ++ some_numbers ended_numbers (cons_option (open_ending c.closed c.children.items e) []))
@@ -79,33 +56,6 @@ group_more o g d e c n was children added ended asked closed named = record {
   closed = closed ∙ ap (λ b. b || closes o g e) was.closed;
   named = named ∙ ap (λ b. b || names_group o g e) was.named;
 }
-
-pub group_step : (o g : ℕ) (log : List Event) (i : ℕ) (d e : Event) (c n : KeyGroup) → i < length log → get_or log i d ≡ e → IsKeyGroup c ((digest_of (take i log)).groups o g)
-    → n.children.items ≡ c.children.items ++ cons_option (child_in o g e) []
-    → n.added.items ≡ c.added.items ++ some_numbers task_numbers (cons_option (child_in o g e) [])
-    → n.ended.items ≡ (if closes o g e then [] else c.ended.items ++ some_numbers ended_numbers (cons_option (open_ending c.closed c.children.items e) []))
-    → n.asked ≡ (if closes o g e then 0 else c.asked + one_if (asks o g e))
-    → n.closed ≡ (c.closed || closes o g e)
-    → n.named ≡ (c.named || names_group o g e)
-    → IsKeyGroup n ((digest_of (take (i + 1) log)).groups o g)
-group_step o g log i d e c n low at was children added ended asked closed named =
-    subst (λ (x : Digest). IsKeyGroup n (x.groups o g)) (sym (digest_more log i d e low at)) (group_more o g ((digest_of (take i log)).groups o g) e c n was children added ended asked closed named)
-
-pub bounds_none : (n m : ℕ) → n ≡ 0 → m ≡ 0 → IsWithin n m (digest_of [])
-bounds_none n m no_n no_m =
-    subst (λ (d : Digest). IsWithin n m d) (sym digest_of-none) (subst (λ (x : ℕ). IsWithin x m no_digest) (sym no_n) (subst (λ (x : ℕ). IsWithin 0 x no_digest) (sym no_m) within_none))
-
-pub bounds_step : (log : List Event) (i : ℕ) (d e : Event) (n m k l : ℕ) → i < length log → get_or log i d ≡ e → IsWithin n m (digest_of (take i log))
-    → n ≤ k → m ≤ l → task_of e < k → other_of e < k → group_end e ≤ l → IsWithin k l (digest_of (take (i + 1) log))
-bounds_step log i d e n m k l low at was up_n up_m task other group =
-    subst (IsWithin k l) (sym (digest_more log i d e low at)) (within_more n m k l (digest_of (take i log)) e was up_n up_m task other group)
-
-pub made_none : (digest_of []).made ≡ 0
-made_none = ap (λ (d : Digest). d.made) digest_of-none
-
-pub made_step : (log : List Event) (i : ℕ) (d e : Event) (n k : ℕ) → i < length log → get_or log i d ≡ e → n ≡ (digest_of (take i log)).made → k ≡ n + one_if (is_made e) → k ≡ (digest_of (take (i + 1) log)).made
-made_step log i d e n k low at was more =
-    more ∙ ap (λ x. x + one_if (is_made e)) was ∙ sym (ap (λ (x : Digest). x.made) (digest_more log i d e low at))
 
 pub card_written : (c : KeyCard) (d : CardView) → IsCard c d → card_of_parts c.life c.links.items c.own.items c.waiters.items c.named c.opened ≡ card_numbers d
 card_written c d is =

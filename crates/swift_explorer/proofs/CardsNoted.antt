@@ -1,25 +1,12 @@
--- Cards of tasks while a log is read once for all of them.
-use Rattle.swift_explorer.proofs.Prelude.{◌≡◌, ℕ, ◌+◌, ◌<◌, ◌≤◌, List, [], length, set, take, get_or, refl, sym, ◌∙◌, ap, subst, arith, inl, inr, if◌then◌else◌, All, Option, Some, slice_get, unwrap_or, cases_eq, get_or_from_slice_get, slice_get-get_or, slice_get_within, Event, task_of, lived, names_task, opens, own_in, waiter_in, Digest, digest_of, own_link, link_numbers, task_numbers, other_of, AreCards, AreNoted, IsBlank, IsCard, IsNotedAt, IsPast, OpenAtMost, KeyCard}
+-- Cards of tasks after one more event.
+use Rattle.swift_explorer.proofs.Prelude.{◌≡◌, ℕ, ◌+◌, ◌<◌, ◌≤◌, List, [], ◌∷◌, ◌++◌, length, set, get_or, refl, sym, ◌∙◌, ap, subst, arith, inl, inr, if◌then◌else◌, Option, Some, slice_get, unwrap_or, cases_eq, slice_get-get_or, slice_get_within, length_push, Event, task_of, lived, names_task, opens, own_in, waiter_in, Digest, digest_of, own_link, link_numbers, task_numbers, other_of, AreCards, AreMoreCards, AreNoted, IsBlank, IsCard, IsNotedAt, IsPast, OpenAtMost, KeyCard}
 use Rattle.std.proofs.lemmas.List.{length-set}
 use Rattle.swift_digest.specs.Digests.{remembered}
-use Rattle.swift_groups.proofs.Lists.{slice_get_set, slice_get_set_other}
+use Rattle.swift_groups.proofs.Lists.{slice_get_push, slice_get_set, slice_get_set_other}
 use Rattle.swift_explorer.specs.CardsInside.{IsNoted}
-use Rattle.swift_explorer.proofs.CardSteps.{card_none, card_step, one_at_most}
+use Rattle.swift_digest.proofs.Cards.{digest_of-push}
+use Rattle.swift_explorer.proofs.CardSteps.{card_more, one_at_most}
 use Rattle.swift_explorer.proofs.Past.{count_stays, flag_stays, numbers_stay, past, unequal}
-
--- what holds of each holds of the one at a place
-one_there : {A : Type 0} (P : A → Type 0) (xs : List A) (t : ℕ) (x : A) → All P xs → slice_get xs t ≡ Some x → P x
-one_there P xs t x all there = subst P (get_or_from_slice_get xs t x x there) (all t x (slice_get_within xs t x there))
-
--- blank cards are those of no events
-pub cards_none : (cs : List KeyCard) (n : ℕ) → length cs ≡ n → All IsBlank cs → AreCards cs n (digest_of [])
-cards_none cs n count all = record {
-  count = count;
-  cards = λ t c there. (let b = one_there IsBlank cs t c all there in card_none c t b.life b.links b.own b.waiters b.named b.opened);
-}
-
-pub open_none : (cs : List KeyCard) → All IsBlank cs → OpenAtMost 0 cs
-open_none cs all t c there = (let b = one_there IsBlank cs t c all there in let none = b.opened in omega (arith, none))
 
 -- a card of which an event says nothing
 noted_past : (t : ℕ) (e : Event) (c : KeyCard) → IsPast t e → IsNoted t e c c
@@ -111,11 +98,28 @@ pub card_at : (cs : List KeyCard) (n i : ℕ) (c : KeyCard) (d : Digest) → Are
 card_at cs n i c d are lt = are.cards i (get_or cs i c) (slice_get-get_or cs i c lt)
 
 -- the cards after one more event
-pub cards_more : (log : List Event) (i n : ℕ) (d e : Event) (cs ns : List KeyCard) → i < length log → get_or log i d ≡ e → AreCards cs n (digest_of (take i log)) → AreNoted e cs ns → AreCards ns n (digest_of (take (i + 1) log))
-cards_more log i n d e cs ns low at was noted = record {
+pub cards_more : (log : List Event) (n : ℕ) (e : Event) (cs ns : List KeyCard) → AreCards cs n (digest_of log) → AreNoted e cs ns → AreCards ns n (digest_of (log ++ e ∷ []))
+cards_more log n e cs ns was noted = record {
   count = noted.count ∙ was.count;
   cards = λ t c there.
       (let one = noted.each t c there in
       let k = one.2 in
-      card_step t log i d e one.0 c low at (was.cards t one.0 one.1) k.life k.links k.own k.waiters k.named k.opened);
+      subst (λ (d : Digest). IsCard c (d.cards t)) (sym (digest_of-push log e)) (card_more t ((digest_of log).cards t) e one.0 c (was.cards t one.0 one.1) k.life k.links k.own k.waiters k.named k.opened));
 }
+
+-- blank cards after these
+
+pub more_none : (cs : List KeyCard) → AreMoreCards cs cs
+more_none cs = record { more = omega arith; each = λ t n at. inl at }
+
+pub more_push : (cs ms ns : List KeyCard) (x : KeyCard) → AreMoreCards cs ms → ns ≡ ms ++ x ∷ [] → IsBlank x → AreMoreCards cs ns
+more_push cs ms ns x was is blank =
+    let many = ap length is ∙ length_push ms x in
+    let more = was.more in
+    record {
+      more = omega (arith, more, many);
+      each = λ t n at. elim (slice_get_push ms x t n (subst (λ (l : List KeyCard). slice_get l t ≡ Some n) is at)) [
+        | inl old ↦ was.each t n old
+        | inr new ↦ (let here = new.0 in inr (omega (arith, more, here), subst IsBlank new.1 blank))
+      ];
+    }

@@ -1,5 +1,5 @@
 -- A history is kept, where none is that has its key.
-use Rattle.swift_explorer.proofs.Prelude.{◌≡◌, ◌⊎◌, ◌<◌, ◌≤◌, ℕ, true, false, List, [], ◌∷◌, ◌++◌, Vec, length, refl, sym, subst, ap, ◌∙◌, arith, inl, inr, IfSome, Option, Some, nat_eq, slice_get, Contains, get, Global, arc_value, list_any, bytes_eq, false≢true, length_push, ScriptView, Move, SearchedHistory, Node, Search, KeptHistory, IsCopy, IsPath, IsKeyOf, GoOn, HasGrown, IsKept, IsSound, Keeps, LeadsTo, MayGoOn, path_after, paths_of}
+use Rattle.swift_explorer.proofs.Prelude.{◌≡◌, ◌⊎◌, ◌<◌, ◌≤◌, ℕ, true, false, List, [], ◌∷◌, ◌++◌, Vec, length, refl, sym, subst, ap, ◌∙◌, arith, inl, inr, IfSome, Option, Some, nat_eq, slice_get, Contains, get, Global, arc_value, list_any, bytes_eq, false≢true, length_push, ScriptView, Move, SearchedHistory, Node, Search, KeptHistory, IsAsBefore, IsCopy, IsHistory, IsPath, IsKeyOf, GoOn, HasGrown, IsKept, IsSound, Keeps, LeadsTo, MayGoOn, path_after, paths_of}
 use Rattle.swift_explorer.specs.QueueInside.{AreHistories, WasThere}
 use Rattle.swift_explorer.proofs.Alike.{alike_keys}
 use Rattle.swift_explorer.proofs.Copies.{path_copied}
@@ -10,6 +10,25 @@ use Rattle.swift_explorer.proofs.Nodes.{on_push, path_here, paths_grow}
 -- what is followed leads to its blocks
 pub path_leads : (script : ScriptView) (path : List Move) (x : SearchedHistory) (p : IsPath script path x) → LeadsTo script path p.blocks
 path_leads script path x p = record { steps = p.steps; stand = p.is.followed.led.stand; orderly = p.is.orderly }
+
+-- where it is as before, so is where it leads, and that it is kept
+
+pub path_before : (script : ScriptView) (path : List Move) (h k : SearchedHistory) → IsAsBefore h k → IsPath script path h → IsPath script path k
+path_before script path h k before p =
+    let own = p.is.followed.script_is in
+    record {
+      blocks = p.blocks;
+      steps = p.steps;
+      is = subst (λ (s : ScriptView). IsHistory s p.blocks k) own (before.is p.blocks (subst (λ (s : ScriptView). IsHistory s p.blocks h) (sym own) p.is));
+      roots = before.roots ∙ p.roots;
+    }
+
+pub keeps_before : (x z : Search) (h k : SearchedHistory) → arc_value h.steps.script ≡ arc_value x.script → IsAsBefore h k → Keeps x z k → Keeps x z h
+keeps_before x z h k own before keeps = record {
+  grown = keeps.grown;
+  sound = keeps.sound;
+  kept = λ is blocks of. keeps.kept is blocks (subst (λ (s : ScriptView). IsHistory s blocks k) own (before.is blocks (subst (λ (s : ScriptView). IsHistory s blocks h) (sym own) of)));
+}
 
 -- one that goes on alike was kept before
 pub keeps_known : (x : Search) (history : SearchedHistory) (key : List ℕ) → IsSound (arc_value x.script) x → IsKeyOf history key → list_any (bytes_eq key) x.keys ≡ true → Keeps x x history

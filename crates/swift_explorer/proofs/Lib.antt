@@ -32,6 +32,7 @@ pub mod Within
 pub mod Steps
 pub mod CardSteps
 mod CardsNoted
+mod LogsRead
 mod LooksAway
 mod InvariantsOfActors
 mod StartInvariants

@@ -14,7 +14,7 @@ pub use Rattle.std.proofs.lemmas.Option.{get_or_from_slice_get, none-some, same_
 pub use Rattle.std.proofs.lemmas.Result.{on_ok_weaker}
 pub use Rattle.std.specs.Arc.{arc_value}
 pub use Rattle.std.specs.HashMap.{get}
-pub use Rattle.std.specs.List.{cons_option, list_any, range_with_len}
+pub use Rattle.std.specs.List.{AllZip, cons_option, list_any, range_with_len}
 pub use Rattle.std.specs.Option.{option_map}
 pub use Rattle.std.specs.Prelude.{unwrap_or}
 pub use Rattle.std.specs.Str.{bytes_eq}
@@ -41,8 +41,8 @@ pub use Rattle.swift_events.specs.declared.life.Life.{Life}
 pub use Rattle.swift_events.specs.declared.life.Origin.{Origin}
 pub use Rattle.swift_explorer.specs.AheadInside.{AllWhole, AreTurns, GoesAlone, GoesOnAtOnce, IsAsBefore, IsNotLost, IsQuietAt, RanAhead, RanTurn, RunsAhead, RunsTurn, StartsHold, TurnGoesOn, any_env}
 pub use Rattle.swift_explorer.specs.Bytes.{BytesAreRead, all_packed, bytes_2, bytes_4, bytes_8, packed}
-pub use Rattle.swift_explorer.specs.CardsInside.{AreCards, AreNoted, IsBlank, IsCard, IsKeyGroup, IsNotedAt, IsPast, OpenAtMost, card_of_parts, group_of_parts}
-pub use Rattle.swift_explorer.specs.DigestNumbers.{IsWithin, IsWritten, card_numbers, digest_numbers, ended_numbers, group_end, group_numbers, groups_numbers, head_numbers, other_of}
+pub use Rattle.swift_explorer.specs.CardsInside.{AreCards, AreMoreCards, AreNoted, IsBlank, IsCard, IsKeyGroup, IsNotedAt, IsPast, IsSameCard, IsSameKeyGroup, OpenAtMost, card_of_parts, group_of_parts}
+pub use Rattle.swift_explorer.specs.DigestNumbers.{IsWithin, IsWritten, card_numbers, digest_numbers, ended_numbers, group_end, group_in, group_numbers, groups_numbers, head_numbers, other_of}
 pub use Rattle.swift_explorer.specs.EndsInside.{HasEnd, IsEndedAs, IsKnownEnd, IsReportAfter, SomeGoesOn}
 pub use Rattle.swift_explorer.specs.Explorations.{ExplorationView}
 pub use Rattle.swift_explorer.specs.FlagsInside.{cancelled_below, names}
@@ -51,6 +51,7 @@ pub use Rattle.swift_explorer.specs.FrameNumbers.{binding_numbers, bindings_numb
 pub use Rattle.swift_explorer.specs.FusedInside.{ArePlansOf, HasEachStep, IsChosen, IsPlanOf, IsRoomy, LooksAway, first_half}
 pub use Rattle.swift_explorer.specs.HistoryInside.{AreEnded, AreFirst, AreThere, GoesOn, HasEach, HasEachMove, HaveClosed, IsCopy, IsHistory, IsMissing, IsMoveOf, IsPath, IsSomeHistory, IsUnderWay, MayBegin, WasDone, has_records, rows_at}
 pub use Rattle.swift_explorer.specs.KeysInside.{IsKeyFor, IsKeyOf, IsNumbered, ReadyView, body_numbers, end_numbers, frames_left, job_left, job_numbers, outcome_bytes, ready_numbers, ready_view, rest_numbers, rest_of, task_left, with_counts}
+pub use Rattle.swift_explorer.specs.LogDigestsInside.{AreGroups, AreGroupsNoted, AskedAtMost, IsGroupNoted, IsKeyNoted, IsNamedAt, IsNamedIn, IsRead, IsReadOf, IsReadSome, IsSameGroup}
 pub use Rattle.swift_explorer.specs.MarksInside.{AreTold, HaveMarks, HaveSilentMarks, NextIs, frames_are, operation_is, term_is}
 pub use Rattle.swift_explorer.specs.Numbers.{each_numbers, ending_numbers, env_numbers, fault_numbers, flag_numbers, given_numbers, life_numbers, link_numbers, list_numbers, number_numbers, option_numbers, origin_numbers, pair_numbers, priority_numbers, resume_numbers, some_numbers, stage_numbers, task_numbers, value_numbers, wide_numbers}
 pub use Rattle.swift_explorer.specs.Outcomes.{Differ, EachOnce, HasEachOutcome, IfReached, IsBrokenAfter, IsLogOf, IsOutcomeOf, NeverBreaks, Tells}
@@ -62,6 +63,9 @@ pub use Rattle.swift_explorer.specs.declared.history.Followed.{Followed}
 pub use Rattle.swift_explorer.specs.declared.history.Followed.TheVariants.{Broken, No, Yes}
 pub use Rattle.swift_explorer.specs.declared.history.SearchedHistory.{SearchedHistory}
 pub use Rattle.swift_explorer.specs.declared.keys.digest.KeyCard.{KeyCard}
+pub use Rattle.swift_explorer.specs.declared.keys.digest.KeyGroup.{KeyGroup}
+pub use Rattle.swift_explorer.specs.declared.keys.log_digest.LogDigest.{LogDigest}
+pub use Rattle.swift_explorer.specs.declared.keys.log_digest.NamedGroup.{NamedGroup}
 pub use Rattle.swift_explorer.specs.declared.marks.MarkKind.TheVariants.{Away, AwayCancelled, Silent}
 pub use Rattle.swift_explorer.specs.declared.moves.Move.{Move}
 pub use Rattle.swift_explorer.specs.declared.moves.Move.TheVariants.{Add}

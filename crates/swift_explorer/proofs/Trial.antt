@@ -1,5 +1,5 @@
 -- A turn is tried, and its task has what it had before.
-use Rattle.swift_explorer.proofs.Prelude.{◌≡◌, ℕ, ℤ, List, [], ◌∷◌, ◌++◌, Vec, refl, sym, subst, ap, ap₂, ◌∙◌, inl, inr, ◌⊎◌, Option, Some, None, if◌then◌else◌, option_map, Global, cases_eq, false≢true, Env, Fault, Resume, ScriptView, FrameView, EffectView, ExitView, Played, failing, returning, Advanced, AdvancesTo, HasFrames, IfRunning, Polls, TaskView, callers_of, entered, left, JobFacts, IsUnnamed, NextTurn, SearchedHistory, arc_value, Move, Followed, GoesOnAtOnce, IsAsBefore, TurnGoesOn, any_env, AreGiven, IsReadyOf, given_at, given_view, with_given, GoesOn, IsHistory, IsSomeHistory, BreaksInvariant, equal, of_put, of_taken, unequal}
+use Rattle.swift_explorer.proofs.Prelude.{◌≡◌, ℕ, ℤ, List, [], ◌∷◌, ◌++◌, Vec, append-nil, refl, sym, subst, ap, ap₂, ◌∙◌, inl, inr, ◌⊎◌, Option, Some, None, if◌then◌else◌, option_map, Global, cases_eq, false≢true, Env, Fault, Resume, ScriptView, FrameView, EffectView, ExitView, Played, failing, returning, Advanced, AdvancesTo, HasFrames, IfRunning, Polls, TaskView, callers_of, entered, left, JobFacts, IsUnnamed, NextTurn, SearchedHistory, arc_value, Move, Followed, GoesOnAtOnce, IsAsBefore, TurnGoesOn, any_env, AreGiven, IsReadyOf, given_at, given_view, with_given, GoesOn, IsHistory, IsRead, IsSomeHistory, LogDigest, BreaksInvariant, equal, of_put, of_taken, unequal}
 use Rattle.swift_turn.specs.declared.step.Step.{Step}
 
 given_near : (seen : ℕ → Option JobFacts) (tasks between tasks' : List (Option NextTurn)) (t : ℕ) (g k : NextTurn) → given_at tasks t ≡ Some g → ((u : ℕ) → given_at between u ≡ with_given t None (given_at tasks) u)
@@ -26,6 +26,7 @@ as_before x between tasks t g k was took put same ready = record {
     many = h.many;
     used = h.used;
     short = h.short;
+    read = h.read;
     followed = record {
       script_is = h.followed.script_is;
       book_is = h.followed.book_is;
@@ -40,6 +41,22 @@ as_before x between tasks t g k was took put same ready = record {
         roots_are = h.followed.led.roots_are;
       };
     };
+  };
+}
+
+-- what was read for the key is more
+pub as_read : (x : SearchedHistory) (r : LogDigest) → IsRead r x.steps.book.log → IsAsBefore x (record x { digest = r })
+as_read x r read = record {
+  script_is = refl;
+  roots = refl;
+  is = λ blocks h. record {
+    orderly = h.orderly;
+    none_folded = h.none_folded;
+    many = h.many;
+    used = h.used;
+    short = h.short;
+    followed = h.followed;
+    read = (x.steps.book.log, [], sym (append-nil x.steps.book.log), read);
   };
 }
 

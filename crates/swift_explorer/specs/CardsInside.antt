@@ -1,5 +1,5 @@
 -- Cards while a log is read. No public clause names these.
-use Rattle.std.specs.Prelude.{◌≡◌, ◌≤◌, ◌+◌, ℕ, ℤ, pos, Bool, false, ◌==◌, ◌||◌, if◌then◌else◌, None, Some, List, [], ◌∷◌, ◌++◌, length, slice_get}
+use Rattle.std.specs.Prelude.{◌≡◌, ◌≤◌, ◌⊎◌, ◌+◌, ℕ, ℤ, pos, Bool, false, ◌==◌, ◌||◌, if◌then◌else◌, None, Some, List, [], ◌∷◌, ◌++◌, length, slice_get}
 use Rattle.std.specs.List.{cons_option}
 use Rattle.swift_types.specs.declared.id.TaskId.{TaskId}
 use Rattle.swift_events.specs.declared.event.Event.{Event}
@@ -36,6 +36,20 @@ pub record AreCards (cs : List KeyCard) (n : ℕ) (d : Digest) : Type 0 where
   pub count : length cs ≡ n
   pub cards : (t : ℕ) (c : KeyCard) → slice_get cs t ≡ Some c → IsCard c (d.cards t)
 
+-- a copy of what was read of a task
+pub record IsSameCard (c n : KeyCard) : Type 0 where
+  pub life : n.life ≡ c.life
+  pub links : n.links.items ≡ c.links.items
+  pub own : n.own.items ≡ c.own.items
+  pub waiters : n.waiters.items ≡ c.waiters.items
+  pub named : n.named ≡ c.named
+  pub opened : n.opened ≡ c.opened
+
+-- these cards, and blank ones after them
+pub record AreMoreCards (cs ns : List KeyCard) : Type 0 where
+  pub more : length cs ≤ length ns
+  pub each : (t : ℕ) (n : KeyCard) → slice_get ns t ≡ Some n → (slice_get cs t ≡ Some n) ⊎ ((length cs ≤ t) × IsBlank n)
+
 -- each of these tasks has opened `most` groups at most
 abbrev pub OpenAtMost : ℕ → List KeyCard → Type 0
 OpenAtMost most cs = (t : ℕ) (c : KeyCard) → slice_get cs t ≡ Some c → c.opened ≤ most
@@ -68,6 +82,15 @@ pub record IsKeyGroup (c : KeyGroup) (d : GroupView) : Type 0 where
   pub asked : c.asked ≡ d.asked
   pub closed : c.closed ≡ d.closed
   pub named : c.named ≡ d.named
+
+-- a copy of what was read of a group
+pub record IsSameKeyGroup (c n : KeyGroup) : Type 0 where
+  pub children : n.children.items ≡ c.children.items
+  pub added : n.added.items ≡ c.added.items
+  pub ended : n.ended.items ≡ c.ended.items
+  pub asked : n.asked ≡ c.asked
+  pub closed : n.closed ≡ c.closed
+  pub named : n.named ≡ c.named
 
 -- an event that says nothing for the card of task `t`
 pub record IsPast (t : ℕ) (e : Event) : Type 0 where

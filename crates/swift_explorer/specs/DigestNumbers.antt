@@ -1,5 +1,5 @@
 -- A digest as numbers (our own). How many tasks and groups have cards comes first: past these all cards are blank.
-use Rattle.std.specs.Prelude.{◌≡◌, ℕ, suc, ◌≤◌, ℤ, List, ◌++◌}
+use Rattle.std.specs.Prelude.{◌≡◌, ℕ, suc, ◌≤◌, ℤ, Option, Some, None, List, ◌++◌}
 use Rattle.swift_types.specs.declared.id.TaskId.{TaskId}
 use Rattle.swift_types.specs.declared.outcome.Ending.{Ending}
 use Rattle.swift_events.specs.declared.event.Event.{Event}
@@ -64,3 +64,11 @@ group_end (Next o g) = suc g
 group_end (Close o g) = suc g
 group_end (CancelGroup o g) = suc g
 group_end e = 0
+
+-- the group that an event is of, with its owner; an ending may count for its task's group, too
+abbrev pub group_in : Event → Option (TaskId × ℕ)
+group_in (Child t o g p) = Some (o, g)
+group_in (Next o g) = Some (o, g)
+group_in (Close o g) = Some (o, g)
+group_in (CancelGroup o g) = Some (o, g)
+group_in e = None

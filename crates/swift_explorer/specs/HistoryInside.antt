@@ -24,6 +24,7 @@ use Rattle.swift_explorer.specs.declared.history.SearchedHistory.{SearchedHistor
 use Rattle.swift_explorer.specs.declared.history.Followed.{Followed}
 use Rattle.swift_explorer.specs.declared.history.Followed.TheVariants.{Broken, No, Yes}
 use Rattle.swift_explorer.specs.Steps.{AreSteps, IsBroken, IsStep, roots_after, roots_over}
+use Rattle.swift_explorer.specs.LogDigestsInside.{IsReadOf}
 
 -- a step was done
 abbrev pub WasDone : Followed → Type 0
@@ -53,7 +54,7 @@ HaveClosed log n = (t g : ℕ) → t < n → g < opened_by t log → is_closed t
 abbrev pub rows_at : SearchedHistory → List (List (List ℤ))
 rows_at x = map (λ rows. rows_of rows.items) x.steps.fields.items
 
--- these blocks were followed, and each of them is in order
+-- these blocks were followed, each of them is in order, and what was read for the key stands first in the log
 pub record IsHistory (script : ScriptView) (blocks : List Block) (x : SearchedHistory) : Type 0 where
   pub orderly : AllAllowed (IsOrderly script) [] blocks
   pub none_folded : (e : ℕ) → folded_of e blocks ≡ []
@@ -61,6 +62,7 @@ pub record IsHistory (script : ScriptView) (blocks : List Block) (x : SearchedHi
   pub used : (e : ℕ) → slice_index_or x.used.items e false ≡ has_records (records_of e blocks)
   pub short : length x.used.items ≤ executor_count script
   pub followed : IsFollowed script (starts script) blocks x.steps
+  pub read : IsReadOf x.digest x.steps.book.log
 
 -- a copy of a history: whatever was followed in the one was followed in the other
 pub record IsCopy (x y : SearchedHistory) : Type 0 where

@@ -15,6 +15,7 @@ pub mod EndsInside
 pub mod Numbers
 pub mod DigestNumbers
 pub mod CardsInside
+pub mod LogDigestsInside
 pub mod FrameNumbers
 pub mod Laws
 pub mod Bytes

@@ -16,20 +16,22 @@ ghost use Rattle.swift_types.specs.declared.outcome.Ending.{Ending};
 ghost use Rattle.swift_events.specs.declared.life.Origin.{Origin};
 ghost use Rattle.swift_explorer.specs.EndsInside.{IsEndedAs, IsKnownEnd, SomeGoesOn};
 ghost use Rattle.swift_explorer.specs.HistoryInside.{AreEnded, AreFirst, AreThere, GoesOn, IsCopy, HasEachMove, HaveClosed, IsHistory, IsMissing, IsPath, IsSomeHistory, MayBegin, WasDone, rows_at, HasEach, IsBusy, IsUnderWay};
+ghost use Rattle.swift_explorer.specs.AheadInside.{IsAsBefore};
+ghost use Rattle.swift_explorer.specs.LogDigestsInside.{IsRead};
 ghost use Rattle.swift_explorer.specs.KeysInside.{IsNumbered};
 ghost use Rattle.swift_steps.specs.NextTurns.{AreOf, seat_of};
 
 use crate::frames::{put_jobs, put_ready};
-use crate::keys::{put_digest, put_fields, put_flags};
+use crate::keys::{LogDigest, put_fields, put_flags};
 use crate::moves::Move;
 use crate::outcome::{End, RunOutcome};
+use crate::sums::with_call;
 use std::alloc::{AllocError, Global};
 use std::sync::Arc;
-use swift_events::{Event, Origin};
+use swift_events::Origin;
 use swift_interpreter::{Exit, Frame};
 use swift_job::spend_all;
 use swift_journal::{Checkpoint, Journal};
-use swift_log::EventLog;
 use swift_report::Report;
 use swift_script::Script;
 use swift_steps::{OpenHistory, PlayedTurn, copy_all_fields};
@@ -56,6 +58,10 @@ pub struct SearchedHistory {
     pub used: Vec<bool>,
     // A journal for each executor, where turns are written down, or none.
     pub journals: Vec<Journal>,
+    // What was read of the log for the key.
+    pub digest: LogDigest,
+    // The sum of its calls. Nothing rests on it but time.
+    pub calls: u64,
 }
 
 // The fields of each executor at the start.
@@ -110,10 +116,13 @@ impl SearchedHistory {
         let fields = first_fields(alloc, script)?;
         let used = none_used(alloc, fields.len())?;
         let steps = OpenHistory::new(alloc, script, fields)?;
+        let digest = LogDigest::new(alloc);
         Ok(SearchedHistory {
             steps,
             used,
             journals: Vec::new(alloc),
+            digest,
+            calls: 0,
         })
     }
 
@@ -132,12 +141,24 @@ impl SearchedHistory {
         ensures { IfOk result (IsCopy self.now) }
     {
         let used = Vec::from_slice(self.steps.alloc, &self.used)?;
+        let digest = self.digest.copy(self.steps.alloc)?;
         let steps = self.steps.copy()?;
         Ok(SearchedHistory {
             steps,
             used,
             journals: Vec::new(self.steps.alloc),
+            digest,
+            calls: self.calls,
         })
+    }
+
+    /// Reads for the key what has happened since that was read last. Linear in that, whatever was before.
+    pub fn read_on(&mut self) -> Result<(), AllocError>
+        requires { IsSomeHistory self.old }
+        ensures same { OnOk result (IsAsBefore self.old self.new) }
+        ensures read { OnOk result (IsRead self.new.digest self.new.steps.book.log) }
+    {
+        self.digest.read_on(self.steps.alloc, self.steps.book.log())
     }
 
     // The next root is added, where it is the first that was not.
@@ -187,6 +208,7 @@ impl SearchedHistory {
         }
         self.used[turn.place] = true;
         write_turn(&mut self.journals, &turn, before)?;
+        self.calls = with_call(self.calls, &turn);
         let told = told(&turn.exit);
         if self.steps.apply_played(turn)? {
             Ok(told)
@@ -391,12 +413,15 @@ impl SearchedHistory {
 
     /// What decides how it may go on, as numbers. It gives the history up.
     pub fn into_key(self) -> Result<Vec<i64>, AllocError>
+        requires { IsRead self.digest self.steps.book.log }
         ensures { IfOk result (λ key. IsNumbered self key.items) }
     {
         let SearchedHistory {
             steps,
             used,
             journals: _,
+            digest,
+            calls: _,
         } = self;
         let OpenHistory {
             alloc,
@@ -410,6 +435,7 @@ impl SearchedHistory {
         spend_all(jobs);
         book.facts();
         let (log, mut waiting) = book.close();
+        drop(log);
         let mut key = Vec::new(alloc);
         let put = put_jobs(&mut key, &mut waiting);
         spend_all(waiting);
@@ -418,8 +444,7 @@ impl SearchedHistory {
         put_flags(&mut key, &used)?;
         put_fields(&mut key, &fields)?;
         put_ready(&mut key, tasks)?;
-        let events = events_of(alloc, &log)?;
-        put_digest(alloc, &mut key, &events)?;
+        digest.put_digest(alloc, &mut key)?;
         Ok(key)
     }
 
@@ -429,6 +454,8 @@ impl SearchedHistory {
             steps,
             used: _,
             journals: _,
+            digest: _,
+            calls: _,
         } = self;
         steps.close();
     }
@@ -442,6 +469,8 @@ impl SearchedHistory {
             steps,
             used: _,
             journals,
+            digest: _,
+            calls: _,
         } = self;
         let OpenHistory {
             alloc,
@@ -510,15 +539,4 @@ fn write_turn(
         return Ok(());
     }
     journals[turn.place].push(&turn.record(&frame, 0))
-}
-
-// The events of a log.
-fn events_of(alloc: Global, log: &EventLog) -> Result<Vec<Event>, AllocError>
-    ensures { IfOk result (λ events. events.items ≡ log.now.events) }
-{
-    let mut events = Vec::with_capacity(alloc, log.len())?;
-    for place in 0..log.len() {
-        events.push(log.event(place))?;
-    }
-    Ok(events)
 }

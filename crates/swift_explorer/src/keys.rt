@@ -6,12 +6,14 @@ mod digest;
 mod frames;
 // Numbers as bytes.
 mod key;
+// The digest of a log, kept event by event.
+mod log_digest;
 // What is read from numbers.
 pub mod laws;
 // Small values.
 mod values;
 
-pub use digest::put_digest;
 pub use frames::{put_bindings, put_fields, put_flags, put_frame};
 pub use key::pack;
+pub(crate) use log_digest::LogDigest;
 pub use values::{put_ending, put_flag, put_number, put_origin, put_resume};

@@ -5,9 +5,10 @@ ghost use Rattle.std.specs.Arc.{arc_value};
 ghost use Rattle.swift_history.specs.Histories.{Block, ReportView};
 ghost use Rattle.swift_explorer.specs.Outcomes.{EachOnce, IfReached, IsBrokenAfter, IsOutcomeOf, RunsShort, Tells};
 ghost use Rattle.swift_explorer.specs.declared.outcome.RunOutcome.{RunOutcome};
-ghost use Rattle.swift_explorer.specs.HistoryInside.{IsPath, WasDone};
+ghost use Rattle.swift_explorer.specs.HistoryInside.{IsPath, IsSomeHistory, WasDone};
 ghost use Rattle.swift_explorer.specs.EndsInside.{HasEnd, IsKnownEnd};
-ghost use Rattle.swift_explorer.specs.AheadInside.{StartsHold};
+ghost use Rattle.swift_explorer.specs.AheadInside.{IsAsBefore, StartsHold};
+ghost use Rattle.swift_explorer.specs.LogDigestsInside.{IsRead};
 ghost use Rattle.swift_explorer.specs.FusedInside.{first_half};
 ghost use Rattle.swift_explorer.specs.MarksInside.{AreTold, HaveSilentMarks};
 ghost use Rattle.swift_explorer.specs.KeysInside.{IsKeyOf, outcome_bytes, end_numbers};
@@ -130,12 +131,29 @@ fn outcome_key(alloc: Global, outcome: &RunOutcome) -> Result<Key, AllocError>
 
 // What decides how a history may go on, as bytes.
 fn key_of(alloc: Global, history: SearchedHistory) -> Result<Key, AllocError>
+    requires { IsRead history.digest history.steps.book.log }
     ensures { IfOk result (λ key. IsKeyOf history key.bytes.items) }
 {
     let numbers = history.into_key()?;
     Ok(Key {
         bytes: pack(alloc, &numbers)?,
     })
+}
+
+// A history that was read for its key. Where there is no memory, it is given up.
+fn read_whole(history: SearchedHistory) -> Result<SearchedHistory, AllocError>
+    requires { IsSomeHistory history }
+    ensures same { IfOk result (IsAsBefore history) }
+    ensures read { IfOk result (λ next. IsRead next.digest next.steps.book.log) }
+{
+    let mut next = history;
+    match next.read_on() {
+        Err(fault) => {
+            next.close();
+            Err(fault)
+        }
+        Ok(()) => Ok(next),
+    }
 }
 
 // Follows these steps.
@@ -333,9 +351,10 @@ impl Search {
         requires sound { IsSound (arc_value self.old.script) self.old }
         ensures keeps { OnOk result (Keeps self.old self.new history) }
     {
-        let sum = history.sum();
-        let spare = spare_copy(&self.histories, self.sums.contains(&sum), &history);
-        let key = key_of(self.alloc, history)?;
+        let next = read_whole(history)?;
+        let sum = next.sum();
+        let spare = spare_copy(&self.histories, self.sums.contains(&sum), &next);
+        let key = key_of(self.alloc, next)?;
         if self.keys.contains(&key) {
             return Ok(());
         }

@@ -1,8 +1,11 @@
 //! Sums of histories. Two that go on alike have the same sum mostly, and others have others: so it tells, before there is a key, whether a
 //! history seems to be a new one. Nothing rests on it but time.
 
+ghost use Rattle.swift_turn.specs.Body.{IsRunning};
+
 use crate::history::SearchedHistory;
-use swift_steps::NextTurn;
+use swift_interpreter::{Exit, Frame};
+use swift_steps::{NextTurn, PlayedTurn};
 use swift_types::{Ending, Env, Resume, TaskId};
 
 // A sum with one more number.
@@ -35,16 +38,33 @@ fn with_resume(sum: u64, resume: Resume) -> u64 {
     }
 }
 
+fn with_frame(sum: u64, frame: &Frame) -> u64 {
+    let sum = with(sum, u64::from(frame.method.0));
+    let sum = with(sum, u64::from(frame.instruction));
+    with_numbers(sum, &frame.variables)
+}
+
 fn with_turn(sum: u64, ready: &NextTurn) -> u64 {
     let sum = with(sum, u64::from(ready.number));
     let sum = with_resume(sum, ready.resume);
     if !ready.body.is_running() {
         return sum;
     }
-    let frame = ready.body.top();
-    let sum = with(sum, u64::from(frame.method.0));
-    let sum = with(sum, u64::from(frame.instruction));
-    with_numbers(sum, &frame.variables)
+    with_frame(sum, ready.body.top())
+}
+
+/// The sum of calls with one turn more, if that ends by a call: of each the frame that waits for it, in whichever order they were. So two
+/// histories whose callers differ have different sums.
+pub(crate) fn with_call(sum: u64, turn: &PlayedTurn) -> u64
+    requires { IsRunning turn.now.ready.body }
+{
+    match &turn.exit {
+        Exit::Call(_) => {
+            let caller = with_frame(u64::from(turn.task.0), turn.ready.body.top());
+            sum.wrapping_add(caller)
+        }
+        _ => sum,
+    }
 }
 
 // What its next turn begins with, if it has one.
@@ -79,10 +99,10 @@ impl SearchedHistory {
         with_end(sum, self.steps.book.ending(task))
     }
 
-    /// The sum of a history: of how much has happened, of its fields, of what its next turns begin with, and of which tasks are under way or
-    /// have ended.
+    /// The sum of a history: of how much has happened, of its calls and fields, of what its next turns begin with, and of which tasks are
+    /// under way or have ended.
     pub(crate) fn sum(&self) -> u64 {
-        let mut sum = with(0, self.steps.book.log().len() as u64);
+        let mut sum = with(self.calls, self.steps.book.log().len() as u64);
         for rows in &self.steps.fields {
             sum = with_rows(sum, rows);
         }

@@ -1,16 +1,16 @@
 //! What a log says of tasks and groups, as numbers.
 
 ghost use Rattle.std.specs.Prelude.{Bool, ◌≡◌, ◌+◌, ◌-◌, ◌<◌, ◌≤◌, ◌^◌, ◌==◌, ◌||◌, if◌then◌else◌, false, ℕ, List, [], ◌∷◌, ◌++◌, length, pos, IfOk, OnOk};
-ghost use Rattle.std.specs.List.{cons_option};
+ghost use Rattle.std.specs.List.{AllZip, cons_option};
 ghost use Rattle.swift_types.specs.declared.id.TaskId.{TaskId};
-ghost use Rattle.swift_events.specs.Events.{is_made, task_of};
+ghost use Rattle.swift_events.specs.Events.{task_of};
 ghost use Rattle.swift_events.specs.Lives.{lived};
 ghost use Rattle.swift_events.specs.Relations.{asks, child_in, closes, ending_among, names_group, names_task, opens, own_in, waiter_in};
 ghost use Rattle.swift_groups.specs.Groups.{is_among};
-ghost use Rattle.swift_explorer.specs.CardsInside.{AreCards, AreNoted, IsBlank, IsKeyGroup, IsNotedAt, IsOfLife, IsPastGroup, OpenAtMost, card_of_parts, group_of_parts};
-ghost use Rattle.swift_explorer.specs.DigestNumbers.{IsWithin, IsWritten, card_numbers, ended_numbers, group_end, groups_numbers, head_numbers, other_of};
+ghost use Rattle.swift_explorer.specs.CardsInside.{AreCards, AreMoreCards, AreNoted, IsBlank, IsKeyGroup, IsNotedAt, IsOfLife, IsPastGroup, IsSameCard, IsSameKeyGroup, OpenAtMost, card_of_parts, group_of_parts};
+ghost use Rattle.swift_explorer.specs.DigestNumbers.{card_numbers, ended_numbers, group_end, head_numbers, other_of};
 ghost use Rattle.swift_history.specs.Checks.{is_under_way};
-ghost use Rattle.swift_digest.specs.Digests.{digest_of, one_if, open_ending, own_link, remembered};
+ghost use Rattle.swift_digest.specs.Digests.{Digest, no_group, one_if, open_ending, own_link, remembered};
 ghost use Rattle.swift_explorer.specs.Numbers.{each_numbers, link_numbers, some_numbers, task_numbers};
 
 use crate::keys::values::{
@@ -23,7 +23,7 @@ use swift_types::{Ending, TaskId};
 
 // What was read of a task so far. Of lists there are the numbers.
 #[derive(Drop)]
-struct KeyCard {
+pub(crate) struct KeyCard {
     life: Life,
     links: Vec<i64>,
     own: Vec<i64>,
@@ -34,7 +34,7 @@ struct KeyCard {
 
 // What was read of a group so far. Of lists there are the numbers.
 #[derive(Drop)]
-struct KeyGroup {
+pub(crate) struct KeyGroup {
     children: Vec<TaskId>,
     added: Vec<i64>,
     ended: Vec<i64>,
@@ -198,7 +198,7 @@ fn open_ending(closed: bool, children: &[TaskId], event: Event) -> Option<(TaskI
     }
 }
 
-fn other_of(event: Event) -> TaskId
+pub(crate) fn other_of(event: Event) -> TaskId
     ensures { result.0 ≡ other_of event }
 {
     match event {
@@ -209,8 +209,9 @@ fn other_of(event: Event) -> TaskId
     }
 }
 
-fn group_end(event: Event) -> u64
-    ensures { result ≡ group_end event }
+pub(crate) fn group_end(event: Event) -> u64
+    ensures end { result ≡ group_end event }
+    ensures fits { result ≤ 2 ^ 32 }
 {
     match event {
         Event::Child { group, .. } => u64::from(group) + 1,
@@ -302,7 +303,7 @@ fn life_noted(life: Life, task: TaskId, event: Event) -> Life
     }
 }
 
-fn counted(count: u64, one: bool) -> u64
+pub(crate) fn counted(count: u64, one: bool) -> u64
     requires { count < 2 ^ 63 }
     ensures { result ≡ count + one_if one }
 {
@@ -400,7 +401,7 @@ impl KeyCard {
 
 impl KeyGroup {
     #[tactic(auto, using(crate::proofs::Past::numbers_stay, crate::proofs::Past::items_stay, crate::proofs::Past::flag_stays, crate::proofs::Past::count_stays))]
-    fn note(&mut self, owner: TaskId, group: u32, event: Event) -> Result<(), AllocError>
+    pub(crate) fn note(&mut self, owner: TaskId, group: u32, event: Event) -> Result<(), AllocError>
         requires { self.old.asked < 2 ^ 63 }
         ensures children { OnOk result (self.new.children.items ≡ self.old.children.items ++ cons_option (child_in owner.0 group event) []) }
         ensures added { OnOk result (self.new.added.items ≡ self.old.added.items ++ some_numbers task_numbers (cons_option (child_in owner.0 group event) [])) }
@@ -428,6 +429,38 @@ impl KeyGroup {
     }
 }
 
+impl KeyCard {
+    // The same again.
+    pub(crate) fn copy(&self, alloc: Global) -> Result<KeyCard, AllocError>
+        ensures { IfOk result (IsSameCard self.now) }
+    {
+        Ok(KeyCard {
+            life: self.life,
+            links: Vec::from_slice(alloc, &self.links)?,
+            own: Vec::from_slice(alloc, &self.own)?,
+            waiters: Vec::from_slice(alloc, &self.waiters)?,
+            named: self.named,
+            opened: self.opened,
+        })
+    }
+}
+
+impl KeyGroup {
+    // The same again.
+    pub(crate) fn copy(&self, alloc: Global) -> Result<KeyGroup, AllocError>
+        ensures { IfOk result (IsSameKeyGroup self.now) }
+    {
+        Ok(KeyGroup {
+            children: Vec::from_slice(alloc, &self.children)?,
+            added: Vec::from_slice(alloc, &self.added)?,
+            ended: Vec::from_slice(alloc, &self.ended)?,
+            asked: self.asked,
+            closed: self.closed,
+            named: self.named,
+        })
+    }
+}
+
 // The card of a task of which nothing was read.
 fn blank_card(alloc: Global) -> KeyCard
     ensures { IsBlank result }
@@ -442,17 +475,31 @@ fn blank_card(alloc: Global) -> KeyCard
     }
 }
 
-// So many of these.
-fn blank_cards(alloc: Global, tasks: u64) -> Result<Vec<KeyCard>, AllocError>
-    requires { tasks ≤ 2 ^ 32 }
-    ensures cards { IfOk result (λ cards. AreCards cards.items tasks (digest_of [])) }
-    ensures none { IfOk result (λ cards. OpenAtMost 0 cards.items) }
+// The card of a group of which nothing was read.
+pub(crate) fn blank_group(alloc: Global) -> KeyGroup
+    ensures { IsKeyGroup result no_group }
 {
-    let mut cards = Vec::with_capacity(alloc, tasks as usize)?;
-    'fill: while (cards.len() as u64) < tasks {
+    KeyGroup {
+        children: Vec::new(alloc),
+        added: Vec::new(alloc),
+        ended: Vec::new(alloc),
+        asked: 0,
+        closed: false,
+        named: false,
+    }
+}
+
+// Puts blank cards to these, until there is one for this task.
+pub(crate) fn cover(alloc: Global, cards: &mut Vec<KeyCard>, task: TaskId) -> Result<(), AllocError>
+    ensures covered { OnOk result (task.0 < length cards.new.items) }
+    ensures more { OnOk result (AreMoreCards cards.old.items cards.new.items) }
+    ensures few { OnOk result (length cards.old.items ≤ 2 ^ 32 → length cards.new.items ≤ 2 ^ 32) }
+{
+    let place = task.0 as usize;
+    'cover: while cards.len() <= place {
         cards.push(blank_card(alloc))?;
     }
-    Ok(cards)
+    Ok(())
 }
 
 // One of these cards after one more event, where there is one for this task.
@@ -469,7 +516,7 @@ fn note_at(cards: &mut Vec<KeyCard>, task: TaskId, event: Event) -> Result<(), A
 }
 
 // All of these cards after one more event. It says something for two tasks at most.
-fn note_all(cards: &mut Vec<KeyCard>, event: Event) -> Result<(), AllocError>
+pub(crate) fn note_all(cards: &mut Vec<KeyCard>, event: Event) -> Result<(), AllocError>
     requires { OpenAtMost (2 ^ 63 - 2) cards.old.items }
     ensures { OnOk result (AreNoted event cards.old.items cards.new.items) }
 {
@@ -483,34 +530,16 @@ fn note_all(cards: &mut Vec<KeyCard>, event: Event) -> Result<(), AllocError>
     Ok(())
 }
 
-// The cards of so many tasks. Each event is read once.
-fn cards_of(alloc: Global, log: &[Event], tasks: u64) -> Result<Vec<KeyCard>, AllocError>
-    requires { tasks ≤ 2 ^ 32 }
-    ensures { IfOk result (λ cards. AreCards cards.items tasks (digest_of log.now)) }
+// The same cards again.
+pub(crate) fn copy_cards(alloc: Global, cards: &[KeyCard]) -> Result<Vec<KeyCard>, AllocError>
+    ensures { IfOk result (λ copy. AllZip IsSameCard cards.now copy.items) }
 {
-    let mut cards = blank_cards(alloc, tasks)?;
-    for event in log {
-        note_all(&mut cards, *event)?;
+    let mut copy = Vec::with_capacity(alloc, cards.len())?;
+    for card in cards {
+        let same = card.copy(alloc)?;
+        copy.push(same)?;
     }
-    Ok(cards)
-}
-
-// The card of a group.
-fn group_of(alloc: Global, log: &[Event], owner: TaskId, group: u32) -> Result<KeyGroup, AllocError>
-    ensures { IfOk result (λ c. IsKeyGroup c ((digest_of log.now).groups owner.0 group)) }
-{
-    let mut card = KeyGroup {
-        children: Vec::new(alloc),
-        added: Vec::new(alloc),
-        ended: Vec::new(alloc),
-        asked: 0,
-        closed: false,
-        named: false,
-    };
-    for event in log {
-        card.note(owner, group, *event)?;
-    }
-    Ok(card)
+    Ok(copy)
 }
 
 // These numbers, and a 0 after them.
@@ -533,7 +562,8 @@ fn put_card(key: &mut Vec<i64>, card: &KeyCard) -> Result<(), AllocError>
     put_wide(key, card.opened)
 }
 
-fn put_group(key: &mut Vec<i64>, card: &KeyGroup) -> Result<(), AllocError>
+/// Appends the card of a group.
+pub(crate) fn put_group(key: &mut Vec<i64>, card: &KeyGroup) -> Result<(), AllocError>
     ensures { OnOk result (key.new.items ≡ key.old.items ++ group_of_parts card.now.added.items card.now.ended.items card.now.asked card.now.closed card.now.named) }
 {
     put_closed(key, &card.added)?;
@@ -543,114 +573,26 @@ fn put_group(key: &mut Vec<i64>, card: &KeyGroup) -> Result<(), AllocError>
     put_flag(key, card.named)
 }
 
-// How many tasks and groups a log names, and how many tasks it makes that are no roots.
-#[derive(Clone, Copy)]
-struct Bounds {
+/// Appends how many tasks and groups have cards, and how many tasks were made that are no roots.
+pub(crate) fn put_head(
+    key: &mut Vec<i64>,
     tasks: u64,
     groups: u64,
     made: u64,
-}
-
-impl Bounds {
-    fn note(&mut self, event: Event)
-        requires small { self.old.made < 2 ^ 63 }
-        requires tasks { self.old.tasks ≤ 2 ^ 32 }
-        requires groups { self.old.groups ≤ 2 ^ 32 }
-        ensures task { task_of event < self.new.tasks }
-        ensures other { other_of event < self.new.tasks }
-        ensures group { group_end event ≤ self.new.groups }
-        ensures tasks_grow { self.old.tasks ≤ self.new.tasks }
-        ensures groups_grow { self.old.groups ≤ self.new.groups }
-        ensures tasks_fit { self.new.tasks ≤ 2 ^ 32 }
-        ensures groups_fit { self.new.groups ≤ 2 ^ 32 }
-        ensures made { self.new.made ≡ self.old.made + one_if (is_made event) }
-    {
-        let task = u64::from(event.task().0) + 1;
-        let other = u64::from(other_of(event).0) + 1;
-        self.tasks = self.tasks.max(task).max(other);
-        self.groups = self.groups.max(group_end(event));
-        self.made = counted(self.made, event.makes_task());
-    }
-}
-
-fn bounds_of(log: &[Event]) -> Bounds
-    ensures within { IsWithin result.tasks result.groups (digest_of log.now) }
-    ensures made { result.made ≡ (digest_of log.now).made }
-    ensures tasks { result.tasks ≤ 2 ^ 32 }
-    ensures groups { result.groups ≤ 2 ^ 32 }
+) -> Result<(), AllocError>
+    ensures { OnOk result (key.new.items ≡ key.old.items ++ head_numbers tasks groups made) }
 {
-    let mut bounds = Bounds {
-        tasks: 0,
-        groups: 0,
-        made: 0,
-    };
-    for event in log {
-        bounds.note(*event);
-    }
-    bounds
+    put_wide(key, tasks)?;
+    put_wide(key, groups)?;
+    put_wide(key, made)
 }
 
-fn put_head(key: &mut Vec<i64>, bounds: Bounds) -> Result<(), AllocError>
-    ensures { OnOk result (key.new.items ≡ key.old.items ++ head_numbers bounds.tasks bounds.groups bounds.made) }
+/// Appends these cards.
+pub(crate) fn put_cards(key: &mut Vec<i64>, cards: &[KeyCard]) -> Result<(), AllocError>
+    ensures { OnOk result ((d : Digest) → AreCards cards.now (length cards.now) d → key.new.items ≡ key.old.items ++ each_numbers card_numbers d.cards (length cards.now)) }
 {
-    put_wide(key, bounds.tasks)?;
-    put_wide(key, bounds.groups)?;
-    put_wide(key, bounds.made)
-}
-
-fn put_cards(alloc: Global, key: &mut Vec<i64>, log: &[Event], tasks: u64) -> Result<(), AllocError>
-    requires { tasks ≤ 2 ^ 32 }
-    ensures { OnOk result (key.new.items ≡ key.old.items ++ each_numbers card_numbers (digest_of log.now).cards tasks) }
-{
-    let cards = cards_of(alloc, log, tasks)?;
-    for card in &cards {
+    for card in cards {
         put_card(key, card)?;
     }
-    Ok(())
-}
-
-fn put_groups_of(
-    alloc: Global,
-    key: &mut Vec<i64>,
-    log: &[Event],
-    owner: TaskId,
-    groups: u64,
-) -> Result<(), AllocError>
-    requires { groups ≤ 2 ^ 32 }
-    ensures { OnOk result (key.new.items ≡ key.old.items ++ groups_numbers groups ((digest_of log.now).groups owner.0)) }
-{
-    for place in 0..groups {
-        let card = group_of(alloc, log, owner, place as u32)?;
-        put_group(key, &card)?;
-    }
-    Ok(())
-}
-
-fn put_groups(
-    alloc: Global,
-    key: &mut Vec<i64>,
-    log: &[Event],
-    tasks: u64,
-    groups: u64,
-) -> Result<(), AllocError>
-    requires tasks { tasks ≤ 2 ^ 32 }
-    requires groups { groups ≤ 2 ^ 32 }
-    ensures { OnOk result (key.new.items ≡ key.old.items ++ each_numbers (groups_numbers groups) (digest_of log.now).groups tasks) }
-{
-    for place in 0..tasks {
-        put_groups_of(alloc, key, log, TaskId(place as u32), groups)?;
-    }
-    Ok(())
-}
-
-/// Appends the digest of a log: all of it that decides what may come next. Linear in its length, once for the tasks, and once more for each
-/// group of a task.
-pub fn put_digest(alloc: Global, key: &mut Vec<i64>, log: &[Event]) -> Result<(), AllocError>
-    ensures { OnOk result (IsWritten (digest_of log.now) key.old.items key.new.items) }
-{
-    let bounds = bounds_of(log);
-    put_head(key, bounds)?;
-    put_cards(alloc, key, log, bounds.tasks)?;
-    put_groups(alloc, key, log, bounds.tasks, bounds.groups)?;
     Ok(())
 }

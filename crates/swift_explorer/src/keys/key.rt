@@ -1,6 +1,6 @@
 //! Numbers as bytes.
 
-ghost use Rattle.std.specs.Prelude.{◌≡◌, ◌<◌, ◌^◌, ◌++◌, IfOk, OnOk};
+ghost use Rattle.std.specs.Prelude.{◌≡◌, ◌<◌, ◌^◌, ◌++◌, ◌∷◌, [], IfOk, OnOk};
 ghost use Rattle.swift_explorer.specs.Bytes.{all_packed, bytes_2, bytes_4, bytes_8, packed};
 
 use std::alloc::{AllocError, Global};
@@ -29,6 +29,19 @@ fn put_8(bytes: &mut Vec<u8>, number: u64) -> Result<(), AllocError>
     put_4(bytes, number % 4_294_967_296)
 }
 
+// Writes a byte. Mostly there is room for it, so that no call is made.
+#[inline(always)]
+fn put_byte(bytes: &mut Vec<u8>, byte: u8) -> Result<(), AllocError>
+    ensures { OnOk result (bytes.new.items ≡ bytes.old.items ++ byte ∷ []) }
+{
+    if bytes.len() < bytes.capacity() {
+        bytes.push_reserved(byte);
+        return Ok(());
+    }
+    bytes.push(byte)?;
+    Ok(())
+}
+
 // Writes a number.
 fn put(bytes: &mut Vec<u8>, number: i64) -> Result<(), AllocError>
     ensures { OnOk result (bytes.new.items ≡ bytes.old.items ++ packed number) }
@@ -38,8 +51,7 @@ fn put(bytes: &mut Vec<u8>, number: i64) -> Result<(), AllocError>
         return put_8(bytes, (-(number + 1)) as u64);
     }
     if number < 253 {
-        bytes.push(number as u8)?;
-        return Ok(());
+        return put_byte(bytes, number as u8);
     }
     bytes.push(253)?;
     put_8(bytes, number as u64)

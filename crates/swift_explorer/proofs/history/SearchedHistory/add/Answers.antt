@@ -17,7 +17,7 @@ returns-clause-follows c = λ done blocks h.
     let b = added x.steps.roots in (
       b,
       refl,
-      history_on script blocks x _ b h follows (add_orderly script blocks x.steps.book.log x.steps.roots h.followed.led.log_is first.before) (λ e. refl) (used_same x.used.items blocks b (λ e. refl) h.used) h.short,
+      history_on script blocks x _ b h follows (add_orderly script blocks x.steps.book.log x.steps.roots h.followed.led.log_is first.before) (λ e. refl) (used_same x.used.items blocks b (λ e. refl) h.used) h.short refl,
       follows.roots_are,
       λ is. absurd (yes_is c.quiet.result told.1 is),
       λ _ breaks. breaks,

@@ -17,7 +17,7 @@ returns-clause-follows c = λ done blocks h.
     let b = begun t begins.0 begins.1 in (
       b,
       refl,
-      history_on (arc_value x.steps.script) blocks x _ b h begins.3 (begin_orderly blocks x t begins.0 begins.1 h may) (λ e. refl) (used_same x.used.items blocks b (λ e. refl) h.used) h.short,
+      history_on (arc_value x.steps.script) blocks x _ b h begins.3 (begin_orderly blocks x t begins.0 begins.1 h may) (λ e. refl) (used_same x.used.items blocks b (λ e. refl) h.used) h.short refl,
       begins.3.roots_are,
       λ is. absurd (yes_is c.quiet.result told.1 is),
       λ _ breaks. breaks,

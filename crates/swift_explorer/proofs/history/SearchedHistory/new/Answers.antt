@@ -12,6 +12,7 @@ returns-clause-first c =
     let first : AreFirst script (map seen fields) = search rules in
     let here : AreFirst script (map seen steps.fields.items) = ap (λ (fs : Vec (Vec (Vec ℤ Global) Global) Global). map seen fs.items) made.fields ∙ first in
     let many : c.len.result ≡ length fields = omega (arith, c.len.ensures) in
+    let followed : IsFollowed script (starts script) [] steps = subst (λ (s : ScriptView). IsFollowed s (starts script) [] steps) made.script (made.first.starts (starts script) (first_fields script (map seen steps.fields.items) here)) in
     record {
       blocks = [];
       steps = tt;
@@ -22,6 +23,7 @@ returns-clause-first c =
         many = first_many script (map seen steps.fields.items) here;
         used = none_used c.in_ok-used.used.items _ c.in_ok-used.ensures;
         short = few_used script c.in_ok-used.used.items (map seen fields) _ c.in_ok-used.ensures (many ∙ sym (length-map fields seen)) first;
-        followed = subst (λ (s : ScriptView). IsFollowed s (starts script) [] steps) made.script (made.first.starts (starts script) (first_fields script (map seen steps.fields.items) here));
+        followed = followed;
+        read = ([], [], followed.led.log_is, c.new-digest.ensures);
       };
     }

@@ -12,6 +12,11 @@ write_turn-requires c =
     let plays = some_of _ _ (Plays c.args.self.now.steps c.play.new.self) c.in-Some.is c.in_ok-turn.ensures.plays in
     subst HasFrames (sym plays.last) tt
 
+pub with_call-self-requires : goal.with_call-self-requires
+with_call-self-requires c =
+    let plays = some_of _ _ (Plays c.args.self.now.steps c.play.new.self) c.in-Some.is c.in_ok-turn.ensures.plays in
+    subst HasFrames (sym plays.last) tt
+
 pub apply_played-requires : goal.apply_played-requires
 apply_played-requires c = (c.args.self.now.steps, some_of _ _ (Plays c.args.self.now.steps c.play.new.self) c.in-Some.is c.in_ok-turn.ensures.plays)
 
@@ -26,7 +31,7 @@ returns-then-branch-clause-follows c = λ done blocks h.
     let in_used : turn.place < length x.used.items = omega (arith, c.if-turn-len.false, c.len.ensures) in (
       b,
       ap (λ (t : TaskId). t.0) task,
-      history_on (arc_value x.steps.script) blocks x _ b h follows tt (λ e. refl) (used_set x.used.items blocks turn.place (record_of turn 0 plays.frame) in_used h.used) (used_short (arc_value x.steps.script) x.used.items _ _ turn.place h.short refl refl),
+      history_on (arc_value x.steps.script) blocks x _ b h follows tt (λ e. refl) (used_set x.used.items blocks turn.place (record_of turn 0 plays.frame) in_used h.used) (used_short (arc_value x.steps.script) x.used.items _ _ turn.place h.short refl refl) refl,
       follows.roots_are,
       c.told-told.ensures.broken,
       c.told-told.ensures.quiet,

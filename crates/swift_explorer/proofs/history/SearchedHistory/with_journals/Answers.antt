@@ -7,7 +7,7 @@ returns c =
       first = record {
         blocks = p.blocks;
         steps = p.steps;
-        is = record { orderly = p.is.orderly; none_folded = p.is.none_folded; many = p.is.many; used = p.is.used; short = p.is.short; followed = p.is.followed };
+        is = record { orderly = p.is.orderly; none_folded = p.is.none_folded; many = p.is.many; used = p.is.used; short = p.is.short; followed = p.is.followed; read = p.is.read };
         roots = p.roots;
       };
     }

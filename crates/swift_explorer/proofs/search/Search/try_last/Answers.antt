@@ -99,6 +99,13 @@ note_broken-requires-clause-broken c =
     let own : arc_value c.keep-in-Ok-Broken.new.self.script ≡ arc_value c.args.self.now.script = ap arc_value c.in_ok-keep-in-Ok-Broken.ensures.keeps.grown.script in
     subst (λ (s : ScriptView). IsBrokenAfter s steps) (sym own) (subst (λ (s : ScriptView). IsBrokenAfter s steps) c.requires.followed.is.followed.script_is (c.in-Ok-Broken.ensures.broken c.in-Ok-Broken.field-0-is))
 
+pub note_broken-requires-clause-before : goal.note_broken-requires-clause-before
+note_broken-requires-clause-before c =
+    let z = c.keep-in-Ok-Broken.new.self in
+    let keeps = c.in_ok-keep-in-Ok-Broken.ensures.keeps in
+    let own : arc_value z.script ≡ arc_value c.args.self.now.script = ap arc_value keeps.grown.script in
+    subst (λ (s : ScriptView). IfSome z.broken (λ schedule. IsBrokenAfter s schedule.items)) (sym own) keeps.sound.broken
+
 pub follow_ahead-requires : goal.follow_ahead-requires
 follow_ahead-requires c =
     let x = c.args.self.now in

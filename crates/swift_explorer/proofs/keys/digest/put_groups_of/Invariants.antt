@@ -1,5 +1,0 @@
-use Rattle.swift_explorer.proofs.Prelude.{◌≡◌, ◌++◌, each_numbers, group_numbers, digest_of}
-use Rattle.swift_explorer.proofs.keys.digest.put_groups_of.Given as goal
-
-abbrev pub invariant-loop-place : goal.invariant-loop-place
-invariant-loop-place l = l.key.items ≡ l.initial.key.items ++ each_numbers group_numbers ((digest_of l.log).groups l.owner.0) l.place
