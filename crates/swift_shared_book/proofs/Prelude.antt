@@ -27,7 +27,7 @@ pub use Rattle.swift_shared_book.specs.LockSeat.{BadgeView, LockSeatView, MayJoi
 pub use Rattle.swift_shared_book.specs.LockStepsInside.{CarriesFor, Locks, SeatOf, Takes, Unlocks, free, given, with_known}
 pub use Rattle.swift_shared_book.specs.Shared.{BeginsTicket, BookLockView, BookSeatView, HasPlayed, HasTicket, IsInRun, OpenSeatView, RunsAtSeat, TicketedJobsView, after_turn, facts_in, is_there, newest, seat_of, tickets_view, view_in, with_ticket}
 pub use Rattle.swift_shared_book.specs.SharedInside.{HasTicketsOf, IsOneAtMost, oldest_first}
-pub use Rattle.swift_shared_book.specs.StepsInside.{KnowsRoot, MayGiveBack, knowing_record}
+pub use Rattle.swift_shared_book.specs.StepsInside.{BeginsNamed, CommitsHanded, CommitsNamed, KnowsRoot, MayGiveBack, ahead_in, knowing_record}
 pub use Rattle.swift_shared_book.specs.declared.lock.view.LockKnown.{LockKnown}
 pub use Rattle.swift_shared_book.specs.declared.opened.OpenBook.{OpenBook}
 pub use Rattle.swift_tasks.specs.Books.{BookView, IsEndOf, empty_book, end_of_frames, end_of_turn}

@@ -78,7 +78,7 @@ root_parted v w m n taken j makes same known job =
 
 -- a turn was applied
 
-made_are : (before after : List (JobView BodyView)) (made : List JobFacts) → map job_facts after ≡ map job_facts before ++ made → map job_facts (drop (length before) after) ≡ made
+pub made_are : (before after : List (JobView BodyView)) (made : List JobFacts) → map job_facts after ≡ map job_facts before ++ made → map job_facts (drop (length before) after) ≡ made
 made_are before after made is =
     sym (drop-map job_facts (length before) after) ∙ ap (drop (length before)) is ∙ ap (λ n. drop n (map job_facts before ++ made)) (sym (length-map before job_facts)) ∙ drop-append_seam (map job_facts before) made
 
@@ -93,7 +93,7 @@ known_is v taken a k rest r made accounts tickets is =
 abbrev pub IsPlayedIn : ScriptView → BookKnown → Option RecordView → List EffectView → ExitView → JobView BodyView → Type 0
 IsPlayedIn script v newest effects exit j = (r : RecordView) × (newest ≡ Some r) × (r.exit ≡ exit) × (r.effects ≡ effects) × HasPlayed script v j r
 
-job_applies : (held : Option BookFacts) (v : BookKnown) (b b' : BookView) (newest : Option RecordView) (effects : List EffectView) (exit : ExitView) (before after : List (JobView BodyView)) (j : JobView BodyView) → held ≡ Some (facts_of b)
+pub job_applies : (held : Option BookFacts) (v : BookKnown) (b b' : BookView) (newest : Option RecordView) (effects : List EffectView) (exit : ExitView) (before after : List (JobView BodyView)) (j : JobView BodyView) → held ≡ Some (facts_of b)
     → IsPlayedIn b.script v newest effects exit j → refusal_of_apply b.script b.log j effects exit ≡ None → IsEndOf b (map job_facts before) j effects exit b'.log b'.held (map job_facts after) → b'.script ≡ b.script
     → MayGiveBack v held (facts_of b') (λ _ w. w ≡ knowing_record newest (map job_facts (drop (length before) after)) v)
 job_applies held v b b' newest effects exit before after j is played may ends script =

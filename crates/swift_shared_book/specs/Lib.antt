@@ -2,6 +2,7 @@ pub mod Shared
 pub mod StepsInside
 pub mod SharedInside
 pub mod Calls
+pub mod Commits
 pub mod Tickets
 pub mod LockRule
 pub mod LockSeat

@@ -33,7 +33,7 @@ use swift_turn::Body;
 use swift_types::{Env, RootId};
 
 // The jobs past the first `from` ones.
-fn jobs_from(jobs: &Vec<Job<Body>>, from: usize) -> &[Job<Body>]
+pub(crate) fn jobs_from(jobs: &Vec<Job<Body>>, from: usize) -> &[Job<Body>]
     requires { from ≤ vec_len jobs.now }
     ensures { result.now ≡ drop from jobs.now.items }
 {

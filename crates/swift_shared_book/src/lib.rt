@@ -6,6 +6,9 @@
 // The calls of the book under its lock.
 mod calls;
 
+// Turns that were played before they begin.
+mod commits;
+
 // How what was done to the book is given back.
 mod giving;
 
@@ -39,6 +42,7 @@ mod shelf;
 // A job with its ticket.
 mod ticketed;
 
+pub use commits::Committed;
 pub use jobs::TicketedJobs;
 pub use name::BookName;
 pub use opened::{OpenBook, OpenSeat};

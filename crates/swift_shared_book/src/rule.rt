@@ -1,6 +1,6 @@
 //! What holds of the book and of what all seats know, and what the calls tell.
 
-ghost use Rattle.std.specs.Prelude.{◌≡◌, ℕ, Option, Some, None, IfSome};
+ghost use Rattle.std.specs.Prelude.{◌≡◌, ℕ, List, [], Option, Some, None, IfSome};
 ghost use Rattle.swift_types.specs.declared.env.Env.{Env};
 ghost use Rattle.swift_history.specs.Orderly.{has_last_root};
 ghost use Rattle.swift_history.specs.TurnEnds.{JobFacts};
@@ -9,7 +9,8 @@ ghost use Rattle.swift_course.specs.Reports.{Knows};
 ghost use Rattle.swift_course.specs.Rule.{HoldsOf};
 ghost use Rattle.swift_course.specs.Seats.{account_parted, first_view, gathered, maker_left, some_left, some_parted};
 ghost use Rattle.swift_shared_book.specs.Shared.{BeginsTicket, IsInRun};
-ghost use Rattle.swift_shared_book.specs.StepsInside.{KnowsRoot};
+ghost use Rattle.swift_journal.specs.Records.{RecordView};
+ghost use Rattle.swift_shared_book.specs.StepsInside.{CommitsNamed, KnowsRoot};
 
 use crate::lock::{Join, Lesson, LockRule, Split, UnlockOutcome};
 use std::marker::{Brand, PhantomData};
@@ -76,6 +77,32 @@ pub struct BookApplies<K> {
 
 impl<K: Told> UnlockOutcome<BookImage, Known> for BookApplies<K> {
     ghost then = { λ _ _ _ known'. known'.view ≡ K.view };
+}
+
+/// Names the job whose turn has begun and was applied at once, the record of the turn, and the jobs that it has made, in proofs alone.
+pub trait NamesCommit {
+    ghost job: { Option JobFacts };
+
+    ghost written: { Option RecordView };
+
+    ghost made: { List JobFacts };
+}
+
+impl NamesCommit for Brand {
+    ghost job = { None };
+
+    ghost written = { None };
+
+    ghost made = { [] };
+}
+
+/// A turn has begun, and was applied.
+pub struct BookCommits<K> {
+    of: PhantomData<K>,
+}
+
+impl<K: NamesCommit> UnlockOutcome<BookImage, Known> for BookCommits<K> {
+    ghost then = { λ known taken _ known'. CommitsNamed K.job K.written K.made known.view taken.facts known'.view };
 }
 
 /// A root was added.

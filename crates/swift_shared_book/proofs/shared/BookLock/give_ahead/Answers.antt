@@ -1,0 +1,15 @@
+use Rattle.swift_shared_book.proofs.Prelude.{sym, subst, Option, Env, JobFacts, facts_of, newest, MayGiveBack, OpenBook, BeginsNamed, ahead_in}
+use Rattle.swift_shared_book.proofs.RuleKept.{unlocks}
+use Rattle.swift_shared_book.proofs.shared.BookLock.give_ahead.Goals as goal
+
+pub unlock-requires-clause-rule : goal.unlock-requires-clause-rule
+unlock-requires-clause-rule g c =
+    let s = c.given.inside.0.1.0.seat in
+    let b = c.args.given in
+    let named = g.K.NamesBegun in
+    let may =
+    subst (λ (o : Option JobFacts). MayGiveBack b.seat.knows b.seat.taken (facts_of b.book.value) (BeginsNamed o named.env b.seat.knows)) (sym c.requires.name.0)
+    (subst (λ (o : Option Env). MayGiveBack b.seat.knows b.seat.taken (facts_of b.book.value) (BeginsNamed (ahead_in (newest c.args.journal.now) c.args.place.now) o b.seat.knows)) (sym c.requires.name.1) c.requires.gives)
+    in
+    unlocks s.held s.known _ (BeginsNamed named.job named.env s.known.view)
+    (subst (λ (o : OpenBook). MayGiveBack o.seat.knows o.seat.taken (facts_of o.book.value) (BeginsNamed named.job named.env o.seat.knows)) (sym c.given.view_is) may)
