@@ -1,5 +1,5 @@
 -- What each call keeps of the account of an executor.
-use Rattle.swift_executor.proofs.Prelude.{◌≡◌, ℕ, suc, ◌==◌, ℤ, Bool, true, false, if◌then◌else◌, Option, Some, None, List, [], ◌∷◌, ◌++◌, length, map, refl, ap, sym, subst, ◌∙◌, inl, inr, append_assoc, map-append, IsPermutation-append, IsPermutation-append_comm, IsPermutation-append_left, IsPermutation-append_right, IsPermutation-cons, IsPermutation-map, IsPermutation-middle, IsPermutation-refl, IsPermutation-sym, IsPermutation-to_front, IsPermutation-trans, IsPermutation, TaskId, FOLD, BodyView, JobView, CheckpointView, folded_of, folds, RecordView, Event, JobFacts, BookView, job_facts, AreTaken, HasTaken, SeenJob, chosen_jobs, folded_named, job_named, job_seen, ready_jobs, record_seen, Adds, Forwards, ReadyJobsView, ReadyJob, ready_job, BeginsChosen, Chooses, ChosenView, ExecStateView, HasChosen, HasNone, Journals, LacksTask, Plays, PutsBack, ChosenStageView, played, before_turn, record_by}
+use Rattle.swift_executor.proofs.Prelude.{◌≡◌, ℕ, suc, ◌==◌, ℤ, Bool, true, false, if◌then◌else◌, Option, Some, None, List, [], ◌∷◌, ◌++◌, length, map, refl, ap, sym, subst, ◌∙◌, inl, inr, append_assoc, map-append, IsPermutation-append, IsPermutation-append_comm, IsPermutation-append_left, IsPermutation-append_right, IsPermutation-cons, IsPermutation-map, IsPermutation-middle, IsPermutation-refl, IsPermutation-sym, IsPermutation-to_front, IsPermutation-trans, IsPermutation, TaskId, FOLD, BodyView, JobView, CheckpointView, folded_of, folds, RecordView, Event, JobFacts, BookView, job_facts, AreTaken, HasTaken, SeenJob, chosen_jobs, folded_named, job_named, job_seen, ready_jobs, record_seen, Adds, Forwards, ReadyJobsView, ReadyJob, ready_job, BeginsChosen, Chooses, ChoosesAhead, ChosenView, ExecStateView, HasChosen, HasNone, Journals, LacksTask, Plays, PutsBack, ChosenStageView, played, before_turn, record_by}
 use Rattle.std.proofs.lemmas.List.{append-nil}
 
 module _ {X : Type 0} where
@@ -177,6 +177,15 @@ accepted taken job old new was adds same =
 pub chose : (taken : List JobFacts) (log : List Event) (task : TaskId) (old new : ExecStateView) → HasTaken taken old → old.chosen ≡ None → Chooses log old new task → HasTaken taken new
 chose taken log task old new was free h =
     let ready = record old.ready { front = new.ready.front; levels = new.ready.levels } in
+    let j = job_facts h.job in
+    let less = front_less old.ready ready (ready_job h.job h.arrival) h.rest refl in
+    subst (HasTaken taken) (sym h.same)
+    (moved taken (ready_jobs old.ready ++ []) (ready_jobs ready ++ j ∷ []) old.journal old.checkpoint (taken_with taken old None was free)
+    (one_out (ready_jobs old.ready ++ []) (ready_jobs old.ready) (ready_jobs ready) [] j (IsPermutation-refl (ready_jobs old.ready ++ [])) less))
+
+pub chose_ahead : (taken : List JobFacts) (task : TaskId) (old new : ExecStateView) → HasTaken taken old → old.chosen ≡ None → ChoosesAhead old new task → HasTaken taken new
+chose_ahead taken task old new was free h =
+    let ready = record old.ready { front = new.ready.front } in
     let j = job_facts h.job in
     let less = front_less old.ready ready (ready_job h.job h.arrival) h.rest refl in
     subst (HasTaken taken) (sym h.same)

@@ -4,6 +4,8 @@ pub mod Visits
 pub mod OneRecord
 pub mod VisitsDone
 pub mod VisitSteps
+pub mod PlayedAhead
+pub mod Committed
 pub mod AccountKept
 pub mod Removed
 pub mod ReadyKept

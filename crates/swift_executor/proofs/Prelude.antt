@@ -20,6 +20,8 @@ pub use Rattle.swift_course.specs.Steps.{order_applied, order_begun, with_record
 pub use Rattle.swift_course.specs.Views.{Account, BookFacts, BookKnown, Ticket, TurnOrder, at_rest, fresh, under_way}
 pub use Rattle.swift_events.specs.declared.event.Event.{Event}
 pub use Rattle.swift_executor.specs.Account.{AreTaken, HasTaken, SeenJob, chosen_jobs, folded_named, job_named, job_seen, ready_jobs, record_seen}
+pub use Rattle.swift_executor.specs.PlayedAheadInside.{Afresh, AppliesThere, BeginsElse, BeginsThere, ChoosesAhead, CommitsChosen, HasAhead, IsCurrent, IsPlayedIn, PlaysAhead, RunsAhead, StaysThere, StaysWhole, begun_as}
+pub use Rattle.swift_executor.specs.AheadInside.{CommitsHere, IsThere, RewindsJob, StageIs}
 pub use Rattle.swift_executor.specs.Exec.{DeskView, ExecView, FoundFree, HasFound, HasLeft, HasTried, IfTurn, IsAt, IsOf, IsRunFault, has_found, image_of, name_of, seat_after, site_of, state_name}
 pub use Rattle.swift_executor.specs.FieldsInside.{FieldsAre}
 pub use Rattle.swift_executor.specs.Held.{GoesOn, GoesTogether, HasOpened, IsOfBook, IsResting, IsStateAt, order_at, order_of}

@@ -1,5 +1,5 @@
 -- What each call keeps of what the seat of an executor knows.
-use Rattle.swift_executor.proofs.Prelude.{◌≡◌, ℕ, suc, ◌≤◌, ◌==◌, ℤ, Bool, true, false, if◌then◌else◌, Option, Some, None, IfSome, List, [], ◌∷◌, ◌++◌, length, map, take, take_all, drop, replicate, get_or, refl, ap, sym, subst, ◌∙◌, append_assoc, arith, inl, inr, is_some, nat_lt, false≢true, length-append, map-append, take-append-le, All-head, IsPermutation-cons, IsPermutation-map, IsPermutation-refl, IsPermutation-sym, IsPermutation-trans, IsPermutation, Env, TaskId, FOLD, TASKS, Resume, ScriptView, actor_executor, executor_start, method_actor, FrameView, EffectView, ExitView, calling, asking_next, closing, yielding, returning, failing, BodyView, HasFirst, IsTurnOf, left, JobView, replay-append, FoldedView, folded_of, folds, RecordView, IsLawfulRecord, LawfulGrows, fields_after, replay, Event, AreLevels, HaveStayed, IsLevel, JobFacts, job_facts, frames_executor, Account, BookKnown, Ticket, TurnOrder, at_rest, fresh, order_applied, order_begun, with_record, with_turn_begun, BeginsTicket, BookSeatView, HasTicket, RunsAtSeat, after_turn, knowing, with_ticket, ready_jobs, FreeAreSeen, Adds, AreAtMost, AreHigher, Forwards, HaveCounted, ReadyJobsView, level_at, ready_job, AccountsFor, AreTicketsAt, AreTicketsOf, HaveSeen, IsFirst, IsOpened, IsSeatFor, seen_by, BelongsTo, Chooses, ChosenView, ExecStateView, HasChosen, HasNone, IsChosen, ExecInvariant, LacksTask, Plays, PutsBack, ChosenStageView, picked, begun, played, before_turn, checkpoint_with, frame_after, journal_with, new_executor, record_by}
+use Rattle.swift_executor.proofs.Prelude.{◌≡◌, ℕ, suc, ◌≤◌, ◌==◌, ℤ, Bool, true, false, if◌then◌else◌, Option, Some, None, IfSome, List, [], ◌∷◌, ◌++◌, length, map, take, take_all, drop, replicate, get_or, refl, ap, sym, subst, ◌∙◌, append_assoc, arith, inl, inr, is_some, nat_lt, false≢true, length-append, map-append, take-append-le, All-head, IsPermutation-cons, IsPermutation-map, IsPermutation-refl, IsPermutation-sym, IsPermutation-trans, IsPermutation, Env, TaskId, FOLD, TASKS, Resume, ScriptView, actor_executor, executor_start, method_actor, FrameView, EffectView, ExitView, calling, asking_next, closing, yielding, returning, failing, BodyView, HasFirst, IsTurnOf, left, JobView, replay-append, FoldedView, folded_of, folds, RecordView, IsLawfulRecord, LawfulGrows, fields_after, replay, Event, AreLevels, HaveStayed, IsLevel, JobFacts, job_facts, frames_executor, Account, BookKnown, Ticket, TurnOrder, at_rest, fresh, order_applied, order_begun, with_record, with_turn_begun, BeginsTicket, BookSeatView, HasTicket, RunsAtSeat, after_turn, knowing, with_ticket, ready_jobs, FreeAreSeen, Adds, AreAtMost, AreHigher, ChoosesAhead, Forwards, HaveCounted, ReadyJobsView, level_at, ready_job, AccountsFor, AreTicketsAt, AreTicketsOf, HaveSeen, IsFirst, IsOpened, IsSeatFor, seen_by, BelongsTo, Chooses, ChosenView, ExecStateView, HasChosen, HasNone, IsChosen, ExecInvariant, LacksTask, Plays, PutsBack, ChosenStageView, picked, begun, played, before_turn, checkpoint_with, frame_after, journal_with, new_executor, record_by}
 use Rattle.std.specs.Prelude.{All}
 use Rattle.std.proofs.lemmas.Bool.Decides.{nat_tests}
 use Rattle.std.proofs.lemmas.List.{append-nil}
@@ -108,6 +108,21 @@ chose_knows log task old new seat is free h =
       tickets = IsPermutation-trans (jobs_of seat.knows.tickets) (ready_jobs old.ready) (job_facts h.job ∷ ready_jobs ready) (free_tickets old seat is free) less;
       seen = is.seen;
       levels = still_counted (take old.ready.counted is.account.seen) old.ready.levels new.ready.levels (higher_rises old.ready.levels h.picks.given new.ready.levels h.picks.higher) is.levels;
+    })
+
+-- a job that is chosen by the levels that were given before
+pub ahead_knows : (task : TaskId) (old new : ExecStateView) (seat : BookSeatView) → IsSeatFor old seat → old.chosen ≡ None → ChoosesAhead old new task → IsSeatFor new seat
+ahead_knows task old new seat is free h =
+    let ready = record old.ready { front = new.ready.front } in
+    let chosen : ChosenView = record { job = h.job; arrival = h.arrival; stage = picked } in
+    let less = front_less old.ready ready (ready_job h.job h.arrival) h.rest refl in
+    subst (λ (v : ExecStateView). IsSeatFor v seat) (sym h.same)
+    (record {
+      here = is.here;
+      account = same_account old seat.knows ready (Some chosen) seat.knows.tickets is.account;
+      tickets = IsPermutation-trans (jobs_of seat.knows.tickets) (ready_jobs old.ready) (job_facts h.job ∷ ready_jobs ready) (free_tickets old seat is free) less;
+      seen = is.seen;
+      levels = is.levels;
     })
 
 pub lacked_knows : (log : List Event) (old new : ExecStateView) (seat : BookSeatView) → IsSeatFor old seat → old.chosen ≡ None → LacksTask log old new → IsSeatFor new seat

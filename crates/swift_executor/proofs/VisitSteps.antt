@@ -57,7 +57,7 @@ taken_started taken worker task knows old new free s was =
     subst (HasTaken taken) (sym b.given) (started taken s.book b.begins.book_after worker s.picked b.begun (chose taken s.book.log task old s.picked was free s.chooses) b.begins.turn)
 
 -- only the jobs have changed, none is chosen, and none is lost
-stays_with : (r : TakenView) (new : ExecStateView) (seat : BookSeatView) (is_orderly : Bool) → GoesTogether r → seat.lock ≡ r.seat.lock → records_in seat.knows ≡ records_in r.seat.knows → OnlyJobs r.state new → new.chosen ≡ None
+pub stays_with : (r : TakenView) (new : ExecStateView) (seat : BookSeatView) (is_orderly : Bool) → GoesTogether r → seat.lock ≡ r.seat.lock → records_in seat.knows ≡ records_in r.seat.knows → OnlyJobs r.state new → new.chosen ≡ None
     → HasTaken r.taker.taken new → IsSeatFor new seat → KeepsOrder is_orderly at_rest seat → Done (HasStayed r) (taken_of new r.taker seat is_orderly)
 stays_with r new seat is_orderly t lock records jobs none taken known keeps =
     let site = site_stays r.seat.lock r.state new jobs in

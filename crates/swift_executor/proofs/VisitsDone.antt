@@ -1,5 +1,6 @@
 -- What the parts of a visit have done together.
-use Rattle.swift_executor.proofs.Prelude.{◌≡◌, ℕ, ◌*◌, ◌<◌, Option, Some, None, Result, Ok, Err, IfOk, IfErr, OnErr, List, ◌∷◌, ◌⊎◌, inl, inr, refl, ap, sym, subst, ◌∙◌, BookKnown, JobFacts, ScriptView, facts_of, IsInRun, BookView, BookFault, DeskView, FoundFree, HasFound, HasLeft, HasTried, IfTurn, IsAt, IsRunFault, image_of, seat_after, InboxView, IsRefusal, fault_of, ChosenView, refusal_to_apply, TakenView, Fails, HasMoved, HasRun, HasStayed, HasStopped, IsFree, IsNotBegun, IsNotEnded, IsRefused, Leaves, RunsNone, RunsTurn, Visited, Visits, ExecFault, Memory, Worker, Full, Refused, Spent, StateName}
+use Rattle.swift_executor.proofs.Prelude.{◌≡◌, ℕ, ◌*◌, ◌<◌, Option, Some, None, Result, Ok, Err, IfOk, IfErr, OnErr, List, ◌∷◌, ◌⊎◌, inl, inr, refl, ap, sym, subst, ◌∙◌, BookKnown, JobFacts, ScriptView, facts_of, IsInRun, BookView, BookFault, DeskView, FoundFree, HasFound, HasLeft, HasTried, IfTurn, IsAt, IsRunFault, image_of, seat_after, InboxView, IsRefusal, fault_of, ChosenView, refusal_to_apply, TakenView, Fails, HasMoved, HasRun, HasStayed, HasStopped, IsFree, IsNotBegun, IsNotEnded, IsRefused, Leaves, RunsNone, RunsTurn, Visited, Visits, ExecFault, Memory, Worker, Full, Refused, Spent, StateName, Afresh, StaysWhole}
+use Rattle.swift_executor.proofs.VisitSteps.{stays_both}
 use Rattle.swift_tasks.specs.declared.fault.BookFault.TheVariants as book
 use Rattle.swift_word.specs.Seat.{WordSeatView, last_found, left}
 use Rattle.swift_executor.specs.declared.ran.VisitOutcome.{VisitOutcome}
@@ -44,23 +45,29 @@ pub record HasReady (i : InboxView) (old : List StateImage) (s : WordSeatView St
   pub at : IsAt i ready.taker ready.seat ready.state
   pub accepts : HasStayed took ready
 
+-- where no turn was run, the state is that of the same executor
+still_at : (i : InboxView) (old new : TakenView) → IsAt i old.taker old.seat old.state → StaysWhole old new → IsAt i new.taker new.seat new.state
+still_at i old new at whole =
+    let name = whole.stays.goes_on.0 in
+    (ap (λ (n : StateName). n.inbox.inbox) name ∙ at.0, ap (λ (n : StateName). n.site) name ∙ at.1, whole.is_of at.2)
+
 module _ (i : InboxView) (d d' : DeskView) (took ready : TakenView) (s s' : WordSeatView StateName StateImage) (r : HasReady i d.moved s took ready) (moves : d'.moved ≡ s'.moved) where
   -- what was given back then
   moved_by : (P : TakenView → TakenView → Type 0) (after : ℕ → TakenView → WordSeatView StateName StateImage → WordSeatView StateName StateImage)
-      → (l : Leaves i (P ready) after s s') → s'.moved ≡ image_of l.gave ∷ s.moved → HasMoved i d.moved d'.moved (Visited i P)
+      → (l : Leaves i (Afresh P ready) after s s') → s'.moved ≡ image_of l.gave ∷ s.moved → HasMoved i d.moved d'.moved (Visited i P)
   moved_by P after l gave = record {
     took = took;
     gave = l.gave;
     moved = moves ∙ gave ∙ ap (λ (m : List StateImage). image_of l.gave ∷ m) r.moved;
     taken = r.free;
     given = l.given;
-    holds = record { ready = ready; none = r.accepts.goes_on.1; at = r.at; accepts = r.accepts; does = l.holds };
+    holds = record { ready = l.holds.ready; none = l.holds.whole.stays.goes_on.1; at = still_at i ready l.holds.ready r.at l.holds.whole; accepts = stays_both took ready l.holds.ready r.accepts l.holds.whole.stays; does = l.holds.does };
   }
 
   pub visited : (worker pending : ℕ) (jobs jobs' : List JobFacts) (ran : Result VisitOutcome ExecFault) → d'.found ≡ s'.found → s.found ≡ 2 * pending ∷ d.found
-      → IfOk ran (λ ran. Leaves i (HasRun worker pending jobs jobs' ran ready) (seat_after ran) s s') → IfOk ran (λ ran. Visits i worker jobs jobs' ran d d')
+      → IfOk ran (λ ran. Leaves i (Afresh (HasRun worker pending jobs jobs' ran) ready) (seat_after ran) s s') → IfOk ran (λ ran. Visits i worker jobs jobs' ran d d')
   visited worker pending jobs jobs' (Ok (Turn task more)) found begun l = moved_by (RunsTurn worker task jobs jobs') (seat_after (Turn task more)) l (ap (λ (x : WordSeatView StateName StateImage). x.moved) l.seat)
-  visited worker pending jobs jobs' (Ok Busy) found begun l = absurd l.holds
+  visited worker pending jobs jobs' (Ok Busy) found begun l = absurd l.holds.does
   visited worker pending jobs jobs' (Ok (Nothing more)) found begun l =
       let n = last_found s' in
       let free : FoundFree d.found d'.found pending n = found ∙ ap (λ (x : WordSeatView StateName StateImage). x.found) l.seat ∙ ap (λ (xs : List ℕ). n ∷ xs) begun in
@@ -79,24 +86,24 @@ module _ (i : InboxView) (d d' : DeskView) (took ready : TakenView) (s s' : Word
   not_worker (inl e) = subst is_worker e tt
   not_worker (inr e) = subst is_worker e.1 tt
 
-  gives_back : (worker : ℕ) (fault : ExecFault) → Leaves i (IsRefused worker fault ready) (λ n x. left n (image_of x)) s s' → HasMoved i d.moved d'.moved (Visited i (IsRefused worker fault))
+  gives_back : (worker : ℕ) (fault : ExecFault) → Leaves i (Afresh (IsRefused worker fault) ready) (λ n x. left n (image_of x)) s s' → HasMoved i d.moved d'.moved (Visited i (IsRefused worker fault))
   gives_back worker fault l = moved_by (IsRefused worker fault) (λ n x. left n (image_of x)) l (ap (λ (x : WordSeatView StateName StateImage). x.moved) l.seat)
 
   -- what its steps on the word found
   pub has_found : (worker pending : ℕ) (jobs jobs' : List JobFacts) (ran : Result VisitOutcome ExecFault) → d'.found ≡ s'.found → s.found ≡ 2 * pending ∷ d.found
-      → IfOk ran (λ ran. Leaves i (HasRun worker pending jobs jobs' ran ready) (seat_after ran) s s') → IfOk ran (λ ran. HasLeft ran (last_found s')) → IfOk ran (IfTurn (λ task. 0 < pending)) → IfOk ran (λ ran. HasFound ran d.found d'.found)
+      → IfOk ran (λ ran. Leaves i (Afresh (HasRun worker pending jobs jobs' ran) ready) (seat_after ran) s s') → IfOk ran (λ ran. HasLeft ran (last_found s')) → IfOk ran (IfTurn (λ task. 0 < pending)) → IfOk ran (λ ran. HasFound ran d.found d'.found)
   has_found worker pending jobs jobs' (Ok (Turn task more)) found begun l left some =
       (pending, last_found s', found ∙ ap (λ (x : WordSeatView StateName StateImage). x.found) l.seat ∙ ap (λ (xs : List ℕ). last_found s' ∷ xs) begun, some, left)
-  has_found worker pending jobs jobs' (Ok Busy) found begun l left some = absurd l.holds
+  has_found worker pending jobs jobs' (Ok Busy) found begun l left some = absurd l.holds.does
   has_found worker pending jobs jobs' (Ok (Nothing more)) found begun l left some =
       (pending, last_found s', found ∙ ap (λ (x : WordSeatView StateName StateImage). x.found) l.seat ∙ ap (λ (xs : List ℕ). last_found s' ∷ xs) begun, left)
   has_found worker pending jobs jobs' (Err fault) found begun l left some = tt
 
   pub has_tried : (worker pending : ℕ) (ran : Result VisitOutcome ExecFault) → d'.found ≡ s'.found → s.found ≡ 2 * pending ∷ d.found
-      → IfErr ran (λ fault. Leaves i (IsRefused worker fault ready) (λ n x. left n (image_of x)) s s') → OnErr ran (0 < pending) → IfErr ran (λ fault. HasTried fault d.found d'.found)
+      → IfErr ran (λ fault. Leaves i (Afresh (IsRefused worker fault) ready) (λ n x. left n (image_of x)) s s') → OnErr ran (0 < pending) → IfErr ran (λ fault. HasTried fault d.found d'.found)
   has_tried worker pending (Ok ran) found begun l some = tt
   has_tried worker pending (Err fault) found begun l some =
-      by fault (refused_fault worker fault ready l.gave l.holds) (pending, last_found s', found ∙ ap (λ (x : WordSeatView StateName StateImage). x.found) l.seat ∙ ap (λ (xs : List ℕ). last_found s' ∷ xs) begun, some)
+      by fault (refused_fault worker fault l.holds.ready l.gave l.holds.does) (pending, last_found s', found ∙ ap (λ (x : WordSeatView StateName StateImage). x.found) l.seat ∙ ap (λ (xs : List ℕ). last_found s' ∷ xs) begun, some)
     where
       by : (fault : ExecFault) → IsRunFault fault → (pending n : ℕ) × FoundFree d.found d'.found pending n × (0 < pending) → HasTried fault d.found d'.found
       by Worker is so = absurd (not_worker is)
@@ -105,9 +112,9 @@ module _ (i : InboxView) (d d' : DeskView) (took ready : TakenView) (s s' : Word
       by (Refused cause) is so = so
       by Spent is so = so
 
-  pub failed : (worker : ℕ) (ran : Result VisitOutcome ExecFault) → IfErr ran (λ fault. Leaves i (IsRefused worker fault ready) (λ n x. left n (image_of x)) s s') → IfErr ran (λ fault. Fails i worker fault d d')
+  pub failed : (worker : ℕ) (ran : Result VisitOutcome ExecFault) → IfErr ran (λ fault. Leaves i (Afresh (IsRefused worker fault) ready) (λ n x. left n (image_of x)) s s') → IfErr ran (λ fault. Fails i worker fault d d')
   failed worker (Ok ran) l = tt
-  failed worker (Err Worker) l = absurd (not_worker (refused_fault worker Worker ready l.gave l.holds))
+  failed worker (Err Worker) l = absurd (not_worker (refused_fault worker Worker l.holds.ready l.gave l.holds.does))
   failed worker (Err Memory) l = gives_back worker Memory l
   failed worker (Err Full) l = gives_back worker Full l
   failed worker (Err (Refused cause)) l = gives_back worker (Refused cause) l

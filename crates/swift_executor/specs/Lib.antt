@@ -1,4 +1,6 @@
 pub mod Account
+pub mod PlayedAheadInside
+pub mod AheadInside
 pub mod Exec
 pub mod FieldsInside
 pub mod Held

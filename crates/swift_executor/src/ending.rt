@@ -109,6 +109,15 @@ fn has_last_root(script: &Script, book: &Book) -> bool
     roots == 0 || book.origin(TaskId((roots - 1) as u32)).is_some()
 }
 
+// Whether turns that have begun in order still do, where one more begins in this book: the last root is there.
+pub(crate) fn still_orderly(was: bool, script: &Script, book: &Book) -> bool
+    requires { book.now.script ≡ script.now }
+    ensures before { result ≡ true → was ≡ true }
+    ensures there { result ≡ true → has_last_root book.now.script book.now.log ≡ true }
+{
+    was && has_last_root(script, book)
+}
+
 impl ExecState {
     // Whether turns that have begun in order still do, where one more begins in this book: the last root is there.
     pub(crate) fn stays_orderly(&self, was: bool, book: &Book) -> bool

@@ -25,6 +25,10 @@ mod playing;
 mod turns;
 // A turn that begins, and one that ends.
 mod ending;
+// A turn that is committed after it was played.
+mod committing;
+// A turn of a visit that is played before it has begun.
+mod ahead;
 // The account of an executor.
 pub mod laws;
 

@@ -70,7 +70,7 @@ impl ExecState {
 }
 
 // Whether a task was made, by the levels of a book.
-fn is_known(given: &[u8], task: TaskId) -> bool
+pub(crate) fn is_known(given: &[u8], task: TaskId) -> bool
     ensures { result ≡ nat_lt 0 (level_at given.now task) }
 {
     let at = task.0 as usize;
@@ -78,7 +78,7 @@ fn is_known(given: &[u8], task: TaskId) -> bool
 }
 
 // Whether an executor of this kind takes its jobs in the order of arrival alone.
-fn takes_by_arrival(kind: ExecutorKind) -> bool
+pub(crate) fn takes_by_arrival(kind: ExecutorKind) -> bool
     ensures { result ≡ takes_by_arrival kind }
 {
     match kind {

@@ -145,6 +145,18 @@ impl<B> ReadyJobs<B> {
         }
     }
 
+    /// The priority at which the jobs of a task count.
+    pub fn priority(&self, task: TaskId) -> Priority {
+        priority_of(self.level(task))
+    }
+
+    /// Whether the levels of all tasks were given last when the log had so many events, or more.
+    pub fn has_counted(&self, changed: usize) -> bool
+        ensures { IsTrue result ↔ (changed ≤ self.now.counted) }
+    {
+        changed <= self.counted
+    }
+
     /// Counts each task at the greater of its level and the one that is given, by the number of the task. Where nothing
     /// has changed it is one comparison of bytes.
     pub fn count(&mut self, given: &[u8])

@@ -10,6 +10,7 @@ ghost use Rattle.swift_tasks.specs.Books.{IsJobOf};
 ghost use Rattle.swift_tasks.specs.declared.fault.BookFault.TheVariants.{Unknown};
 ghost use Rattle.swift_shared_book.specs.Shared.{BookSeatView, seat_of};
 ghost use Rattle.swift_word.specs.Seat.{ended, last_found, left};
+ghost use Rattle.swift_executor.specs.PlayedAheadInside.{Afresh};
 ghost use Rattle.swift_executor.specs.Exec.{HasFound, HasLeft, HasTried, IfNoTurn, IfTurn, IsAt, IsBookOf, IsDeskOf, IsRunFault, IsSeatAt, after_run, has_found, image_of, may_run, seat_after};
 ghost use Rattle.swift_executor.specs.Held.{HasOpened, IsOfBook, IsStateAt, KeepsJobs};
 ghost use Rattle.swift_executor.specs.Refusals.{IsRefusal};
@@ -17,6 +18,7 @@ ghost use Rattle.swift_executor.specs.Seats.{HaveSeen, IsSeatFor, KeepsOrder, re
 ghost use Rattle.swift_executor.specs.State.{Chooses, ExecStateView, HasChosen, HasNone, IsBegun, LacksTask, PutsBack, refusal_to_begin};
 ghost use Rattle.swift_executor.specs.Visits.{BeginsIn, Fails, FindsNone, Finishes, HasBegun, HasRun, HasStayed, IsFree, IsNotBegun, IsNotEnded, IsRefused, Leaves, RunsTurn, Visits};
 
+use crate::ahead::run_turn;
 use crate::desk::Desk;
 use crate::exec::Exec;
 use crate::fault::ExecFault;
@@ -175,7 +177,7 @@ where
 }
 
 // Plays the turn that has begun, and journals it. Where it is put back, the next one may begin while it is under way.
-fn finish_one<R: Wait>(
+pub(crate) fn finish_one<R: Wait>(
     rt: &R,
     held: &mut TakenState,
     book: &BookLock,
@@ -201,7 +203,7 @@ fn finish_one<R: Wait>(
 }
 
 // Runs a turn of the job that comes first. None where no job is ready.
-fn turn_one<R, G>(
+pub(crate) fn turn_one<R, G>(
     rt: &R,
     held: &mut TakenState,
     executor: ExecId,
@@ -286,10 +288,10 @@ impl Exec {
         requires free { held.value.state.chosen ≡ None }
         requires book { IsBookOf self.now book.now }
         requires jobs { jobs.old.book ≡ book.now.id }
-        ensures ran { IfOk result (λ ran. Leaves self.now.inbox (HasRun worker found (map job_facts jobs.old.jobs) (map job_facts jobs.new.jobs) ran held.value) (seat_after ran) seat.old seat.new) }
+        ensures ran { IfOk result (λ ran. Leaves self.now.inbox (Afresh (HasRun worker found (map job_facts jobs.old.jobs) (map job_facts jobs.new.jobs) ran) held.value) (seat_after ran) seat.old seat.new) }
         ensures left { IfOk result (λ ran. HasLeft ran (last_found seat.new)) }
         ensures pending { IfOk result (IfTurn (λ task. 0 < found)) }
-        ensures refused { IfErr result (λ fault. Leaves self.now.inbox (IsRefused worker fault held.value) (λ n r. left n (image_of r)) seat.old seat.new) }
+        ensures refused { IfErr result (λ fault. Leaves self.now.inbox (Afresh (IsRefused worker fault) held.value) (λ n r. left n (image_of r)) seat.old seat.new) }
         ensures tried { OnErr result (0 < found) }
         ensures fault { IfErr result IsRunFault }
         ensures free { (seat.new.name ≡ seat.old.name) × (seat.new.holding ≡ None) }
@@ -302,7 +304,10 @@ impl Exec {
             return Ok(VisitOutcome::Nothing(self.leave(seat, held)));
         }
         let executor = self.inbox.site().executor();
-        match turn_one(rt, &mut held, executor, worker, book, cx, jobs, gate) {
+        let workers = self.workers;
+        match run_turn(
+            rt, &mut held, executor, worker, workers, book, cx, jobs, gate,
+        ) {
             Ok(Some(task)) => Ok(VisitOutcome::Turn(task, self.end_turn(seat, held))),
             Ok(None) => Ok(VisitOutcome::Nothing(self.leave(seat, held))),
             Err(fault) => {
@@ -312,10 +317,11 @@ impl Exec {
         }
     }
 
-    /// Visits the executor (SE-0306): a worker takes its state, makes the jobs ready that are in the inbox, and runs a turn of the
-    /// one that comes first (`ExecState::choose`), where a job is pending. The book is locked while that job is chosen and its turn
-    /// begins, and while it is journalled, and not while it is played. The jobs that the turn makes come behind those that `jobs` has, with
-    /// their tickets; they are of an equal script and their bodies have not ended. `Busy` where another worker holds the executor.
+    /// Visits the executor (SE-0306): a worker takes its state, makes the jobs ready that are in the inbox, and runs a turn of the one that
+    /// comes first (`ExecState::choose`), where a job is pending. The book is locked while that job is chosen and its turn begins, and
+    /// while it is journalled, and not while it is played. With several workers the turn is played before it begins, as one that begins as
+    /// expected; where it does, the book is locked once. The jobs that the turn makes come behind those that `jobs` has, with their
+    /// tickets; they are of an equal script and their bodies have not ended. `Busy` where another worker holds the executor.
     ///
     /// The book is the executor's own: it is of the same script, so no scripts are compared, and the seat in the state knows the turns
     /// that it has taken from this executor. `jobs` are of that book.

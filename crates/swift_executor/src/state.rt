@@ -45,6 +45,8 @@ pub struct ExecState {
     pub(crate) checkpoint: Checkpoint,
     // The fields, and what a turn that was played and is not journalled yet has left. At other times that means nothing.
     pub(crate) played: PlayedTurn,
+    // How many turns are still to begin before they are played, after one that was played ahead in vain.
+    pub(crate) pauses: u32,
 }
 
 impl Model for ExecState {
@@ -86,6 +88,7 @@ impl ExecState {
             journal: Journal::new(alloc),
             checkpoint: Checkpoint::new(alloc, start),
             played: PlayedTurn::new(alloc, fields),
+            pauses: 0,
         })
     }
 
@@ -159,6 +162,7 @@ impl ExecState {
             journal,
             checkpoint,
             played,
+            pauses: _,
         } = self;
         match job {
             None => (ready.into_jobs(), journal, played.into_fields(), checkpoint),
