@@ -32,7 +32,7 @@ stands_more xs ys (tried {p = p} e a) = tried (get_more xs ys p _ e) (stands_mor
 stands_more xs ys (tried_optional {p = p} e a) = tried_optional (get_more xs ys p _ e) (stands_more xs ys a)
 
 pub grows_same : (r : Reader) → Grows r r
-grows_same r = record { refused = λ n. n; tokens = refl; more = []; exprs = sym (append-nil r.tree.exprs.items) }
+grows_same r = record { refused = λ n. n; tokens = refl; more = []; exprs = sym (append-nil r.tree.value.exprs.items) }
 
 pub grows_on : {r s t : Reader} → Grows r s → Grows s t → Grows r t
 grows_on {r} {s} {t} g h =
@@ -40,17 +40,17 @@ grows_on {r} {s} {t} g h =
       refused = λ n. g.refused (h.refused n);
       tokens = h.tokens ∙ g.tokens;
       more = g.more ++ h.more;
-      exprs = h.exprs ∙ (ap (λ xs. xs ++ h.more) g.exprs ∙ append_assoc r.tree.exprs.items g.more h.more);
+      exprs = h.exprs ∙ (ap (λ xs. xs ++ h.more) g.exprs ∙ append_assoc r.tree.value.exprs.items g.more h.more);
     }
 
 -- what stood at a place stands there still
-pub stands_on : {r s : Reader} {p : ℕ} {t : SwiftTree} → Grows r s → StandsAt r.tree.exprs.items p t → StandsAt s.tree.exprs.items p t
-stands_on {r} {s} {p} {t} g d = subst (λ xs. StandsAt xs p t) (sym g.exprs) (stands_more r.tree.exprs.items g.more d)
+pub stands_on : {r s : Reader} {p : ℕ} {t : SwiftTree} → Grows r s → StandsAt r.tree.value.exprs.items p t → StandsAt s.tree.value.exprs.items p t
+stands_on {r} {s} {p} {t} g d = subst (λ xs. StandsAt xs p t) (sym g.exprs) (stands_more r.tree.value.exprs.items g.more d)
 
 -- what was put has its place
-pub put_there : {r s : Reader} {f : ExprForm} {t p : ℕ} → IsPut r s f t p → slice_get s.tree.exprs.items p ≡ Some (record { form = f; token = t })
-put_there {r} {s} {f} {t} {p} d = rw (d.put, d.behind) (get_put r.tree.exprs.items (record { form = f; token = t }))
+pub put_there : {r s : Reader} {f : ExprForm} {t p : ℕ} → IsPut r s f t p → slice_get s.tree.value.exprs.items p ≡ Some (record { form = f; token = t })
+put_there {r} {s} {f} {t} {p} d = rw (d.put, d.behind) (get_put r.tree.value.exprs.items (record { form = f; token = t }))
 
 -- what stood at a place stands there still, behind one more
-pub stands_put : {r s : Reader} {f : ExprForm} {t p q : ℕ} {a : SwiftTree} → IsPut r s f t p → StandsAt r.tree.exprs.items q a → StandsAt s.tree.exprs.items q a
-stands_put {r} {s} {f} {t} {p} {q} {a} d there = subst (λ xs. StandsAt xs q a) (sym d.put) (stands_more r.tree.exprs.items (record { form = f; token = t } ∷ []) there)
+pub stands_put : {r s : Reader} {f : ExprForm} {t p q : ℕ} {a : SwiftTree} → IsPut r s f t p → StandsAt r.tree.value.exprs.items q a → StandsAt s.tree.value.exprs.items q a
+stands_put {r} {s} {f} {t} {p} {q} {a} d there = subst (λ xs. StandsAt xs q a) (sym d.put) (stands_more r.tree.value.exprs.items (record { form = f; token = t } ∷ []) there)

@@ -25,10 +25,10 @@ pub record Grows (before after : Reader) : Type 0 where
   pub refused : IsNone after.refused → IsNone before.refused
   pub tokens : after.tokens ≡ before.tokens
   pub more : List Expr
-  pub exprs : after.tree.exprs.items ≡ before.tree.exprs.items ++ more
+  pub exprs : after.tree.value.exprs.items ≡ before.tree.value.exprs.items ++ more
 
 -- One expression is put behind those that were there, and has this place.
 pub record IsPut (before after : Reader) (form : ExprForm) (token place : ℕ) : Type 0 where
   pub at : after.at ≡ before.at
-  pub behind : place ≡ length before.tree.exprs.items
-  pub put : after.tree.exprs.items ≡ before.tree.exprs.items ++ record { form = form; token = token } ∷ []
+  pub behind : place ≡ length before.tree.value.exprs.items
+  pub put : after.tree.value.exprs.items ≡ before.tree.value.exprs.items ++ record { form = form; token = token } ∷ []

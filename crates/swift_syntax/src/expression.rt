@@ -115,7 +115,7 @@ fn missing(reader: &mut Reader<'_>, rule: Rule) -> usize
 // Operands with operators between them that bind at least so tightly.
 #[cycle(expression)]
 fn operands(reader: &mut Reader<'_>, depth: u32, loosest: u32) -> usize
-    ensures spelled { IsNone reader.new.refused → Reads (SpellsOperands reader.new.tokens.now loosest) reader.new.tree.exprs.items reader.old.at reader.new.at result }
+    ensures spelled { IsNone reader.new.refused → Reads (SpellsOperands reader.new.tokens.now loosest) reader.new.tree.value.exprs.items reader.old.at reader.new.at result }
     ensures grows { Grows reader.old reader.new }
 {
     if depth == 0 {
@@ -204,7 +204,7 @@ fn refuse_numeral(reader: &mut Reader<'_>, is_covered: bool, operand: usize, pla
 // An operand with at most one prefix.
 #[cycle(expression)]
 fn prefixed(reader: &mut Reader<'_>, depth: u32) -> usize
-    ensures spelled { IsNone reader.new.refused → Reads (SpellsPrefixed reader.new.tokens.now) reader.new.tree.exprs.items reader.old.at reader.new.at result }
+    ensures spelled { IsNone reader.new.refused → Reads (SpellsPrefixed reader.new.tokens.now) reader.new.tree.value.exprs.items reader.old.at reader.new.at result }
     ensures grows { Grows reader.old reader.new }
 {
     if reader.is_sign(Sign::Minus) {
@@ -238,7 +238,7 @@ fn called(
     alone: ExprForm,
     name: usize,
 ) -> usize
-    ensures spelled { IsNone reader.new.refused → Reads (SpellsCalled reader.new.tokens.now receiver alone name) reader.new.tree.exprs.items reader.old.at reader.new.at result }
+    ensures spelled { IsNone reader.new.refused → Reads (SpellsCalled reader.new.tokens.now receiver alone name) reader.new.tree.value.exprs.items reader.old.at reader.new.at result }
     ensures grows { Grows reader.old reader.new }
 {
     if !opens_arguments(reader) {
@@ -252,7 +252,7 @@ fn called(
 // A name with what belongs to it.
 #[cycle(expression)]
 fn named(reader: &mut Reader<'_>, depth: u32) -> usize
-    ensures spelled { IsNone reader.new.refused → Reads (SpellsNamed reader.new.tokens.now) reader.new.tree.exprs.items reader.old.at reader.new.at result }
+    ensures spelled { IsNone reader.new.refused → Reads (SpellsNamed reader.new.tokens.now) reader.new.tree.value.exprs.items reader.old.at reader.new.at result }
     ensures grows { Grows reader.old reader.new }
 {
     let first = reader.take();
@@ -276,7 +276,7 @@ fn take_as(reader: &mut Reader<'_>, form: ExprForm) -> usize
 // An operand without a prefix.
 #[cycle(expression)]
 fn atom(reader: &mut Reader<'_>, depth: u32) -> usize
-    ensures spelled { IsNone reader.new.refused → Reads (SpellsAtom reader.new.tokens.now) reader.new.tree.exprs.items reader.old.at reader.new.at result }
+    ensures spelled { IsNone reader.new.refused → Reads (SpellsAtom reader.new.tokens.now) reader.new.tree.value.exprs.items reader.old.at reader.new.at result }
     ensures grows { Grows reader.old reader.new }
 {
     match reader.here().kind {
@@ -384,7 +384,7 @@ fn is_optional(reader: &mut Reader<'_>) -> bool
 // What `await` and `try` stand before.
 #[cycle(expression)]
 fn covered(reader: &mut Reader<'_>, depth: u32) -> usize
-    ensures spelled { IsNone reader.new.refused → Reads (SpellsExpr reader.new.tokens.now) reader.new.tree.exprs.items reader.old.at reader.new.at result }
+    ensures spelled { IsNone reader.new.refused → Reads (SpellsExpr reader.new.tokens.now) reader.new.tree.value.exprs.items reader.old.at reader.new.at result }
     ensures grows { Grows reader.old reader.new }
 {
     if depth == 0 {
@@ -407,7 +407,7 @@ fn covered(reader: &mut Reader<'_>, depth: u32) -> usize
 // Operands, perhaps with a choice.
 #[cycle(expression)]
 fn choice(reader: &mut Reader<'_>, depth: u32) -> usize
-    ensures spelled { IsNone reader.new.refused → Reads (SpellsChoice reader.new.tokens.now) reader.new.tree.exprs.items reader.old.at reader.new.at result }
+    ensures spelled { IsNone reader.new.refused → Reads (SpellsChoice reader.new.tokens.now) reader.new.tree.value.exprs.items reader.old.at reader.new.at result }
     ensures grows { Grows reader.old reader.new }
 {
     if depth == 0 {
@@ -441,7 +441,7 @@ fn take_choice(reader: &mut Reader<'_>, sign: Sign) -> usize
 
 /// An expression, perhaps with `await` and `try`. Its place.
 pub(crate) fn expression(reader: &mut Reader<'_>) -> usize
-    ensures spelled { IsNone reader.new.refused → Reads (SpellsExpr reader.new.tokens.now) reader.new.tree.exprs.items reader.old.at reader.new.at result }
+    ensures spelled { IsNone reader.new.refused → Reads (SpellsExpr reader.new.tokens.now) reader.new.tree.value.exprs.items reader.old.at reader.new.at result }
     ensures grows { Grows reader.old reader.new }
 {
     covered(reader, DEPTH)
@@ -468,7 +468,7 @@ pub(crate) fn call_arguments(reader: &mut Reader<'_>) -> usize {
 
 /// An operand of `..<` and `...`. Its place.
 pub(crate) fn bound(reader: &mut Reader<'_>) -> usize
-    ensures spelled { IsNone reader.new.refused → Reads (SpellsOperands reader.new.tokens.now 4) reader.new.tree.exprs.items reader.old.at reader.new.at result }
+    ensures spelled { IsNone reader.new.refused → Reads (SpellsOperands reader.new.tokens.now 4) reader.new.tree.value.exprs.items reader.old.at reader.new.at result }
     ensures grows { Grows reader.old reader.new }
 {
     operands(reader, DEPTH, 4)

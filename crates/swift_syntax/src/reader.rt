@@ -11,7 +11,7 @@ use crate::sign::Sign;
 use crate::token::{Token, TokenKind};
 use crate::tree::{Argument, Expr, ExprForm, Stmt, StmtForm, Tree, ValueType};
 use crate::word::Word;
-use std::alloc::Global;
+use std::alloc::{AllocError, Global};
 
 /// The tokens of a text, how far they are read, and what was read.
 #[derive(Drop)]
@@ -24,20 +24,28 @@ pub(crate) struct Reader<'a> {
     pub at: usize,
     /// The first refusal.
     pub refused: Option<Breach>,
-    /// What was read.
-    pub tree: Tree,
+    /// What was read. In a Box, since the prover spells out what a value holds in place wherever it is touched.
+    pub tree: Box<Tree>,
 }
 
 impl<'a> Reader<'a> {
     /// A reader before the first token.
-    pub(crate) fn new(alloc: Global, text: &'a [u8], tokens: &'a [Token]) -> Reader<'a> {
-        Reader {
+    ///
+    /// # Errors
+    ///
+    /// `AllocError` where there is no memory for an empty tree.
+    pub(crate) fn new(
+        alloc: Global,
+        text: &'a [u8],
+        tokens: &'a [Token],
+    ) -> Result<Reader<'a>, AllocError> {
+        Ok(Reader {
             text,
             tokens,
             at: 0,
             refused: None,
-            tree: Tree::new(alloc),
-        }
+            tree: Box::new(alloc, Tree::new(alloc))?,
+        })
     }
 
     /// The token at a place; the end of the text where there is none.

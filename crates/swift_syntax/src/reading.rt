@@ -20,8 +20,8 @@ use swift_types::limits::BYTES;
 pub struct ReadFile {
     /// Its tokens.
     pub tokens: Vec<Token>,
-    /// Its tree; what was read of it, where it is refused.
-    pub tree: Tree,
+    /// Its tree; what was read of it, where it is refused. In a Box, since the prover spells out what a value holds in place.
+    pub tree: Box<Tree>,
     /// The first rule that it breaks.
     pub refused: Option<Refusal>,
 }
@@ -48,7 +48,7 @@ fn declarations(reader: &mut Reader<'_>) {
 ///
 /// # Errors
 ///
-/// `AllocError` where there is no memory for the tokens. Where there is none for the tree, the file is refused.
+/// `AllocError` where there is no memory for the tokens or for an empty tree. Where there is none for more of the tree, the file is refused.
 pub fn read_file(alloc: Global, text: &[u8]) -> Result<ReadFile, AllocError>
     // The text consists of these tokens, and of no others (`one_reading`).
     ensures lexed { IfOk result (λ file. AreTokensOf text.now file.tokens.items) }
@@ -57,7 +57,7 @@ pub fn read_file(alloc: Global, text: &[u8]) -> Result<ReadFile, AllocError>
     ensures large { IfOk result (λ file. BYTES < length text.now → IsTooLarge (option_map (λ r. r.rule) file.refused)) }
 {
     let tokens = tokens(alloc, text)?;
-    let (tree, breach) = read_tokens(alloc, text, &tokens);
+    let (tree, breach) = read_tokens(alloc, text, &tokens)?;
     let refused = refusal_of(breach, text, &tokens);
     Ok(ReadFile {
         tokens,
@@ -79,17 +79,21 @@ fn refusal_of(breach: Option<Breach>, text: &[u8], tokens: &[Token]) -> Option<R
 }
 
 // The tree of these tokens, and the first rule that the text breaks.
-fn read_tokens(alloc: Global, text: &[u8], tokens: &[Token]) -> (Tree, Option<Breach>)
-    ensures large { BYTES < length text.now → IsTooLarge (option_map (λ b. b.rule) result.1) }
+fn read_tokens(
+    alloc: Global,
+    text: &[u8],
+    tokens: &[Token],
+) -> Result<(Box<Tree>, Option<Breach>), AllocError>
+    ensures large { IfOk result (λ read. BYTES < length text.now → IsTooLarge (option_map (λ b. b.rule) read.1)) }
 {
     if text.len() > BYTES {
         let breach = Breach {
             rule: Rule::TooLarge,
             token: 0,
         };
-        return (Tree::new(alloc), Some(breach));
+        return Ok((Box::new(alloc, Tree::new(alloc))?, Some(breach)));
     }
-    let mut reader = Reader::new(alloc, text, tokens);
+    let mut reader = Reader::new(alloc, text, tokens)?;
     declarations(&mut reader);
-    (reader.tree, reader.refused)
+    Ok((reader.tree, reader.refused))
 }

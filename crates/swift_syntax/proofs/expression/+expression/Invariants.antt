@@ -34,5 +34,5 @@ abbrev pub invariant-operands-loop : goal.invariant-operands-loop
 invariant-operands-loop l =
     record {
       grows : Grows l.fn.reader l.reader;
-      spelled : IsNone l.reader.refused → Reads (SpellsSome l.reader.tokens.now l.loosest) l.reader.tree.exprs.items l.fn.reader.at l.reader.at l.left;
+      spelled : IsNone l.reader.refused → Reads (SpellsSome l.reader.tokens.now l.loosest) l.reader.tree.value.exprs.items l.fn.reader.at l.reader.at l.left;
     }
