@@ -56,7 +56,7 @@ abbrev pub state_of : Lowering → State
 state_of l = record {
   text = l.text.now;
   tokens = l.tokens.now;
-  tree = l.tree.now;
+  tree = l.tree.now.value;
   instructions = l.code.instructions.items;
   values = l.code.values.items;
   operands = l.code.operands.items;

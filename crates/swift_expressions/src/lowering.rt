@@ -86,8 +86,8 @@ pub struct Lowering<'a> {
     pub text: &'a [u8],
     /// Its tokens.
     pub tokens: &'a [Token],
-    /// Its tree.
-    pub tree: &'a Tree,
+    /// Its tree. Behind a Box: the prover spells out what a reference leads to wherever a `Lowering` is touched, but not what is in a Box.
+    pub tree: &'a Box<Tree>,
     /// The lines of the tokens.
     pub lines: Lines,
     /// What was lowered.
@@ -126,7 +126,12 @@ pub fn setting_of(unit: usize, actor: usize) -> Setting {
 
 impl<'a> Lowering<'a> {
     /// Nothing of a file is lowered.
-    pub fn new(alloc: Global, text: &'a [u8], tokens: &'a [Token], tree: &'a Tree) -> Lowering<'a> {
+    pub fn new(
+        alloc: Global,
+        text: &'a [u8],
+        tokens: &'a [Token],
+        tree: &'a Box<Tree>,
+    ) -> Lowering<'a> {
         let (lines, refused) = match Lines::of(alloc, text, tokens) {
             Ok(lines) => (lines, None),
             Err(_) => (Lines::new(alloc), Some(NO_MEMORY)),

@@ -134,7 +134,7 @@ pub fn is_kept(lowering: &Lowering<'_>, name: usize) -> bool {
 
 /// The method at a place.
 pub fn method_at(lowering: &Lowering<'_>, place: usize) -> Option<MethodDecl>
-    ensures { result ≡ slice_get lowering.now.tree.now.methods.items place }
+    ensures { result ≡ slice_get lowering.now.tree.now.value.methods.items place }
 {
     lowering.tree.methods.get(place).copied()
 }

@@ -330,7 +330,7 @@ fn otherwise(
 // The operands of a call, each kept where a later one may change it.
 #[cycle(value)]
 fn lower_operands(lowering: &mut Lowering<'_>, first: usize, depth: u32) -> Operands
-    ensures hands { IsNone lowering.new.refused → Hands (length lowering.old.tree.now.arguments.items) (state_of lowering.old) first no_operands (state_of lowering.new) result }
+    ensures hands { IsNone lowering.new.refused → Hands (length lowering.old.tree.now.value.arguments.items) (state_of lowering.old) first no_operands (state_of lowering.new) result }
     ensures refused { KeepsRefusal lowering.old lowering.new }
 {
     let mut found = Operands::none();
@@ -397,7 +397,7 @@ pub fn expression(lowering: &mut Lowering<'_>, place: usize) -> Typed
 
 /// The operands of a call that stands in a statement, each kept where a later one may change it.
 pub fn call_operands(lowering: &mut Lowering<'_>, first: usize) -> Operands
-    ensures hands { IsNone lowering.new.refused → Hands (length lowering.old.tree.now.arguments.items) (state_of lowering.old) first no_operands (state_of lowering.new) result }
+    ensures hands { IsNone lowering.new.refused → Hands (length lowering.old.tree.now.value.arguments.items) (state_of lowering.old) first no_operands (state_of lowering.new) result }
     ensures refused { KeepsRefusal lowering.old lowering.new }
 {
     lower_operands(lowering, first, DEPTH)

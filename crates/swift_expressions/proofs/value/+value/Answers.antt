@@ -106,14 +106,14 @@ lower_operands-loop-preserved t c = record {
   hands = λ n3 s found h.
       let n2 = c.with-found.ensures.refused n3 in
       let n1 = c.keep_if-kept.ensures.refused n2 in
-      c.loop.invariant.hands (c.value-given.ensures.refused n1) s found (hands_on {n = length c.args.lowering.now.tree.now.arguments.items} (omega (arith, c.loop-test.true, c.len-end.ensures, c.args.lowering.now.tree.now.arguments.ok.0)) (sym c.in-Some.ensures) (c.value-given.ensures.lowers n1) (c.keep_if-kept.ensures.keeps n2) (c.with-found.ensures.state n3) c.with-found.ensures.found h);
+      c.loop.invariant.hands (c.value-given.ensures.refused n1) s found (hands_on {n = length c.args.lowering.now.tree.now.value.arguments.items} (omega (arith, c.loop-test.true, rw c.deref.ensures at c.len-end.ensures, c.args.lowering.now.tree.now.value.arguments.ok.0)) (sym c.in-Some.ensures) (c.value-given.ensures.lowers n1) (c.keep_if-kept.ensures.keeps n2) (c.with-found.ensures.state n3) c.with-found.ensures.found h);
 }
 
 pub lower_operands-returns-in_default-clause-hands : goal.lower_operands-returns-in_default-clause-hands
 lower_operands-returns-in_default-clause-hands t c = λ n. c.loop.invariant.hands n _ _ (lowered.no_more (sym c.in_default.ensures))
 
 pub lower_operands-returns-clause-hands : goal.lower_operands-returns-clause-hands
-lower_operands-returns-clause-hands t c = λ n. c.loop.invariant.hands n _ _ (hands_none {n = length c.args.lowering.now.tree.now.arguments.items} {i = c.loop.counter} (omega (arith, c.loop-test.false, c.len-end.ensures, c.args.lowering.now.tree.now.arguments.ok.0)))
+lower_operands-returns-clause-hands t c = λ n. c.loop.invariant.hands n _ _ (hands_none {n = length c.args.lowering.now.tree.now.value.arguments.items} {i = c.loop.counter} (omega (arith, c.loop-test.false, rw c.deref.ensures at c.len-end.ensures, c.args.lowering.now.tree.now.value.arguments.ok.0)))
 
 pub given_operands-returns-then-takes_operands-clause-hands : goal.given_operands-returns-then-takes_operands-clause-hands
 given_operands-returns-then-takes_operands-clause-hands t c = λ n. handed_where (sym c.if-takes_operands.true) (lowered.values (c.lower_operands.ensures.hands n))

@@ -42,5 +42,5 @@ abbrev pub invariant-lower_operands-loop : goal.invariant-lower_operands-loop
 invariant-lower_operands-loop l =
     record {
       refused : IsNone l.lowering.refused → IsNone l.fn.lowering.refused;
-      hands : IsNone l.lowering.refused → (t : State) (found : Operands) → Hands (length l.fn.lowering.tree.now.arguments.items - l.counter) (state_of l.lowering) l.place l.found t found → Hands (length l.fn.lowering.tree.now.arguments.items) (state_of l.fn.lowering) l.first no_operands t found;
+      hands : IsNone l.lowering.refused → (t : State) (found : Operands) → Hands (length l.fn.lowering.tree.now.value.arguments.items - l.counter) (state_of l.lowering) l.place l.found t found → Hands (length l.fn.lowering.tree.now.value.arguments.items) (state_of l.fn.lowering) l.first no_operands t found;
     }
