@@ -315,7 +315,8 @@ fn thrown(lowering: &mut Lowering<'_>, place: usize) -> i64 {
 /// `throw e`
 pub(crate) fn throw(lowering: &mut Lowering<'_>, place: usize) {
     lowering.setting.has_thrown = true;
-    lowering.refuse_thrown(lowering.tree.expr(place).token);
+    let token = lowering.tree.expr(place).token;
+    lowering.refuse_thrown(token);
     let number = thrown(lowering, place);
     let value = lowering.number(number);
     lowering.put(Instruction::Throw(value));

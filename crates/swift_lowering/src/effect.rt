@@ -14,7 +14,8 @@ fn ignore_fault(lowering: &mut Lowering<'_>, inner: usize) {
     expression(lowering, inner);
     // It was taken by the wait.
     if !matches!(lowering.setting.fallback, Fallback::None) {
-        lowering.refuse(Rule::NotYet, lowering.tree.expr(inner).token);
+        let token = lowering.tree.expr(inner).token;
+        lowering.refuse(Rule::NotYet, token);
     }
     lowering.setting.fallback = Fallback::None;
 }

@@ -135,7 +135,7 @@ fn lower_expectations(lowering: &mut Lowering<'_>) {
 
 /// The instructions of a file with these tokens and this tree, or the first rule that it breaks: by names and types, in the order in which
 /// they are looked at.
-pub fn lower(alloc: Global, text: &[u8], tokens: &[Token], tree: &Tree) -> Lowered
+pub fn lower(alloc: Global, text: &[u8], tokens: &[Token], tree: &Box<Tree>) -> Lowered
     requires { All (IsTokenOf text.now) tokens.now }
     ensures blamed { IfSome result.refused (IsBlamedIn text.now) }
 {
@@ -145,7 +145,12 @@ pub fn lower(alloc: Global, text: &[u8], tokens: &[Token], tree: &Tree) -> Lower
 }
 
 // The instructions of a file, and the first rule that it breaks.
-fn lower_all(alloc: Global, text: &[u8], tokens: &[Token], tree: &Tree) -> (Code, Option<Breach>) {
+fn lower_all(
+    alloc: Global,
+    text: &[u8],
+    tokens: &[Token],
+    tree: &Box<Tree>,
+) -> (Code, Option<Breach>) {
     let mut lowering = Lowering::new(alloc, text, tokens, tree);
     check_globals(&mut lowering);
     check_members(&mut lowering);

@@ -5,7 +5,7 @@ use swift_syntax::{ExprForm, Into, Stmt, StmtForm, Tree};
 
 // Whether a statement of a block may return out of the unit.
 #[cycle(returns)]
-fn block_returns(tree: &Tree, first: usize, depth: u32) -> bool {
+fn block_returns(tree: &Box<Tree>, first: usize, depth: u32) -> bool {
     if depth == 0 {
         return true;
     }
@@ -24,7 +24,7 @@ fn block_returns(tree: &Tree, first: usize, depth: u32) -> bool {
 
 // Whether a statement may return out of the unit.
 #[cycle(returns)]
-fn returns(tree: &Tree, stmt: Stmt, depth: u32) -> bool {
+fn returns(tree: &Box<Tree>, stmt: Stmt, depth: u32) -> bool {
     match stmt.form {
         StmtForm::Return
         | StmtForm::Value(Into::Return, _)
@@ -61,7 +61,7 @@ pub(crate) fn stmt_may_return(lowering: &Lowering<'_>, stmt: Stmt) -> bool {
 }
 
 // The last statement of a block.
-fn last_of(tree: &Tree, first: usize) -> Option<Stmt> {
+fn last_of(tree: &Box<Tree>, first: usize) -> Option<Stmt> {
     let mut place = first;
     let mut last = None;
     for _ in 0..tree.stmts.len() {
@@ -75,12 +75,12 @@ fn last_of(tree: &Tree, first: usize) -> Option<Stmt> {
 }
 
 // Whether a loop's test always holds.
-fn is_endless(tree: &Tree, test: usize) -> bool {
+fn is_endless(tree: &Box<Tree>, test: usize) -> bool {
     matches!(tree.expr(test).form, ExprForm::Truth(true))
 }
 
 // Whether a block never goes on behind its end.
-fn exits_at(tree: &Tree, first: usize, depth: u32) -> bool {
+fn exits_at(tree: &Box<Tree>, first: usize, depth: u32) -> bool {
     let Some(stmt) = last_of(tree, first) else {
         return false;
     };
