@@ -12,7 +12,7 @@ use swift_expressions::{Instruction, NONE, Unit, UnitKind};
 use swift_syntax::{Access, ExprForm, FieldDecl, FieldStart, MethodDecl, Rule, Tree};
 
 /// The number of a literal.
-pub(crate) fn literal(tree: &Tree, place: usize) -> Option<i64> {
+pub(crate) fn literal(tree: &Box<Tree>, place: usize) -> Option<i64> {
     match tree.expr(place).form {
         ExprForm::Number(number) => Some(number),
         ExprForm::Truth(truth) => Some(i64::from(truth)),

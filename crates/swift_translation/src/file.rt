@@ -112,7 +112,7 @@ fn script(
     alloc: Global,
     text: &[u8],
     tokens: &[Token],
-    tree: &Tree,
+    tree: &Box<Tree>,
     code: &Code,
 ) -> (Vec<u8>, Option<Breach>) {
     let mut writing = Writing::new(alloc, text, tokens, tree, code);
@@ -133,7 +133,7 @@ fn written(
     alloc: Global,
     text: &[u8],
     tokens: &[Token],
-    tree: &Tree,
+    tree: &Box<Tree>,
     code: &Code,
 ) -> Result<Translation, AllocError>
     requires { All (IsTokenOf text.now) tokens.now }

@@ -368,7 +368,7 @@ fn add_places(
 }
 
 // The place of the actor that a token names.
-fn actor_named(text: &[u8], tokens: &[Token], tree: &Tree, of: usize) -> Option<usize>
+fn actor_named(text: &[u8], tokens: &[Token], tree: &Box<Tree>, of: usize) -> Option<usize>
     requires { All (IsTokenOf text.now) tokens.now }
 {
     let Some(wanted) = token_at(text, tokens, of) else {
@@ -389,7 +389,7 @@ fn add_instance(
     alloc: Global,
     text: &[u8],
     tokens: &[Token],
-    tree: &Tree,
+    tree: &Box<Tree>,
     code: &Code,
     declared: InstanceDecl,
     found: &mut Vec<MethodPlace>,
@@ -428,7 +428,7 @@ pub(crate) fn places(
     alloc: Global,
     text: &[u8],
     tokens: &[Token],
-    tree: &Tree,
+    tree: &Box<Tree>,
     code: &Code,
 ) -> Result<Vec<MethodPlace>, AllocError>
     requires { All (IsTokenOf text.now) tokens.now }

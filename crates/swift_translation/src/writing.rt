@@ -29,7 +29,8 @@ pub(crate) struct Writing<'a> {
     pub alloc: Global,
     pub text: &'a [u8],
     pub tokens: &'a [Token],
-    pub tree: &'a Tree,
+    /// Behind a Box: the prover spells out what a reference leads to wherever a `Writing` is touched, but not what is in a Box.
+    pub tree: &'a Box<Tree>,
     pub code: &'a Code,
     /// What is written so far.
     pub out: Writer,
@@ -52,7 +53,7 @@ impl<'a> Writing<'a> {
         alloc: Global,
         text: &'a [u8],
         tokens: &'a [Token],
-        tree: &'a Tree,
+        tree: &'a Box<Tree>,
         code: &'a Code,
     ) -> Writing<'a> {
         Writing {
