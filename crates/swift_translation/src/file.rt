@@ -164,7 +164,7 @@ fn written(
 ///
 /// # Errors
 ///
-/// `AllocError` where there is no memory for the tokens, or for the table of methods.
+/// `AllocError` where there is no memory for the tokens, for an empty tree, or for the table of methods.
 pub fn translate(alloc: Global, text: &[u8]) -> Result<Translation, AllocError>
     ensures script { IfOk result (IfScript (λ s. length s ≤ BYTES)) }
     ensures file { IfOk result (IfScript (λ s. length text.now ≤ BYTES)) }
