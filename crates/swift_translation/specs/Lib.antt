@@ -1,5 +1,6 @@
 -- What becomes of a Swift file, and what is said of one that is refused.
 pub mod MethodPlaces
+pub mod MistakesInside
 pub mod Names
 pub mod PlaceTexts
 pub mod Refusals
