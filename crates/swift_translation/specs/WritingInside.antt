@@ -2,6 +2,6 @@
 use Rattle.std.specs.Prelude.{◌≡◌, ◌++◌, ℕ, List, IsFalse}
 use Rattle.swift_translation.specs.declared.writer.Writer.{Writer}
 
--- These bytes are put after what is written, unless memory runs out; then the writer says so from there on.
+-- These bytes are put after what is written, unless memory runs out or a rule is broken; then the writer says so from there on.
 abbrev pub GoesOn : Writer → Writer → List ℕ → Type 0
-GoesOn before after bytes = IsFalse after.lacks_memory → IsFalse before.lacks_memory × (after.text.items ≡ before.text.items ++ bytes)
+GoesOn before after bytes = IsFalse after.is_partial → IsFalse before.is_partial × (after.text.items ≡ before.text.items ++ bytes)

@@ -1,368 +1,177 @@
 //! Actors with their fields, invariants and methods.
 
-use crate::frame::write_body;
-use crate::naming::{
-    PRECONDITION, write_field_name, write_instance, write_name, write_printed, write_unit,
-    write_variable,
-};
-use crate::places::{lines_between, place_of_token};
-use crate::value::write_value;
-use crate::writing::Writing;
-use swift_expressions::{Instruction, NONE, Unit, UnitKind};
-use swift_syntax::{Access, ExprForm, FieldDecl, FieldStart, MethodDecl, Rule, Tree};
+ghost use Rattle.std.specs.Prelude.{◌≡◌};
+ghost use Rattle.swift_translation.specs.ActorTextsInside.{actor_head, actor_text, actors_text, declared_field, executor_text, field_line, fields_text, is_read, method_at, methods_text, opened_actor, own_actor, own_field, read_at, read_text, reads_text};
+ghost use Rattle.swift_translation.specs.WritingInside.{GoesOn};
 
-/// The number of a literal.
-pub(crate) fn literal(tree: &Box<Tree>, place: usize) -> Option<i64> {
-    match tree.expr(place).form {
-        ExprForm::Number(number) => Some(number),
-        ExprForm::Truth(truth) => Some(i64::from(truth)),
-        ExprForm::Negate(inner) => match tree.expr(inner).form {
-            ExprForm::Number(number) => number.checked_neg(),
-            _ => None,
-        },
-        _ => None,
-    }
-}
-
-// The argument of an instance for the parameter that a token names.
-fn argument(writing: &Writing<'_>, instance: usize, name: usize) -> Option<i64> {
-    let Some(declared) = writing.tree.instances.get(instance) else {
-        return None;
-    };
-    let Some(actor) = writing
-        .tree
-        .actors
-        .iter()
-        .find(|a| writing.are_same(a.name, declared.of))
-    else {
-        return None;
-    };
-    let mut place = declared.arguments;
-    for number in actor.first_param..actor.params_end {
-        let Some(given) = writing.tree.argument(place) else {
-            return None;
-        };
-        if let Some(param) = writing.tree.params.get(number) {
-            if writing.are_same(param.name, name) {
-                return literal(writing.tree, given.value);
-            }
-        }
-        place = given.next;
-    }
-    None
-}
-
-/// The start value of a field of an instance.
-pub(crate) fn start_value(writing: &mut Writing<'_>, instance: usize, field: FieldDecl) -> i64 {
-    let found = if field.given != 0 {
-        match writing.tree.expr(field.given).form {
-            ExprForm::Name => {
-                let name = writing.tree.expr(field.given).token;
-                argument(writing, instance, name)
-            }
-            _ => literal(writing.tree, field.given),
-        }
-    } else {
-        match field.start {
-            FieldStart::Value(value) => literal(writing.tree, value),
-            FieldStart::None => None,
-        }
-    };
-    match found {
-        Some(number) => number,
-        None => {
-            writing.refuse(Rule::Arguments, field.name);
-            0
-        }
-    }
-}
-
-// The place of the actor of an instance.
-fn actor_of(writing: &Writing<'_>, instance: usize) -> Option<usize> {
-    let Some(declared) = writing.tree.instances.get(instance) else {
-        return None;
-    };
-    let of = declared.of;
-    writing
-        .tree
-        .actors
-        .iter()
-        .position(|a| writing.are_same(a.name, of))
-}
-
-// From which lines a unit is.
-fn write_lines(writing: &mut Writing<'_>, unit: Unit) {
-    let from = place_of_token(writing.text, writing.tokens, unit.token);
-    let end = place_of_token(writing.text, writing.tokens, unit.end);
-    let found = lines_between(writing.text, from, end);
-    let alloc = writing.alloc;
-    writing.say("\n    // lines ");
-    writing.out.place(alloc, found.first);
-    writing.say(" to ");
-    writing.out.place(alloc, found.last);
-}
-
-// The parameters of a unit, in parentheses.
-fn write_params(writing: &mut Writing<'_>, unit: usize) {
-    let mut is_first = true;
-    writing.say("(");
-    for place in 0..writing.code.variables.len() {
-        let is_param = match writing.variable_at(place) {
-            Some(variable) => variable.unit == unit && variable.is_param,
-            None => false,
-        };
-        if is_param {
-            if !is_first {
-                writing.say(", ");
-            }
-            write_variable(writing, place, 0);
-            is_first = false;
-        }
-    }
-    writing.say(") {");
-}
-
-// A unit as a method, whose name is written.
-fn write_rest(writing: &mut Writing<'_>, place: usize) {
-    write_params(writing, place);
-    write_body(writing, place);
-    writing.say("\n    }\n");
-}
-
-// A method of an actor.
-fn write_method(writing: &mut Writing<'_>, place: usize, method: MethodDecl) {
-    if let Some(unit) = writing.unit_at(place) {
-        write_lines(writing, unit);
-    }
-    writing.say("\n    func ");
-    write_name(writing, method.name);
-    write_rest(writing, place);
-}
-
-// A closure as a method.
-fn write_closure(writing: &mut Writing<'_>, place: usize, unit: Unit) {
-    write_lines(writing, unit);
-    writing.say("\n    func ");
-    write_unit(writing, place);
-    write_rest(writing, place);
-}
+use crate::naming::{write_field_name, write_instance, write_name};
+use crate::requirement::{has_requirement, write_invariants};
+use crate::source::Source;
+use crate::start::{actor_of, start_value};
+use crate::unit::write_method;
+use crate::writer::Writer;
+use swift_syntax::{Access, FieldDecl};
 
 // A field with its start value.
-fn write_field(writing: &mut Writing<'_>, instance: usize, field: FieldDecl) {
-    let number = start_value(writing, instance, field);
-    if !field.is_var {
-        return;
+#[tactic(auto, unfolding(crate::specs::ActorTextsInside::declared_field))]
+fn write_var(out: &mut Writer, source: &Source<'_>, field: FieldDecl, number: i64)
+    ensures { GoesOn out.old out.new (declared_field source.now field number) }
+{
+    out.say("\n    var ");
+    write_field_name(out, source, field.name);
+    out.say(" = ");
+    out.number(source.alloc, number);
+    out.say(";")
+}
+
+// A field with its start value; a `let` is none.
+fn write_field(out: &mut Writer, source: &Source<'_>, field: FieldDecl)
+    ensures { GoesOn out.old out.new (field_line source.now field) }
+{
+    let number = start_value(out, source, source.instance, field);
+    if field.is_var {
+        write_var(out, source, field, number)
     }
-    writing.say("\n    var ");
-    write_field_name(writing, field.name);
-    writing.say(" = ");
-    let alloc = writing.alloc;
-    writing.out.number(alloc, number);
-    writing.say(";");
 }
 
-// Whether a unit of an actor, or of the pool, has something that has to hold. A function may be put in anywhere.
-fn has_requirement(writing: &Writing<'_>, actor: usize, wants_closure: bool) -> bool {
-    writing.code.units.iter().any(|u| {
-        let is_function = matches!(u.kind, UnitKind::Method(_)) && u.actor == NONE;
-        let is_closure = matches!(u.kind, UnitKind::Closure);
-        let fits = is_closure == wants_closure && (is_closure || u.actor == actor);
-        (is_function || fits) && has_require(writing, *u)
-    })
-}
-
-// Whether an instruction of a unit says what has to hold. Those of closures in it count too.
-fn has_require(writing: &Writing<'_>, unit: Unit) -> bool {
-    writing
-        .code
-        .instructions
-        .iter()
-        .take(unit.to)
-        .skip(unit.from)
-        .any(|i| matches!(i, Instruction::Require(..)))
-}
-
-// The field for the line of a precondition that fails.
-fn write_precondition(writing: &mut Writing<'_>) {
-    writing.say("\n    var ");
-    writing.say(PRECONDITION);
-    writing.say(" = 0;\n    invariant ");
-    writing.say(PRECONDITION);
-    writing.say(" == 0");
-}
-
-// What has to hold of an actor, with what was required in its methods.
-fn write_invariants(writing: &mut Writing<'_>, actor: usize, has_precondition: bool) {
-    let mut is_first = true;
-    if has_precondition {
-        write_precondition(writing);
-        is_first = false;
-    }
-    for place in 0..writing.tree.invariants.len() {
-        let Some(invariant) = writing.tree.invariants.get(place).copied() else {
-            break;
-        };
-        if invariant.actor != actor {
-            continue;
-        }
-        writing.say(if is_first { "\n    invariant " } else { " && " });
-        is_first = false;
-        if let Some(value) = writing.code.invariants.get(place).copied() {
-            write_value(writing, value, 0);
+// The field at a place, if it is an actor's.
+fn write_own_field(out: &mut Writer, source: &Source<'_>, actor: usize, place: usize)
+    ensures { GoesOn out.old out.new (own_field source.now actor place) }
+{
+    if let Some(field) = source.tree.fields.get(place).copied() {
+        if field.actor == actor {
+            write_field(out, source, field)
         }
     }
-    if !is_first {
-        writing.say(";");
+}
+
+fn write_fields(out: &mut Writer, source: &Source<'_>, actor: usize)
+    ensures { GoesOn out.old out.new (fields_text source.now actor) }
+{
+    for place in 0..source.tree.fields.len() {
+        write_own_field(out, source, actor, place);
     }
 }
 
 // The method that reads a field.
-fn write_read(writing: &mut Writing<'_>, field: FieldDecl) {
-    writing.say("\n    func ");
-    write_field_name(writing, field.name);
-    writing.say("() { return ");
-    write_field_name(writing, field.name);
-    writing.say("; }");
+#[tactic(auto, unfolding(crate::specs::ActorTextsInside::read_text))]
+fn write_read(out: &mut Writer, source: &Source<'_>, field: FieldDecl)
+    ensures { GoesOn out.old out.new (read_text source.now field) }
+{
+    out.say("\n    func ");
+    write_field_name(out, source, field.name);
+    out.say("() { return ");
+    write_field_name(out, source, field.name);
+    out.say("; }")
 }
 
-fn write_fields(writing: &mut Writing<'_>, instance: usize, actor: usize) {
-    for place in 0..writing.tree.fields.len() {
-        if let Some(field) = writing.tree.fields.get(place).copied() {
-            if field.actor == actor {
-                write_field(writing, instance, field);
-            }
+// Whether other actors read a field of an actor.
+fn is_read(field: FieldDecl, actor: usize) -> bool
+    ensures { result ≡ is_read field actor }
+{
+    match field.access {
+        Access::Open => field.actor == actor && field.is_var,
+        Access::Private => false,
+    }
+}
+
+// The method that reads the field at a place, if other actors read that.
+fn write_read_at(out: &mut Writer, source: &Source<'_>, actor: usize, place: usize)
+    ensures { GoesOn out.old out.new (read_at source.now actor place) }
+{
+    if let Some(field) = source.tree.fields.get(place).copied() {
+        if is_read(field, actor) {
+            write_read(out, source, field)
         }
     }
 }
 
-fn write_reads(writing: &mut Writing<'_>, actor: usize) {
-    for place in 0..writing.tree.fields.len() {
-        if let Some(field) = writing.tree.fields.get(place).copied() {
-            if field.actor == actor && field.is_var && field.access == Access::Open {
-                write_read(writing, field);
-            }
+fn write_reads(out: &mut Writer, source: &Source<'_>, actor: usize)
+    ensures { GoesOn out.old out.new (reads_text source.now actor) }
+{
+    for place in 0..source.tree.fields.len() {
+        write_read_at(out, source, actor, place);
+    }
+}
+
+// The method at a place, if it is an actor's.
+fn write_own_method(out: &mut Writer, source: &Source<'_>, actor: usize, place: usize)
+    ensures { GoesOn out.old out.new (method_at source.now actor place) }
+{
+    if let Some(method) = source.tree.methods.get(place).copied() {
+        if method.actor == actor {
+            write_method(out, source, place, method)
         }
     }
 }
 
-fn write_methods(writing: &mut Writing<'_>, actor: usize) {
-    for place in 0..writing.tree.methods.len() {
-        if let Some(method) = writing.tree.methods.get(place).copied() {
-            if method.actor == actor {
-                write_method(writing, place, method);
-            }
+fn write_methods(out: &mut Writer, source: &Source<'_>, actor: usize)
+    ensures { GoesOn out.old out.new (methods_text source.now actor) }
+{
+    for place in 0..source.tree.methods.len() {
+        write_own_method(out, source, actor, place);
+    }
+}
+
+// The executor of an actor, if it has one of its own.
+fn write_executor(out: &mut Writer, source: &Source<'_>, actor: usize)
+    ensures { GoesOn out.old out.new (executor_text source.now actor) }
+{
+    if let Some(declared) = source.tree.actors.get(actor).copied() {
+        if declared.executor != 0 {
+            out.say(" on ");
+            write_name(out, source, declared.executor)
         }
     }
+}
+
+// What stands before the members of an actor.
+#[tactic(auto, unfolding(crate::specs::ActorTextsInside::actor_head))]
+fn write_head(out: &mut Writer, source: &Source<'_>, actor: usize)
+    ensures { GoesOn out.old out.new (actor_head source.now actor) }
+{
+    out.say("\nactor ");
+    write_instance(out, source, source.instance);
+    write_executor(out, source, actor);
+    out.say(" {")
+}
+
+// The fields of an actor, and what has to hold of them.
+#[tactic(auto, unfolding(crate::specs::ActorTextsInside::opened_actor))]
+fn write_state(out: &mut Writer, source: &Source<'_>, actor: usize)
+    ensures { GoesOn out.old out.new (opened_actor source.now actor) }
+{
+    write_fields(out, source, actor);
+    write_invariants(out, source, actor, has_requirement(source, actor, false))
 }
 
 // An instance, as an actor of its own.
-fn write_actor(writing: &mut Writing<'_>, instance: usize, actor: usize) {
-    writing.instance = instance;
-    writing.say("\nactor ");
-    write_instance(writing, instance);
-    let executor = writing.tree.actors.get(actor).map_or(0, |a| a.executor);
-    if executor != 0 {
-        writing.say(" on ");
-        write_name(writing, executor);
+#[tactic(auto, unfolding(crate::specs::ActorTextsInside::actor_text))]
+fn write_actor(out: &mut Writer, source: &Source<'_>, actor: usize)
+    ensures { GoesOn out.old out.new (actor_text source.now actor) }
+{
+    write_head(out, source, actor);
+    write_state(out, source, actor);
+    write_methods(out, source, actor);
+    write_reads(out, source, actor);
+    out.say("\n}\n")
+}
+
+// The instance at a place, if it is one of an actor.
+fn write_own_actor(out: &mut Writer, source: &Source<'_>, instance: usize)
+    ensures { GoesOn out.old out.new (own_actor source.now instance) }
+{
+    if let Some(actor) = actor_of(source, instance) {
+        write_actor(out, &source.of_instance(instance), actor)
     }
-    writing.say(" {");
-    write_fields(writing, instance, actor);
-    let has_precondition = has_requirement(writing, actor, false);
-    write_invariants(writing, actor, has_precondition);
-    write_methods(writing, actor);
-    write_reads(writing, actor);
-    writing.say("\n}\n");
 }
 
 /// The instances of actors, each as an actor of its own.
-pub(crate) fn write_actors(writing: &mut Writing<'_>) {
-    for instance in 0..writing.tree.instances.len() {
-        if let Some(actor) = actor_of(writing, instance) {
-            write_actor(writing, instance, actor);
-        }
+#[tactic(auto, unfolding(crate::specs::ActorTextsInside::actors_text))]
+pub(crate) fn write_actors(out: &mut Writer, source: &Source<'_>)
+    ensures { GoesOn out.old out.new (actors_text source.now) }
+{
+    for instance in 0..source.tree.instances.len() {
+        write_own_actor(out, source, instance);
     }
-}
-
-// The closures of an actor's methods, for an instance of it; those of `main` for none.
-fn write_closures(writing: &mut Writing<'_>, actor: usize) {
-    for place in 0..writing.code.units.len() {
-        if let Some(unit) = writing.unit_at(place) {
-            if matches!(unit.kind, UnitKind::Closure) && unit.actor == actor {
-                write_closure(writing, place, unit);
-            }
-        }
-    }
-}
-
-// Whether a method is a function outside of actors that runs as a method of its own.
-fn runs_alone(method: MethodDecl) -> bool {
-    method.actor == NONE && method.is_async
-}
-
-// The functions outside of actors that are `async`.
-fn write_functions(writing: &mut Writing<'_>) {
-    for place in 0..writing.tree.methods.len() {
-        if let Some(method) = writing.tree.methods.get(place).copied() {
-            if runs_alone(method) {
-                write_method(writing, place, method);
-            }
-        }
-    }
-}
-
-/// The actor in which closures run, and functions outside of actors that are `async`.
-pub(crate) fn write_pool(writing: &mut Writing<'_>) {
-    let has_closure = writing
-        .code
-        .units
-        .iter()
-        .any(|u| matches!(u.kind, UnitKind::Closure));
-    let has_function = writing.tree.methods.iter().any(|m| runs_alone(*m));
-    if !has_closure && !has_function {
-        return;
-    }
-    writing.say("\n// Closures run here.\nactor Task {");
-    if has_requirement(writing, NONE, true) {
-        write_precondition(writing);
-        writing.say(";");
-    }
-    for instance in 0..writing.tree.instances.len() {
-        if let Some(actor) = actor_of(writing, instance) {
-            writing.instance = instance;
-            write_closures(writing, actor);
-        }
-    }
-    writing.instance = NONE;
-    write_functions(writing);
-    write_closures(writing, NONE);
-    writing.say("\n}\n");
-}
-
-/// `main`, as an actor with what it prints.
-pub(crate) fn write_main(writing: &mut Writing<'_>) {
-    let Some(main) = writing.tree.mains.first().copied() else {
-        return;
-    };
-    writing.instance = NONE;
-    writing.say("\nactor ");
-    write_name(writing, main.name);
-    writing.say(" {");
-    for place in 0..writing.code.printed.len() {
-        writing.say("\n    var ");
-        write_printed(writing, place);
-        writing.say(" = 0;");
-    }
-    if has_requirement(writing, NONE, false) {
-        write_precondition(writing);
-        writing.say(";");
-    }
-    let place = writing.tree.methods.len();
-    if let Some(unit) = writing.unit_at(place) {
-        write_lines(writing, unit);
-    }
-    writing.say("\n    func main");
-    write_rest(writing, place);
-    writing.say("}\nroot main = ");
-    write_name(writing, main.name);
-    writing.say(".main();\n");
 }

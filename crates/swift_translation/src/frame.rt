@@ -1,15 +1,16 @@
 //! Methods that are put in where they are called.
 
-ghost use Rattle.std.specs.Prelude.{◌≡◌, IsTrue};
-ghost use Rattle.swift_translation.specs.ReturnsInside.{EndsInText, done_let, result_given};
+ghost use Rattle.std.specs.Prelude.{◌≡◌};
+ghost use Rattle.swift_translation.specs.MethodTextsInside.{begin_done, begin_result, begin_text, callee_frame, end_text, first_frame, handed, handed_next, handed_text, moved, param_text, params_text, zero_text};
+ghost use Rattle.swift_translation.specs.WritingInside.{GoesOn};
 
-use crate::naming::{write_made, write_made_between, write_variable};
-use crate::step::step;
+use crate::naming::write_made_between;
+use crate::source::{Context, Source};
+use crate::statement::write_result;
 use crate::value::write_value;
-use crate::writing::Writing;
-use swift_expressions::{NONE, Target};
-use swift_syntax::Rule;
-use swift_types::limits::BYTES;
+use crate::wait::{begin_line, begin_set};
+use crate::writer::Writer;
+use swift_expressions::{Operand, Target, Unit};
 
 /// Where the value of a method goes that is written.
 #[derive(Clone, Copy)]
@@ -39,169 +40,172 @@ pub(crate) struct Frame {
     pub needs_done: bool,
 }
 
-/// The method that is written.
-pub(crate) fn top(writing: &Writing<'_>) -> Option<Frame> {
-    writing.frames.last().copied()
-}
-
-fn push(writing: &mut Writing<'_>, frame: Frame) {
-    if writing.frames.push(frame).is_err() {
-        writing.refuse(Rule::Memory, 0);
-    }
-}
-
-// The variables that a method begins with: its value, and whether it has returned.
-fn begin(writing: &mut Writing<'_>, frame: Frame)
-    ensures done { IsTrue frame.needs_done → EndsInText writing.new.out (done_let frame.serial) }
+/// The same method at another of its instructions.
+pub(crate) fn moved(frame: Frame, at: usize) -> Frame
+    ensures { result ≡ moved frame at }
 {
-    match frame.result {
-        ResultPlace::Returned => {}
-        ResultPlace::Own => {
-            writing.line();
-            writing.say("let ");
-            write_made(writing, "result", frame.serial);
-            writing.say(" = 0;");
-        }
-        ResultPlace::Variable(variable, serial) => {
-            writing.line();
-            writing.say("let ");
-            write_variable(writing, variable, serial);
-            writing.say(" = 0;");
-        }
-    }
-    if frame.needs_done {
-        writing.line();
-        writing.say("let ");
-        write_made(writing, "done", frame.serial);
-        writing.say(" = 0;");
+    Frame {
+        unit: frame.unit,
+        at,
+        to: frame.to,
+        serial: frame.serial,
+        result: frame.result,
+        needs_done: frame.needs_done,
     }
 }
 
-// Begins the unit of a method or closure.
-fn begin_unit(writing: &mut Writing<'_>, unit: usize) {
-    let Some(found) = writing.unit_at(unit) else {
-        return;
-    };
-    let is_flagged = found.returns_inside;
-    let frame = Frame {
+/// A method that is not put in, from its beginning on.
+pub(crate) fn first_frame(unit: usize, found: Unit) -> Frame
+    ensures { result ≡ first_frame unit found }
+{
+    Frame {
         unit,
         at: found.from,
         to: found.to,
         serial: 0,
-        result: if is_flagged {
+        result: if found.returns_inside {
             ResultPlace::Own
         } else {
             ResultPlace::Returned
         },
-        needs_done: is_flagged && found.needs_done,
-    };
-    push(writing, frame);
-    begin(writing, frame);
-}
-
-// Ends the method that is written last.
-fn end(writing: &mut Writing<'_>, frame: Frame)
-    ensures returned { frame.serial ≡ 0 → frame.result ≡ ResultPlace.Own → EndsInText writing.new.out (result_given frame.serial) }
-{
-    writing.frames.pop();
-    if frame.serial == 0 {
-        if let ResultPlace::Own = frame.result {
-            writing.line();
-            write_made_between(writing, "return ", "result", frame.serial, ";");
-        }
+        needs_done: found.returns_inside && found.needs_done,
     }
 }
 
-// Goes on to the next instruction of the method that is written last.
-fn advance(writing: &mut Writing<'_>, at: usize) {
-    if let Some(frame) = writing.frames.last_mut() {
-        frame.at = at;
-    }
-}
-
-/// The most instructions that a method may have with all that is put into it.
-const MOST: u32 = 100_000;
-
-/// The statements of a unit, with the methods that are put into it.
-pub(crate) fn write_body(writing: &mut Writing<'_>, unit: usize) {
-    writing.serial = 0;
-    begin_unit(writing, unit);
-    for _ in 0..MOST {
-        let Some(frame) = top(writing) else {
-            return;
-        };
-        if writing.refused.is_some() || writing.out.text.len() > BYTES {
-            break;
-        }
-        if frame.at >= frame.to {
-            end(writing, frame);
-            continue;
-        }
-        advance(writing, frame.at.saturating_add(1));
-        let instruction = writing.instruction_at(frame.at);
-        step(writing, frame, instruction);
-    }
-    writing.refuse(Rule::TooLarge, 0);
-    writing.frames.clear();
-}
-
-/// Goes over instructions of another unit.
-pub(crate) fn skip_to(writing: &mut Writing<'_>, frame: Frame, to: usize) {
-    advance(writing, to.max(frame.at.saturating_add(1)));
-}
-
-// The parameters of a method that is put in, with their values.
-fn write_params(writing: &mut Writing<'_>, frame: Frame, first: usize, serial: usize) {
-    let mut operand = first;
-    for place in 0..writing.code.variables.len() {
-        let Some(variable) = writing.variable_at(place) else {
-            return;
-        };
-        if variable.unit != frame.unit || !variable.is_param || operand == NONE {
-            continue;
-        }
-        let Some(given) = writing.code.operands.get(operand).copied() else {
-            return;
-        };
-        writing.line();
-        writing.say("let ");
-        write_variable(writing, place, frame.serial);
-        writing.say(" = ");
-        write_value(writing, given.value, serial);
-        writing.say(";");
-        operand = given.next;
-    }
-}
-
-/// Puts a method in.
-pub(crate) fn put_in(
-    writing: &mut Writing<'_>,
-    caller: Frame,
-    target: Target,
+/// A method that is put in as the one of a number, into that of another number, from its beginning on.
+pub(crate) fn callee_frame(
     unit: usize,
-    first: usize,
-    token: usize,
-) {
-    if writing.frames.iter().any(|f| f.unit == unit) {
-        writing.refuse(Rule::Recursion, token);
-        return;
-    }
-    let Some(found) = writing.unit_at(unit) else {
-        return;
-    };
-    writing.serial = writing.serial.saturating_add(1);
-    let frame = Frame {
+    found: Unit,
+    serial: usize,
+    target: Target,
+    caller: usize,
+) -> Frame
+    ensures { result ≡ callee_frame unit found serial target caller }
+{
+    Frame {
         unit,
         at: found.from,
         to: found.to,
-        serial: writing.serial,
+        serial,
         result: match target {
             Target::Nothing => ResultPlace::Own,
-            Target::Declare(variable) => ResultPlace::Variable(variable, caller.serial),
+            Target::Declare(variable) => ResultPlace::Variable(variable, caller),
         },
         needs_done: found.needs_done,
-    };
-    write_params(writing, frame, first, caller.serial);
-    push(writing, frame);
-    begin(writing, frame);
+    }
+}
+
+// The variable to which the value of a method goes begins at 0.
+#[tactic(auto, unfolding(crate::specs::MethodTextsInside::zero_text))]
+fn begin_variable(out: &mut Writer, at: &Context<'_>, to: ResultPlace)
+    ensures { GoesOn out.old out.new (zero_text at.now to) }
+{
+    begin_line(out, at, "let ");
+    write_result(out, at, to);
+    out.say(" = 0;")
+}
+
+// The variable for the value of a method, unless that is returned.
+fn begin_result(out: &mut Writer, at: &Context<'_>, to: ResultPlace)
+    ensures { GoesOn out.old out.new (begin_result at.now to) }
+{
+    match to {
+        ResultPlace::Returned => {}
+        ResultPlace::Own | ResultPlace::Variable(..) => begin_variable(out, at, to),
+    }
+}
+
+// The variable for whether a method has returned, where something asks for that.
+fn begin_done(out: &mut Writer, at: &Context<'_>, needs_done: bool)
+    ensures { GoesOn out.old out.new (begin_done at.now needs_done) }
+{
+    if needs_done {
+        out.line(at.open_blocks);
+        write_made_between(out, at, "let ", "done", " = 0;")
+    }
+}
+
+/// The variables that a method begins with: its value, and whether it has returned.
+#[tactic(auto, unfolding(crate::specs::MethodTextsInside::begin_text))]
+pub(crate) fn begin(out: &mut Writer, at: &Context<'_>, to: ResultPlace, needs_done: bool)
+    ensures { GoesOn out.old out.new (begin_text at.now to needs_done) }
+{
+    begin_result(out, at, to);
+    begin_done(out, at, needs_done)
+}
+
+/// A method that returns out of a group's block gives its value at its end.
+pub(crate) fn write_end(out: &mut Writer, at: &Context<'_>, frame: Frame)
+    ensures { GoesOn out.old out.new (end_text at.now frame) }
+{
+    if let ResultPlace::Own = frame.result {
+        if frame.serial == 0 {
+            out.line(at.open_blocks);
+            write_made_between(out, at, "return ", "result", ";")
+        }
+    }
+}
+
+// A parameter of a method that is put in, with its value, which the caller has.
+#[tactic(auto, unfolding(crate::specs::MethodTextsInside::param_text))]
+fn write_param(out: &mut Writer, at: &Context<'_>, variable: usize, value: usize, caller: usize)
+    ensures { GoesOn out.old out.new (param_text at.now variable value caller) }
+{
+    begin_set(out, at, "let ", variable);
+    write_value(out, &at.of_serial(caller), value);
+    out.say(";")
+}
+
+// The operand for the variable at a place, if it is a parameter of a unit.
+fn handed(source: &Source<'_>, unit: usize, place: usize, operand: usize) -> Option<Operand>
+    ensures { result ≡ handed source.now unit place operand }
+{
+    match source.variable_at(place) {
+        Some(variable) => {
+            if variable.unit == unit && variable.is_param {
+                source.operand_at(operand)
+            } else {
+                None
+            }
+        }
+        None => None,
+    }
+}
+
+// The variable at a place with its value, if it is a parameter of a unit. The place of the operand for the next one.
+fn hand_over(
+    out: &mut Writer,
+    at: &Context<'_>,
+    unit: usize,
+    place: usize,
+    operand: usize,
+    caller: usize,
+) -> usize
+    ensures text { GoesOn out.old out.new (handed_text at.now place caller (handed at.now.source unit place operand)) }
+    ensures next { result ≡ handed_next operand (handed at.now.source unit place operand) }
+{
+    match handed(&at.source, unit, place, operand) {
+        Some(given) => {
+            write_param(out, at, place, given.value, caller);
+            given.next
+        }
+        None => operand,
+    }
+}
+
+/// The parameters of a method that is put in, with their values.
+#[tactic(auto, unfolding(crate::specs::MethodTextsInside::params_text))]
+pub(crate) fn write_params(
+    out: &mut Writer,
+    at: &Context<'_>,
+    unit: usize,
+    first: usize,
+    caller: usize,
+)
+    ensures { GoesOn out.old out.new (params_text at.now unit first caller) }
+{
+    let mut operand = first;
+    for place in 0..at.source.code.variables.len() {
+        operand = hand_over(out, at, unit, place, operand, caller);
+    }
 }

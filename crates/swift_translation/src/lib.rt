@@ -3,6 +3,8 @@
 
 // Actors with their fields, invariants and methods.
 mod actor;
+// A body that is written.
+mod body;
 // From the text of a file to that of a script.
 mod file;
 // Methods that are put in where they are called.
@@ -15,26 +17,40 @@ mod line;
 mod mistakes;
 // The names of a script.
 mod naming;
+// Closures, functions outside of actors, and `main`.
+mod pool;
 // From which lines of a file the methods of its script are.
 mod places;
 // The text of a table of methods.
 mod place_text;
 // The text of a refusal.
 mod refused;
+// What has to hold of actors.
+mod requirement;
+// Whole scripts.
+mod script;
+// From what a script is written.
+mod source;
 // How names of a script are spelled.
 mod spelling;
-// Instructions as statements.
+// The start values of fields.
+mod start;
+// Instructions that open and close no block, as statements.
+mod statement;
+// Instructions as statements, and their blocks.
 mod step;
+// Units as methods.
+mod unit;
 // Values as expressions.
 mod value;
 // What is waited for.
 mod wait;
+// The instructions of a body.
+mod walk;
 // Words that a script keeps.
 mod word;
 // A text that is written.
 mod writer;
-// A script that is written.
-mod writing;
 
 pub use file::{SwiftScript, Translation, translate};
 pub use laws::names_are_told_apart;

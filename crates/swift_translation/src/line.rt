@@ -1,6 +1,6 @@
 //! The line of a text on which a place lies.
 
-ghost use Rattle.std.specs.Prelude.{◌≡◌, ◌<◌, ◌≤◌, ◌+◌, ◌++◌, IfOk, IfSome, length, map, take};
+ghost use Rattle.std.specs.Prelude.{◌≡◌, ◌<◌, ◌≤◌, ◌+◌, ◌++◌, IfOk, IfSome, length, map, max, take};
 ghost use Rattle.std.specs.String.{string_bytes};
 ghost use Rattle.swift_translation.specs.Refusals.{after_feed, before_feed, feed_in, feeds, left_of, right_of, shown_byte, shown_line, skip_lines};
 
@@ -8,6 +8,13 @@ use std::alloc::{AllocError, Global};
 
 /// The most bytes of a line that are shown.
 pub(crate) const SHOWN: usize = 200;
+
+/// The later one of two places.
+pub(crate) fn later(left: usize, right: usize) -> usize
+    ensures { result ≡ max left right }
+{
+    if left < right { right } else { left }
+}
 
 /// The line of a text on which a place lies.
 #[derive(Clone, Copy)]

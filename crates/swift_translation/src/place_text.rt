@@ -8,8 +8,8 @@ use crate::places::{MethodPlace, finished};
 use crate::writer::Writer;
 use std::alloc::{AllocError, Global};
 
-// The numbers of the first and the last of some lines.
-fn say_lines(out: &mut Writer, alloc: Global, first: usize, last: usize)
+/// The numbers of the first and the last of some lines.
+pub(crate) fn say_lines(out: &mut Writer, alloc: Global, first: usize, last: usize)
     ensures { GoesOn out.old out.new (lines_text first last) }
 {
     out.place(alloc, first);

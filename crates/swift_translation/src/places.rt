@@ -1,9 +1,10 @@
 //! From which lines of a file the methods of its script are.
 
-ghost use Rattle.std.specs.Prelude.{◌≡◌, ◌≤◌, ◌+◌, All, IfOk, IfSome, IsFalse};
+ghost use Rattle.std.specs.Prelude.{◌≡◌, ◌≤◌, ◌+◌, All, IfOk, IfSome, IsFalse, slice_get};
 ghost use Rattle.swift_syntax.specs.Places.{IsTokenOf};
 ghost use Rattle.swift_translation.specs.MethodPlaces.{IsPlaceIn, bytes_of, closure_name, function_closure_name, function_name, line_of, main_closure_name, method_name};
 ghost use Rattle.swift_translation.specs.Refusals.{feeds};
+ghost use Rattle.swift_translation.specs.SourcesInside.{token_place};
 
 use crate::line::line_number;
 use crate::naming::which_of;
@@ -49,7 +50,9 @@ pub(crate) fn lines_between(text: &[u8], from: usize, end: usize) -> Lines
 }
 
 /// The place at which a token begins; the end of the text where there is none.
-pub(crate) fn place_of_token(text: &[u8], tokens: &[Token], place: usize) -> usize {
+pub(crate) fn place_of_token(text: &[u8], tokens: &[Token], place: usize) -> usize
+    ensures { result ≡ token_place text.now (slice_get tokens.now place) }
+{
     match tokens.get(place) {
         Some(found) => found.from,
         None => text.len(),
@@ -75,13 +78,17 @@ fn bytes_of(text: &[u8], token: Token) -> &[u8]
     &text[token.from..token.to]
 }
 
-/// What is written, unless there was no memory.
+/// What is written, unless something is missing.
 pub(crate) fn finished(out: Writer) -> Result<Vec<u8>, AllocError>
-    ensures memory { IfOk result (λ bytes. IsFalse out.lacks_memory) }
+    ensures memory { IfOk result (λ bytes. IsFalse out.is_partial) }
     ensures text { IfOk result (λ bytes. bytes.items ≡ out.text.items) }
 {
-    let Writer { text, lacks_memory } = out;
-    if lacks_memory {
+    let Writer {
+        text,
+        is_partial,
+        ..
+    } = out;
+    if is_partial {
         Err(AllocError)
     } else {
         Ok(text)

@@ -1,12 +1,18 @@
 //! Values as expressions.
 
 ghost use Rattle.std.specs.Prelude.{◌≡◌};
+ghost use Rattle.std.specs.Fmt.{signed_decimal};
+ghost use Rattle.swift_translation.specs.StartsInside.{start_number};
+ghost use Rattle.swift_translation.specs.ValueTextsInside.{bare_text, deep_text, field_text, local_text, member_text, more_operands, operands_text, read_text, value_text, var_text};
 ghost use Rattle.swift_translation.specs.WordsInside.{operator_text};
+ghost use Rattle.swift_translation.specs.WritingInside.{GoesOn};
 
-use crate::actor::start_value;
 use crate::naming::{write_field_name, write_instance, write_name, write_variable};
-use crate::writing::Writing;
-use swift_expressions::{NONE, Value};
+use crate::source::{Context, Source};
+use crate::start::start_value;
+use crate::writer::Writer;
+use swift_expressions::Value;
+use swift_syntax::{FieldDecl, Rule};
 use swift_types::Operator;
 
 fn spelling(operator: Operator) -> &'static str
@@ -27,112 +33,151 @@ fn spelling(operator: Operator) -> &'static str
     }
 }
 
-// A field: a `let` is its number.
-fn write_field(writing: &mut Writing<'_>, field: usize) {
-    let Some(declared) = writing.tree.fields.get(field).copied() else {
-        return;
-    };
-    if declared.is_var {
-        write_field_name(writing, declared.name);
-    } else {
-        let number = start_value(writing, writing.instance, declared);
-        let alloc = writing.alloc;
-        writing.out.number(alloc, number);
+// The start value of a field, which is a `let`.
+fn write_number(out: &mut Writer, source: &Source<'_>, instance: usize, field: FieldDecl)
+    ensures { GoesOn out.old out.new (signed_decimal (start_number source.now instance field)) }
+{
+    let number = start_value(out, source, instance, field);
+    out.number(source.alloc, number)
+}
+
+// A field of the own actor: a `let` is its number.
+#[tactic(auto, unfolding(crate::specs::ValueTextsInside::field_text))]
+fn write_field(out: &mut Writer, source: &Source<'_>, field: usize)
+    ensures { GoesOn out.old out.new (field_text source.now field) }
+{
+    if let Some(declared) = source.tree.fields.get(field).copied() {
+        if declared.is_var {
+            write_field_name(out, source, declared.name)
+        } else {
+            write_number(out, source, source.instance, declared)
+        }
     }
+}
+
+// The name of a field of an instance.
+#[tactic(auto, unfolding(crate::specs::ValueTextsInside::var_text))]
+fn write_var(out: &mut Writer, source: &Source<'_>, instance: usize, token: usize)
+    ensures { GoesOn out.old out.new (var_text source.now instance token) }
+{
+    write_instance(out, source, instance);
+    out.say(".");
+    write_field_name(out, source, token)
 }
 
 // A field of an instance at the end of a run: a `let` is its number.
-fn write_member(writing: &mut Writing<'_>, instance: usize, field: usize) {
-    let Some(declared) = writing.tree.fields.get(field).copied() else {
-        return;
-    };
-    if declared.is_var {
-        write_instance(writing, instance);
-        writing.say(".");
-        write_field_name(writing, declared.name);
-    } else {
-        let number = start_value(writing, instance, declared);
-        let alloc = writing.alloc;
-        writing.out.number(alloc, number);
+#[tactic(auto, unfolding(crate::specs::ValueTextsInside::member_text))]
+fn write_member(out: &mut Writer, source: &Source<'_>, instance: usize, field: usize)
+    ensures { GoesOn out.old out.new (member_text source.now instance field) }
+{
+    if let Some(declared) = source.tree.fields.get(field).copied() {
+        if declared.is_var {
+            write_var(out, source, instance, declared.name)
+        } else {
+            write_number(out, source, instance, declared)
+        }
     }
 }
 
-fn write_local(writing: &mut Writing<'_>, local: usize) {
-    writing.say("@");
-    if let Some(declared) = writing.tree.locals.get(local) {
-        let token = declared.name;
-        write_name(writing, token);
+/// The name of a task local.
+#[tactic(auto, unfolding(crate::specs::ValueTextsInside::local_text))]
+pub(crate) fn write_local(out: &mut Writer, source: &Source<'_>, local: usize)
+    ensures { GoesOn out.old out.new (local_text source.now local) }
+{
+    if let Some(declared) = source.tree.locals.get(local).copied() {
+        write_name(out, source, declared.name)
     }
+}
+
+// A task local that is read.
+#[tactic(auto, unfolding(crate::specs::ValueTextsInside::read_text))]
+fn write_read(out: &mut Writer, source: &Source<'_>, local: usize)
+    ensures { GoesOn out.old out.new (read_text source.now local) }
+{
+    out.say("@");
+    write_local(out, source, local)
 }
 
 // A value with everything in parentheses that has an operator.
-fn write_at(writing: &mut Writing<'_>, place: usize, serial: usize, depth: u32) {
+#[tactic(auto, unfolding(crate::specs::ValueTextsInside::deep_text))]
+fn write_at(out: &mut Writer, at: &Context<'_>, place: usize, depth: u32)
+    ensures { GoesOn out.old out.new (deep_text at.now depth place) }
+{
     if depth == 0 {
-        writing.refuse(swift_syntax::Rule::TooLarge, 0);
+        out.refuse(Rule::TooLarge, 0);
         return;
     }
-    match writing.value_at(place) {
-        Value::Number(number) => {
-            let alloc = writing.alloc;
-            writing.out.number(alloc, number);
-        }
-        Value::Variable(variable) => write_variable(writing, variable, serial),
-        Value::Field(field) => write_field(writing, field),
-        Value::Member(instance, field) => write_member(writing, instance, field),
-        Value::Local(local) => write_local(writing, local),
-        Value::Priority => writing.say("priority"),
-        Value::Cancelled => writing.say("cancelled"),
+    match at.source.value_at(place) {
+        Value::Number(number) => out.number(at.source.alloc, number),
+        Value::Variable(variable) => write_variable(out, at, variable),
+        Value::Field(field) => write_field(out, &at.source, field),
+        Value::Member(instance, field) => write_member(out, &at.source, instance, field),
+        Value::Local(local) => write_read(out, &at.source, local),
+        Value::Priority => out.say("priority"),
+        Value::Cancelled => out.say("cancelled"),
         Value::Negate(inner) => {
-            writing.say("(-");
-            write_at(writing, inner, serial, depth - 1);
-            writing.say(")");
+            out.say("(-");
+            write_at(out, at, inner, depth - 1);
+            out.say(")")
         }
         Value::Not(inner) => {
-            writing.say("(!");
-            write_at(writing, inner, serial, depth - 1);
-            writing.say(")");
+            out.say("(!");
+            write_at(out, at, inner, depth - 1);
+            out.say(")")
         }
         Value::Binary(operator, left, right) => {
-            writing.say("(");
-            write_at(writing, left, serial, depth - 1);
-            writing.say(spelling(operator));
-            write_at(writing, right, serial, depth - 1);
-            writing.say(")");
+            out.say("(");
+            write_at(out, at, left, depth - 1);
+            out.say(spelling(operator));
+            write_at(out, at, right, depth - 1);
+            out.say(")")
         }
     }
 }
 
-/// A value of a method that was put in.
-pub(crate) fn write_value(writing: &mut Writing<'_>, place: usize, serial: usize) {
-    write_at(writing, place, serial, 400);
+/// A value.
+#[tactic(auto, unfolding(crate::specs::ValueTextsInside::value_text))]
+pub(crate) fn write_value(out: &mut Writer, at: &Context<'_>, place: usize)
+    ensures { GoesOn out.old out.new (value_text at.now place) }
+{
+    write_at(out, at, place, 400)
 }
 
 /// A value that stands alone, as somebody would write it: without parentheses around all of it.
-pub(crate) fn write_bare(writing: &mut Writing<'_>, place: usize) {
-    match writing.value_at(place) {
+pub(crate) fn write_bare(out: &mut Writer, at: &Context<'_>, place: usize)
+    ensures { GoesOn out.old out.new (bare_text at.now place) }
+{
+    match at.source.value_at(place) {
         Value::Binary(operator, left, right) => {
-            write_value(writing, left, 0);
-            writing.say(spelling(operator));
-            write_value(writing, right, 0);
+            write_value(out, at, left);
+            out.say(spelling(operator));
+            write_value(out, at, right)
         }
-        _ => write_value(writing, place, 0),
+        _ => write_value(out, at, place),
+    }
+}
+
+// Values that are handed over behind another one, at most so many.
+fn write_more(out: &mut Writer, at: &Context<'_>, place: usize, most: usize)
+    ensures { GoesOn out.old out.new (more_operands at.now most place) }
+{
+    if most == 0 {
+        return;
+    }
+    if let Some(operand) = at.source.operand_at(place) {
+        out.say(", ");
+        write_value(out, at, operand.value);
+        write_more(out, at, operand.next, most - 1)
     }
 }
 
 /// Values that are handed over, with commas between them.
-pub(crate) fn write_operands(writing: &mut Writing<'_>, first: usize, serial: usize) {
-    let mut place = first;
-    for _ in 0..writing.code.operands.len() {
-        if place == NONE {
-            return;
-        }
-        let Some(operand) = writing.code.operands.get(place).copied() else {
-            return;
-        };
-        if place != first {
-            writing.say(", ");
-        }
-        write_value(writing, operand.value, serial);
-        place = operand.next;
+#[tactic(auto, unfolding(crate::specs::ValueTextsInside::operands_text))]
+pub(crate) fn write_operands(out: &mut Writer, at: &Context<'_>, first: usize)
+    ensures { GoesOn out.old out.new (operands_text at.now first) }
+{
+    if let Some(operand) = at.source.operand_at(first) {
+        write_value(out, at, operand.value);
+        write_more(out, at, operand.next, at.source.code.operands.len())
     }
 }

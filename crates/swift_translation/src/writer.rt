@@ -1,29 +1,45 @@
 //! A text that is written.
 
-ghost use Rattle.std.specs.Prelude.{◌≡◌, [], decimal, IsFalse};
+ghost use Rattle.std.specs.Prelude.{◌≡◌, [], decimal, IsFalse, IsTrue};
 ghost use Rattle.std.specs.Fmt.{signed_decimal};
+ghost use Rattle.swift_translation.specs.StatementTextsInside.{indent_text, line_text};
 ghost use Rattle.swift_translation.specs.WritingInside.{GoesOn};
 
 use std::alloc::Global;
+use swift_syntax::{Breach, Rule};
 
-/// A text that is written. That there was no memory is noted once.
+/// A text that is written. That there was no memory, or that a rule is broken, is noted once.
 #[derive(Drop)]
 pub(crate) struct Writer {
     /// What is written so far.
     pub text: Vec<u8>,
-    /// Whether there was no memory for a part of it.
-    pub lacks_memory: bool,
+    /// Whether something is missing: there was no memory for it, or a rule is broken.
+    pub is_partial: bool,
+    /// The first rule that is broken.
+    pub refused: Option<Breach>,
 }
 
 impl Writer {
     /// Nothing.
     pub(crate) fn new(alloc: Global) -> Writer
         ensures empty { result.text.items ≡ [] }
-        ensures memory { IsFalse result.lacks_memory }
+        ensures memory { IsFalse result.is_partial }
     {
         Writer {
             text: Vec::new(alloc),
-            lacks_memory: false,
+            is_partial: false,
+            refused: None,
+        }
+    }
+
+    /// Notes that a token breaks a rule, unless a refusal was noted before.
+    pub(crate) fn refuse(&mut self, rule: Rule, place: usize)
+        ensures text { GoesOn self.old self.new [] }
+        ensures noted { IsTrue self.new.is_partial }
+    {
+        self.is_partial = true;
+        if self.refused.is_none() {
+            self.refused = Some(Breach { rule, token: place });
         }
     }
 
@@ -32,7 +48,7 @@ impl Writer {
         ensures { GoesOn self.old self.new bytes.now }
     {
         if self.text.extend_from_slice(bytes).is_err() {
-            self.lacks_memory = true;
+            self.is_partial = true;
         }
     }
 
@@ -49,7 +65,7 @@ impl Writer {
     {
         match number.to_string(alloc) {
             Ok(digits) => self.bytes(digits.as_bytes()),
-            Err(_) => self.lacks_memory = true,
+            Err(_) => self.is_partial = true,
         }
     }
 
@@ -59,7 +75,26 @@ impl Writer {
     {
         match place.to_string(alloc) {
             Ok(digits) => self.bytes(digits.as_bytes()),
-            Err(_) => self.lacks_memory = true,
+            Err(_) => self.is_partial = true,
         }
+    }
+
+    // Puts four spaces after what is there, so many times.
+    fn indent(&mut self, many: usize)
+        ensures { GoesOn self.old self.new (indent_text many) }
+    {
+        if many != 0 {
+            self.say("    ");
+            self.indent(many - 1)
+        }
+    }
+
+    /// Begins a line of a body in which so many blocks are open.
+    #[tactic(auto, unfolding(crate::specs::StatementTextsInside::line_text))]
+    pub(crate) fn line(&mut self, open_blocks: usize)
+        ensures { GoesOn self.old self.new (line_text open_blocks) }
+    {
+        self.say("\n        ");
+        self.indent(open_blocks)
     }
 }

@@ -1,0 +1,6 @@
+use Rattle.swift_translation.specs.ActorTextsInside.{each, method_at}
+use Rattle.swift_translation.specs.WritingInside.{GoesOn}
+use Rattle.swift_translation.proofs.actor.write_methods.Given as goal
+
+abbrev pub invariant-loop-place : goal.invariant-loop-place
+invariant-loop-place l = GoesOn l.initial.out l.out (each (method_at l.source l.actor) l.place)

@@ -1,0 +1,6 @@
+use Rattle.swift_translation.specs.ActorTextsInside.{each, read_at}
+use Rattle.swift_translation.specs.WritingInside.{GoesOn}
+use Rattle.swift_translation.proofs.actor.write_reads.Given as goal
+
+abbrev pub invariant-loop-place : goal.invariant-loop-place
+invariant-loop-place l = GoesOn l.initial.out l.out (each (read_at l.source l.actor) l.place)

@@ -1,0 +1,7 @@
+use Rattle.swift_translation.specs.ActorTextsInside.{each}
+use Rattle.swift_translation.specs.ScriptTextsInside.{local_at}
+use Rattle.swift_translation.specs.WritingInside.{GoesOn}
+use Rattle.swift_translation.proofs.script.write_locals.Given as goal
+
+abbrev pub invariant-loop-place : goal.invariant-loop-place
+invariant-loop-place l = GoesOn l.initial.out l.out (each (local_at l.source) l.place)
