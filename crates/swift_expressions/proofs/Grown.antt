@@ -19,16 +19,16 @@ use Rattle.swift_expressions.specs.Lowered as lowered
 use Rattle.swift_expressions.specs.States.{Gives, State, covered, fault_of, is_fault, put, with_target, with_temporary, with_value}
 
 -- a state grows by nothing to one that has the same
-alike : {s t u : State} → Grows s t → u.instructions ≡ t.instructions → u.values ≡ t.values → u.tree ≡ t.tree → Grows s u
+pub alike : {s t u : State} → Grows s t → u.instructions ≡ t.instructions → u.values ≡ t.values → u.tree ≡ t.tree → Grows s u
 alike g i v t = record { instructions = g.instructions; values = g.values; behind = i ∙ g.behind; valued = v ∙ g.valued; tree = t ∙ g.tree }
 
-stays : (s : State) → Grows s s
+pub stays : (s : State) → Grows s s
 stays s = record { instructions = []; values = []; behind = sym (append-nil s.instructions); valued = sym (append-nil s.values); tree = refl }
 
-same : {s t : State} → t ≡ s → Grows s t
+pub same : {s t : State} → t ≡ s → Grows s t
 same {s} e = subst (λ x. Grows s x) (sym e) (stays s)
 
-on : {s t u : State} → Grows s t → Grows t u → Grows s u
+pub on : {s t u : State} → Grows s t → Grows t u → Grows s u
 on {s} g h = record {
   instructions = g.instructions ++ h.instructions;
   values = g.values ++ h.values;
@@ -37,10 +37,10 @@ on {s} g h = record {
   tree = h.tree ∙ g.tree;
 }
 
-to : {s t u : State} → u ≡ t → Grows s t → Grows s u
+pub to : {s t u : State} → u ≡ t → Grows s t → Grows s u
 to {s} e g = subst (λ x. Grows s x) (sym e) g
 
-puts : (i : Instruction) {s t : State} → Grows s t → Grows s (put i t)
+pub puts : (i : Instruction) {s t : State} → Grows s t → Grows s (put i t)
 puts i {s} g = record {
   instructions = g.instructions ++ i ∷ [];
   values = g.values;
@@ -49,7 +49,7 @@ puts i {s} g = record {
   tree = g.tree;
 }
 
-reads : (v : Value) {s t : State} → Grows s t → Grows s (with_value v t)
+pub reads : (v : Value) {s t : State} → Grows s t → Grows s (with_value v t)
 reads v {s} g = record {
   instructions = g.instructions;
   values = g.values ++ v ∷ [];
@@ -58,10 +58,10 @@ reads v {s} g = record {
   tree = g.tree;
 }
 
-begins : {s t : State} → Grows s t → Grows s (with_temporary t)
+pub begins : {s t : State} → Grows s t → Grows s (with_temporary t)
 begins g = alike g refl refl refl
 
-gives_grow : {s : State} {v : Value} {kind : Kind} {t : State} {found : Typed} → Gives s v kind t found → Grows s t
+pub gives_grow : {s : State} {v : Value} {kind : Kind} {t : State} {found : Typed} → Gives s v kind t found → Grows s t
 gives_grow {s} {v} g = to g.state (reads v (stays s))
 
 target_grows : (k : Kind) {s t : State} → Grows s t → Grows s (with_target k t)
@@ -73,7 +73,7 @@ target_grows kinds.Urgency g = begins g
 waits_grow : {s : State} (what : Wait) (kind : Kind) {t : State} {found : Typed} → Waits s what kind t found → Grows s t
 waits_grow {s} what kind g = to g.state (reads _ (puts _ (target_grows kind (alike (stays s) refl refl refl))))
 
-keeps_grow : {s : State} {given : Typed} {t : State} {found : Typed} → Keeps s given t found → Grows s t
+pub keeps_grow : {s : State} {given : Typed} {t : State} {found : Typed} → Keeps s given t found → Grows s t
 keeps_grow (lowered.settled is e f) = same e
 keeps_grow {s} (lowered.read is g) = on (puts _ (begins (stays s))) (gives_grow g)
 
@@ -81,20 +81,20 @@ keeps_if_grow : {b : Bool} {s : State} {given : Typed} {t : State} {found : Type
 keeps_if_grow (lowered.kept k) = keeps_grow k
 keeps_if_grow lowered.as_it_is = stays _
 
-counts : (o : Operator) (count : ℕ) {s t : State} → Grows s t → Grows s (counted o count t)
+pub counts : (o : Operator) (count : ℕ) {s t : State} → Grows s t → Grows s (counted o count t)
 counts o count g = puts _ (reads _ (reads _ (reads _ g)))
 
-child_tests : (count : ℕ) {s t : State} → Grows s t → Grows s (with_child_test count t)
+pub child_tests : (count : ℕ) {s t : State} → Grows s t → Grows s (with_child_test count t)
 child_tests count g = reads _ (reads _ (reads _ g))
 
-uses : (place : ℕ) {s t : State} → Grows s t → Grows s (used place t)
+pub uses : (place : ℕ) {s t : State} → Grows s t → Grows s (used place t)
 uses place g = alike g refl refl refl
 
 yields : (b : Bool) {s t : State} → Grows s t → Grows s (yielding b t)
 yields true g = puts _ g
 yields false g = g
 
-either : {A : Type 0} (P : A → Type 0) (b : Bool) {x y : A} → P x → P y → P (if b then x else y)
+pub either : {A : Type 0} (P : A → Type 0) (b : Bool) {x y : A} → P x → P y → P (if b then x else y)
 either P true p q = p
 either P false p q = q
 

@@ -17,10 +17,12 @@ use Rattle.swift_expressions.specs.declared.code.Target.{Target}
 use Rattle.swift_expressions.specs.declared.code.Target.TheVariants.{Nothing, Declare}
 use Rattle.swift_expressions.specs.declared.code.TheConstants.{NONE}
 use Rattle.swift_expressions.specs.declared.code.Unit as units
+use Rattle.swift_expressions.specs.declared.code.UnitKind.{UnitKind}
 use Rattle.swift_expressions.specs.declared.code.Value.{Value}
 use Rattle.swift_expressions.specs.declared.code.Value.TheVariants as value
 use Rattle.swift_expressions.specs.declared.code.Variable.{Variable}
 use Rattle.swift_expressions.specs.declared.code.Wait.{Wait}
+use Rattle.swift_expressions.specs.declared.lines.Spot.{Spot}
 use Rattle.swift_expressions.specs.declared.lowering.Fallback.{Fallback}
 use Rattle.swift_expressions.specs.declared.lowering.Fallback.TheVariants as fallbacks
 use Rattle.swift_expressions.specs.declared.lowering.Lowering.{Lowering}
@@ -165,6 +167,15 @@ renamed variables place token duplicate (Some v) = slice_set variables place (re
 abbrev pub named : ℕ → ℕ → ℕ → State → State
 named place token duplicate s = record s { variables = renamed s.variables place token duplicate (slice_get s.variables place) }
 
+-- a unit that a closure or a method becomes, behind the others
+abbrev pub with_unit : units.Unit → State → State
+with_unit u s = record s { units = s.units ++ u ∷ [] }
+
+-- A unit begins at a token, without instructions so far. On which line that stands is not said.
+pub record IsBegun (s : State) (kind : UnitKind) (actor method token : ℕ) (t : State) : Type 0 where
+  pub spot : Spot
+  pub state : t ≡ with_unit (record { kind = kind; actor = actor; from = 0; to = 0; needs_done = false; returns_inside = false; token = token; end = token; method = method; spot = spot }) s
+
 -- a unit that was looked for notes that it returns from within a group's block
 abbrev pub noted_inside : List units.Unit → ℕ → Option units.Unit → List units.Unit
 noted_inside all place None = all
@@ -182,6 +193,15 @@ noted_done all place (Some u) = slice_set all place (record u { needs_done = tru
 -- something of the unit may follow a `return`
 abbrev pub with_done : State → State
 with_done s = record s { units = noted_done s.units s.unit (slice_get s.units s.unit) }
+
+-- a group that was looked for notes that a child may have been left out
+abbrev pub noted_partial : List Binding → ℕ → Option Binding → List Binding
+noted_partial scope place None = scope
+noted_partial scope place (Some b) = slice_set scope place (record b { is_partial = true })
+
+-- a child may have been left out of the group in scope at a place
+abbrev pub with_partial : ℕ → State → State
+with_partial place s = record s { scope = noted_partial s.scope place (slice_get s.scope place) }
 
 -- what a value is called
 abbrev pub standing_of : Bool → Standing

@@ -3,7 +3,7 @@
 ghost use Rattle.std.specs.List.{slice_get};
 ghost use Rattle.std.specs.Prelude.{◌≡◌, ◌++◌, ◌∷◌, [], IsTrue, IsNone, IsSome, length, ℕ, false, ◌↔◌};
 ghost use Rattle.swift_expressions.specs.Instructions.{IsPlaced, IsVariableOf, KeepsRefusal, Puts, value_at};
-ghost use Rattle.swift_expressions.specs.States.{Becomes, IsDeclared, argument_at, bytes_at, expr_at, fault_of, in_scope, named, next_value, next_variable, put, returned_inside, state_of, stmt_at, with_done, with_fallback, with_operand, with_temporary, with_value, with_variable};
+ghost use Rattle.swift_expressions.specs.States.{Becomes, IsBegun, IsDeclared, argument_at, bytes_at, expr_at, fault_of, in_scope, named, next_value, next_variable, put, returned_inside, state_of, stmt_at, with_done, with_fallback, with_operand, with_temporary, with_value, with_variable};
 
 use crate::code::{Code, Instruction, Kind, NONE, Operand, Unit, UnitKind, Value, Variable};
 use crate::lines::{Lines, Spot};
@@ -331,12 +331,16 @@ impl<'a> Lowering<'a> {
     }
 
     /// How many instructions there are.
-    pub fn here(&self) -> usize {
+    pub fn here(&self) -> usize
+        ensures { result ≡ length self.now.code.instructions.items }
+    {
         self.code.instructions.len()
     }
 
     /// The operand at a place.
-    pub fn operand_at(&self, place: usize) -> Option<Operand> {
+    pub fn operand_at(&self, place: usize) -> Option<Operand>
+        ensures { result ≡ slice_get self.now.code.operands.items place }
+    {
         self.code.operands.get(place).copied()
     }
 
@@ -454,7 +458,10 @@ impl<'a> Lowering<'a> {
     }
 
     /// Notes where the next value stands that `main` prints by the `print` at a token. Its place among them.
-    pub fn print_at(&mut self, token: usize) -> usize {
+    pub fn print_at(&mut self, token: usize) -> usize
+        ensures state { Becomes self.new (state_of self.old) }
+        ensures refused { KeepsRefusal self.old self.new }
+    {
         let place = self.code.printed.len();
         let spot = self.lines.printed(token);
         let is_grown = self.code.printed.push(spot).is_ok();
@@ -463,7 +470,10 @@ impl<'a> Lowering<'a> {
     }
 
     // Where a unit stands that begins at a token.
-    fn spot(&mut self, kind: UnitKind, token: usize) -> Spot {
+    fn spot(&mut self, kind: UnitKind, token: usize) -> Spot
+        ensures state { Becomes self.new (state_of self.old) }
+        ensures refused { KeepsRefusal self.old self.new }
+    {
         match kind {
             UnitKind::Closure => self.lines.closure(token),
             UnitKind::Method(_) | UnitKind::Main => Spot {
@@ -474,7 +484,11 @@ impl<'a> Lowering<'a> {
     }
 
     /// A unit of the method with the name of a token, put into its table. Its place.
-    pub fn unit(&mut self, kind: UnitKind, actor: usize, method: usize, token: usize) -> usize {
+    pub fn unit(&mut self, kind: UnitKind, actor: usize, method: usize, token: usize) -> usize
+        ensures begun { IsNone self.new.refused → IsBegun (state_of self.old) kind actor method token (state_of self.new) }
+        ensures place { result ≡ length self.old.code.units.items }
+        ensures refused { KeepsRefusal self.old self.new }
+    {
         let place = self.code.units.len();
         let spot = self.spot(kind, token);
         let is_grown = self

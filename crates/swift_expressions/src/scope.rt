@@ -3,7 +3,7 @@
 ghost use Rattle.std.specs.Prelude.{◌≡◌, IsNone, slice_get};
 ghost use Rattle.swift_expressions.specs.Instructions.{IsBound, KeepsRefusal};
 ghost use Rattle.swift_expressions.specs.Lowered.{used};
-ghost use Rattle.swift_expressions.specs.States.{Becomes, Binds, left_to, standing_of, state_of};
+ghost use Rattle.swift_expressions.specs.States.{Becomes, Binds, left_to, standing_of, state_of, with_partial};
 
 use crate::code::Kind;
 use crate::lowering::Lowering;
@@ -85,7 +85,10 @@ pub fn mark_used(lowering: &mut Lowering<'_>, place: usize)
 }
 
 /// Notes that a child may have been left out of the group at a place.
-pub fn mark_partial(lowering: &mut Lowering<'_>, place: usize) {
+pub fn mark_partial(lowering: &mut Lowering<'_>, place: usize)
+    ensures state { Becomes lowering.new (with_partial place (state_of lowering.old)) }
+    ensures refused { KeepsRefusal lowering.old lowering.new }
+{
     if let Some(binding) = lowering.scope.get_mut(place) {
         binding.is_partial = true;
     }
