@@ -9,13 +9,15 @@ that is shown.
 
 Each file of examples/nuchapay/mistakes is a text with a mistake, then a line `== says` with all that has to be said of it, and where a fix is
 offered a line `== fixed` with the text that the fix gives. What `--format json` says has to have the same number, place and texts, and a
-text that was fixed has to be accepted, or refused further on. Status 0 where all agrees.
+text that was fixed has to be accepted, or refused further on. Where its name begins with `swift_`, the text is that of a file
+mistake.swift, and no more is compared than what is said. Status 0 where all agrees.
 """
 import json
 import os
 import re
 import subprocess
 import sys
+import tempfile
 
 TOP = os.path.dirname(os.path.dirname(os.path.abspath(__file__)))
 TABLE = os.path.join(TOP, "examples", "nuchapay", "marks")
@@ -104,8 +106,21 @@ def fix_faults(program, mistake, found):
             yield "what was fixed is not read further"
 
 
+def swift_faults(program, mistake):
+    """What is otherwise with what is said of a mistake in a Swift file."""
+    with tempfile.TemporaryDirectory() as folder:
+        with open(os.path.join(folder, "mistake.swift"), "wb") as file:
+            file.write(mistake.text)
+        ran = subprocess.run([program, "check", "mistake.swift"], cwd=folder, capture_output=True, check=False)
+    if (ran.returncode, ran.stdout, ran.stderr) != (3, b"", mistake.says):
+        yield f"{mistake.name}: it ends with {ran.returncode}, and says\n{ran.stderr.decode(errors='replace')}"
+
+
 def mistake_faults(program, mistake):
     """What is otherwise with what is said of a mistake."""
+    if mistake.name.startswith("swift_"):
+        yield from swift_faults(program, mistake)
+        return
     ended, out, _ = said(program, mistake.text)
     told = subprocess.run([program, "check"], input=mistake.text, capture_output=True, check=False).stderr
     if (ended, out) != (3, b"") or told != mistake.says:

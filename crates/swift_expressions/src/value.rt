@@ -12,7 +12,7 @@ use crate::lowering::{Fallback, Lowering};
 use crate::name::{member, name, own_field, priority_named};
 use crate::operands::Operands;
 use crate::typed::{Typed, keep_if, refused, want, with_kind};
-use swift_syntax::{Expr, ExprForm, Rule};
+use swift_syntax::{Expr, ExprForm, Receiver, Rule};
 use swift_types::Operator;
 
 // The type of what an operator gives, of two operands of a type.
@@ -291,13 +291,24 @@ pub fn want_wait(lowering: &mut Lowering<'_>, place: usize)
         ExprForm::Await(inner) => inner,
         _ => place,
     };
-    let is_wait = match lowering.expr(inner).form {
+    let waited = lowering.expr(inner);
+    let is_wait = match waited.form {
         ExprForm::Member(_) => true,
-        ExprForm::Call(_, first) => !any_acts(lowering, first),
+        ExprForm::Call(receiver, first) => {
+            is_sleep(lowering, receiver, waited.token) || !any_acts(lowering, first)
+        }
         _ => false,
     };
     if !is_wait {
         lowering.refuse(Rule::NotYet, expr.token);
+    }
+}
+
+// Whether what is called is `Task.sleep`. Its argument is not computed, so that may be `.seconds(1)`.
+fn is_sleep(lowering: &Lowering<'_>, receiver: Receiver, token: usize) -> bool {
+    match receiver {
+        Receiver::Named(of) => lowering.spells(of, "Task") && lowering.spells(token, "sleep"),
+        Receiver::Nobody | Receiver::Own => false,
     }
 }
 

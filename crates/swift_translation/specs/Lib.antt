@@ -4,6 +4,7 @@ pub mod BlockTextsInside
 pub mod BodiesInside
 pub mod MethodPlaces
 pub mod MethodTextsInside
+pub mod MistakesInside
 pub mod Names
 pub mod PlaceTexts
 pub mod Refusals

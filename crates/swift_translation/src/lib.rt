@@ -13,6 +13,8 @@ mod frame;
 mod laws;
 // The line of a text on which a place lies.
 mod line;
+// Forms that are often written, and what to write in place of them.
+mod mistakes;
 // The names of a script.
 mod naming;
 // Closures, functions outside of actors, and `main`.

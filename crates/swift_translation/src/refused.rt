@@ -5,6 +5,7 @@ ghost use Rattle.std.specs.String.{string_bytes};
 ghost use Rattle.swift_translation.specs.Refusals.{IsSaidOf, arrow_text, bar_text, head_text, help_text, mark_text, place_text, source_text};
 
 use crate::line::{Line, SHOWN, line_at, shown_line};
+use crate::mistakes::mistake_help;
 use std::alloc::{AllocError, Global};
 use swift_syntax::{Refusal, Rule};
 
@@ -28,23 +29,27 @@ pub fn refusal_text(
     let many = refusal.to.saturating_sub(refusal.from);
     let head = head(alloc, refusal.rule.name(), refusal.rule.title())?;
     let place = place(alloc, file, gutter.as_str(), number.as_str(), line, many)?;
-    let help = help(alloc, gutter.as_str(), help_of(text, refusal))?;
+    let help = help(alloc, gutter.as_str(), help_of(text, line, refusal))?;
     let parts = [head.as_str(), place.as_str(), help.as_str()];
     Ok(parts.as_slice().concat(alloc)?.into_bytes())
 }
 
 // What to do.
-fn help_of(text: &[u8], refusal: Refusal) -> &'static str {
-    match refusal.rule {
-        Rule::NotYet if is_do(text, refusal) => DO_HELP,
-        rule => rule.help(),
+fn help_of(text: &[u8], line: Line<'_>, refusal: Refusal) -> &'static str {
+    if is_do(text, refusal) {
+        return DO_HELP;
+    }
+    let many = refusal.to.saturating_sub(refusal.from);
+    match mistake_help(refusal.rule, line.left, line.right, many) {
+        Some(help) => help,
+        None => refusal.rule.help(),
     }
 }
 
-// Whether a `do` is to blame.
+// Whether a `do` is not taken.
 fn is_do(text: &[u8], refusal: Refusal) -> bool {
     match text.get(refusal.from..refusal.to) {
-        Some([b'd', b'o']) => true,
+        Some([b'd', b'o']) => refusal.rule == Rule::NotYet,
         _ => false,
     }
 }
