@@ -1,5 +1,5 @@
 -- Names that are spelled the same are one.
-use Rattle.std.proofs.Common.{◌≡◌, ◌∙◌, ◌<◌, ◌≤◌, ◌^◌, ◌==◌, ◌&&◌, ◌||◌, not, ℕ, zero, suc, Bool, true, false, List, [], ◌∷◌, ◌++◌, codes, decimal, refl, sym, ap, subst, arith, length, append_assoc, if◌then◌else◌}
+use Rattle.std.proofs.Common.{◌≡◌, ◌∙◌, ◌<◌, ◌≤◌, ◌^◌, ◌==◌, ◌&&◌, ◌||◌, not, ℕ, Bool, true, false, List, [], ◌∷◌, ◌++◌, codes, decimal, refl, sym, ap, subst, arith, length, append_assoc, if◌then◌else◌}
 use Rattle.std.proofs.lemmas.Bool.{false≢true}
 use Rattle.std.proofs.lemmas.Bool.Decides.{nat_tests}
 use Rattle.std.proofs.lemmas.Fmt.{decimal_is_IsNumeral, decimal_injective}
@@ -9,7 +9,7 @@ use Rattle.std.specs.List.{list_any}
 use Rattle.std.specs.Str.Parse.{AllDigits}
 use Rattle.std.specs.Prelude.{bytes_eq, nat_le}
 use Rattle.swift_translation.specs.declared.word.TheConstants.{WORDS}
-use Rattle.swift_translation.specs.Names.{NameView, Named, Temporary, Caught, Result, Done, Printed, Precondition, IsNumbered, begins, ends_low, file_name, is_kept, pair, spelled, temporary_name, variable_name}
+use Rattle.swift_translation.specs.Names.{NameView, Named, Temporary, Caught, Result, Done, Printed, Precondition, IsNumbered, begins, ends_low, file_name, is_kept, pair, spelled}
 
 abbrev tail_of : List ℕ → List ℕ
 tail_of [] = []

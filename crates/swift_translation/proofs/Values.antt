@@ -1,5 +1,5 @@
 -- The text of a value.
-use Rattle.std.proofs.Common.{◌≡◌, ◌++◌, ◌-◌, ◌≤◌, ℕ, zero, suc, List, ap, arith, codes, sym, subst}
+use Rattle.std.proofs.Common.{◌≡◌, ◌++◌, ◌-◌, ◌≤◌, ℕ, zero, suc, ap, arith, codes, subst}
 use Rattle.swift_types.specs.declared.operator.Operator.{Operator}
 use Rattle.swift_expressions.specs.declared.code.Value.TheVariants as value
 use Rattle.swift_translation.specs.SourcesInside.{value_at}

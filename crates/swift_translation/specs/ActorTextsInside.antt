@@ -2,7 +2,6 @@
 use Rattle.std.specs.Prelude.{ℕ, ℤ, zero, suc, ◌==◌, ◌&&◌, ◌||◌, ◌++◌, Bool, true, false, not, List, [], Option, Some, None, codes, drop, if◌then◌else◌, length, max, slice_get, take}
 use Rattle.std.specs.Fmt.{signed_decimal}
 use Rattle.std.specs.List.{list_any}
-use Rattle.swift_syntax.specs.declared.token.Token.{Token}
 use Rattle.swift_syntax.specs.declared.tree.Access.{Access}
 use Rattle.swift_syntax.specs.declared.tree.Access.TheVariants as access
 use Rattle.swift_syntax.specs.declared.tree.ActorDecl.{ActorDecl}

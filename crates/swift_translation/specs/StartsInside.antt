@@ -2,7 +2,6 @@
 use Rattle.std.specs.Prelude.{ℕ, ◌==◌, ◌&&◌, ℤ, pos, neg_ℤ, int_lt, cond, if◌then◌else◌, Bool, List, [], ◌∷◌, Option, Some, None, bytes_eq, length, nat_le, position, slice_get, slice_range}
 use Rattle.swift_syntax.specs.declared.tree.ActorDecl.{ActorDecl}
 use Rattle.swift_syntax.specs.declared.tree.Argument.{Argument}
-use Rattle.swift_syntax.specs.declared.tree.Expr.{Expr}
 use Rattle.swift_syntax.specs.declared.tree.ExprForm.{ExprForm}
 use Rattle.swift_syntax.specs.declared.tree.ExprForm.TheVariants as form
 use Rattle.swift_syntax.specs.declared.tree.FieldDecl.{FieldDecl}

@@ -1,4 +1,4 @@
-use Rattle.std.proofs.Common.{◌≡◌, ◌∙◌, ◌-◌, ◌≤◌, List, ℕ, arith, codes, refl, subst, sym}
+use Rattle.std.proofs.Common.{◌∙◌, ◌-◌, ◌≤◌, List, ℕ, arith, codes, refl, subst, sym}
 use Rattle.swift_translation.specs.ValueTextsInside.{deep_text}
 use Rattle.swift_translation.specs.WordsInside.{operator_text}
 use Rattle.swift_translation.specs.WritingInside.{GoesOn}
