@@ -214,18 +214,17 @@ lead_alike script bs cs x y hx hy same places_x places_y =
     }
 
 -- histories of one key lead alike
-pub alike_keys : (script : ScriptView) (bs cs : List Block) (key : List ℕ) → IsKeyFor script bs key → IsKeyFor script cs key → LeadAlike script (starts script) bs cs
+pub alike_keys : (script : ScriptView) (bs cs : List Block) (key : List ℤ) → IsKeyFor script bs key → IsKeyFor script cs key → LeadAlike script (starts script) bs cs
 alike_keys script bs cs key one two =
     let x : SearchedHistory = one.0 in
     let y : SearchedHistory = two.0 in
     let hx : IsHistory script bs x = one.1 in
     let hy : IsHistory script cs y = two.1 in
-    let same : one.2.0 ≡ two.2.0 = bytes_read one.2.0 two.2.0 (sym one.2.2 ∙ two.2.2) in
-    let nx : IsNumbered x two.2.0 = subst (IsNumbered x) same one.2.1 in
-    let ny : IsNumbered y two.2.0 = two.2.1 in
-    let places : (z : SearchedHistory) → z.steps.book.script ≡ script → IsNumbered z two.2.0 → length z.steps.book.held ≡ tasks_of (root_count script) z.steps.book.log =
+    let nx : IsNumbered x key = one.2 in
+    let ny : IsNumbered y key = two.2 in
+    let places : (z : SearchedHistory) → z.steps.book.script ≡ script → IsNumbered z key → length z.steps.book.held ≡ tasks_of (root_count script) z.steps.book.log =
     λ z own n. subst (λ (s : ScriptView). length z.steps.book.held ≡ tasks_of (root_count s) z.steps.book.log) own n.places in
-    lead_alike script bs cs x y hx hy (same_facts x y two.2.0 nx ny) (places x hx.followed.book_is nx) (places y hy.followed.book_is ny)
+    lead_alike script bs cs x y hx hy (same_facts x y key nx ny) (places x hx.followed.book_is nx) (places y hy.followed.book_is ny)
 
 -- outcomes of one key have the same endings and the same fields
 pub outcome_read : (a b : RunOutcome) → outcome_bytes a ≡ outcome_bytes b → (a.endings.items ≡ b.endings.items) × (map (λ rows. rows_of rows.items) a.fields.items ≡ map (λ rows. rows_of rows.items) b.fields.items)

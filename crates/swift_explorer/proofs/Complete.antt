@@ -25,11 +25,11 @@ no_steps [] is = refl
 no_steps (b ∷ bs) is = absurd is
 
 -- the history in which nothing has happened was kept
-first_like : (script : ScriptView) (s z : Search) (history : SearchedHistory) → arc_value s.script ≡ script → IsPath script [] history → Keeps s z history → IsTrue z.is_complete → HasLike script (paths_of z.nodes.items) []
+first_like : (script : ScriptView) (s z : Search) (history : SearchedHistory) → arc_value s.script ≡ script → IsPath script [] history → Keeps s z history → IsTrue z.is_complete → HasLike script (paths_of z.nodes) []
 first_like script s z history own p keeps is =
     let h = subst (λ (sc : ScriptView). IsHistory sc p.blocks history) (sym own) p.is in
     let like = keeps.kept is p.blocks h in
-    subst (λ (sc : ScriptView). HasLike sc (paths_of z.nodes.items) []) own (subst (HasLike (arc_value s.script) (paths_of z.nodes.items)) (no_steps p.blocks p.steps) like)
+    subst (λ (sc : ScriptView). HasLike sc (paths_of z.nodes) []) own (subst (HasLike (arc_value s.script) (paths_of z.nodes)) (no_steps p.blocks p.steps) like)
 
 -- a search that has kept it has gone on from none
 pub gone_none : (script : ScriptView) (s z : Search) (history : SearchedHistory) → arc_value s.script ≡ script → IsPath script [] history → Keeps s z history → HasGoneOn (arc_value z.script) z 0
@@ -46,7 +46,7 @@ gone_none script s z history own p keeps =
 record IsNode (script : ScriptView) (x : Search) (h : List Block) : Type 0 where
   place : ℕ
   path : List Move
-  there : slice_get (paths_of x.nodes.items) place ≡ Some path
+  there : slice_get (paths_of x.nodes) place ≡ Some path
   leads : LeadsTo script path h
 
 one_turn : (b : Block) (e : ℕ) (r : RecordView) → Contains (b ∷ []) (ran e r) → b ≡ ran e r
@@ -55,14 +55,14 @@ one_turn b e r has = elim (cons_cases b [] (ran e r) has) [ inl here ↦ here | 
 turn_after : (t n : ℕ) (env : Env) (b : Block) (e : ℕ) (r : RecordView) → Contains (begun t n env ∷ b ∷ []) (ran e r) → b ≡ ran e r
 turn_after t n env b e r has = elim (cons_cases (begun t n env) (b ∷ []) (ran e r) has) [ inl here ↦ absurd (cc here) | inr more ↦ one_turn b e r more ]
 
-node_of : (script : ScriptView) (x : Search) (bs : List Block) (like : HasLike script (paths_of x.nodes.items) bs) → IsNode script x like.others
+node_of : (script : ScriptView) (x : Search) (bs : List Block) (like : HasLike script (paths_of x.nodes) bs) → IsNode script x like.others
 node_of script x bs like = record { place = like.place; path = like.path; there = like.there; leads = like.leads }
 
 -- a turn was tried that ends so: where no turn was found that breaks an invariant, it breaks none
 abbrev Ended : Search → ℕ → ExitView → Type 0
 Ended x e exit = x.broken ≡ None → BreaksInvariant exit → ⊥
 
-module _ (script : ScriptView) (x : Search) (hold : StartsHold script) (first : HasLike script (paths_of x.nodes.items) []) (each : (place : ℕ) → place < length x.nodes.items → IsExpandedAt script x place) (on : ActorsHaveExecutors script) where
+module _ (script : ScriptView) (x : Search) (hold : StartsHold script) (first : HasLike script (paths_of x.nodes) []) (each : (place : ℕ) → place < length x.nodes → IsExpandedAt script x place) (on : ActorsHaveExecutors script) where
   abbrev cps : List CheckpointView
   cps = starts script
 
@@ -71,8 +71,8 @@ module _ (script : ScriptView) (x : Search) (hold : StartsHold script) (first : 
 
   expanded_at : (h : List Block) (k : IsNode script x h) → (path : List Move) × LeadsTo script path h × IsExpanded script x path
   expanded_at h k =
-      let within = slice_get_within (paths_of x.nodes.items) k.place k.path k.there in
-      let is = each k.place (subst (λ (n : ℕ). k.place < n) (paths_length x.nodes.items) within) in
+      let within = slice_get_within (paths_of x.nodes) k.place k.path k.there in
+      let is = each k.place (subst (λ (n : ℕ). k.place < n) (paths_length x.nodes) within) in
       let same : k.path ≡ is.0 = ap (λ (o : Option (List Move)). unwrap_or o k.path) (sym k.there ∙ is.1) in
       (is.0, subst (λ (path : List Move). LeadsTo script path h) same k.leads, is.2)
 
@@ -232,8 +232,8 @@ module _ (script : ScriptView) (x : Search) (hold : StartsHold script) (first : 
     breaks_none whole (folded e f) has breaks = breaks
 
 -- a search that has gone on from each history that it has kept, and left none out, has found all
-module _ (x : Search) (next : ℕ) (gone : HasGoneOn (arc_value x.script) x next) (last : length x.nodes.items ≤ next) (is : IsTrue x.is_complete) where
-  each_kept : (place : ℕ) → place < length x.nodes.items → IsExpandedAt (arc_value x.script) x place
+module _ (x : Search) (next : ℕ) (gone : HasGoneOn (arc_value x.script) x next) (last : length x.nodes ≤ next) (is : IsTrue x.is_complete) where
+  each_kept : (place : ℕ) → place < length x.nodes → IsExpandedAt (arc_value x.script) x place
   each_kept place low = gone.expanded is place (omega (arith, low, last))
 
   pub has_each : HasEachOutcome (arc_value x.script) x.outcomes.items

@@ -1,7 +1,8 @@
 -- What a search has found stays as it goes on.
-use Rattle.swift_explorer.proofs.Prelude.{◌≡◌, ◌<◌, ◌≤◌, ℕ, zero, suc, ◌+◌, true, false, List, [], ◌∷◌, ◌++◌, length, refl, sym, subst, arith, inl, inr, ◌∙◌, IsTrue, false≢true, slice_get_within, ScriptView, Block, after_turns, Move, Search, Step, Turn, HasGoneOn, HasGrown, HasLike, HasLikeAhead, IsExpandedAt, IsKept, IsSound, StepWasTried, TurnWasTried, WasTried, paths_of}
+use Rattle.swift_explorer.proofs.Prelude.{◌≡◌, ◌<◌, ◌≤◌, ℕ, ℤ, zero, suc, ◌+◌, true, false, List, [], ◌∷◌, ◌++◌, length, refl, sym, subst, arith, inl, inr, ◌∙◌, IsTrue, false≢true, slice_get_within, ScriptView, Block, after_turns, Move, Search, Step, Turn, HasGoneOn, Grows, HasGrown, HasLike, HasLikeAhead, IsExpandedAt, IsKept, IsSound, StepWasTried, TurnWasTried, WasTried, paths_of}
 use Rattle.swift_explorer.proofs.Ended.{lt_or}
 use Rattle.swift_explorer.proofs.Nodes.{path_there, paths_length}
+use Rattle.swift_explorer.proofs.PartsKnown.{code_grown}
 
 pub grown_none : (x : Search) → HasGrown x x
 grown_none x = record { script = refl; limit = refl; paths = λ i path at. at; outcomes = λ o has. has; broken = λ none. none; complete = λ is. is }
@@ -16,7 +17,7 @@ grown_on x y z one two = record {
   complete = λ is. one.complete (two.complete is);
 }
 
-pub like_grown : (script : ScriptView) (x y : Search) (blocks : List Block) → HasGrown x y → HasLike script (paths_of x.nodes.items) blocks → HasLike script (paths_of y.nodes.items) blocks
+pub like_grown : (script : ScriptView) (x y : Search) (blocks : List Block) → HasGrown x y → HasLike script (paths_of x.nodes) blocks → HasLike script (paths_of y.nodes) blocks
 like_grown script x y blocks grown like = record {
   place = like.place;
   path = like.path;
@@ -27,10 +28,10 @@ like_grown script x y blocks grown like = record {
   back = like.back;
 }
 
-ahead_grown : (script : ScriptView) (x y : Search) (blocks : List Block) → HasGrown x y → HasLikeAhead script (paths_of x.nodes.items) blocks → HasLikeAhead script (paths_of y.nodes.items) blocks
+ahead_grown : (script : ScriptView) (x y : Search) (blocks : List Block) → HasGrown x y → HasLikeAhead script (paths_of x.nodes) blocks → HasLikeAhead script (paths_of y.nodes) blocks
 ahead_grown script x y blocks grown ahead = record { turns = ahead.turns; run = ahead.run; whole = ahead.whole; like = like_grown script x y (after_turns blocks ahead.turns) grown ahead.like }
 
-pub kept_grown : (script : ScriptView) (x y : Search) (key : List ℕ) → HasGrown x y → IsKept script (paths_of x.nodes.items) key → IsKept script (paths_of y.nodes.items) key
+pub kept_grown : (script : ScriptView) (x y : Search) (key : List ℤ) → HasGrown x y → IsKept script (paths_of x.nodes) key → IsKept script (paths_of y.nodes) key
 kept_grown script x y key grown kept = record {
   place = kept.place;
   path = kept.path;
@@ -65,19 +66,19 @@ expanded_grown script x y place grown is = (
 
 -- a search loses no history that it has kept
 
-below_grown : (x y : Search) (n : ℕ) → HasGrown x y → n ≤ length x.nodes.items → n ≤ length y.nodes.items
+below_grown : (x y : Search) (n : ℕ) → HasGrown x y → n ≤ length x.nodes → n ≤ length y.nodes
 below_grown x y zero grown le = omega arith
 below_grown x y (suc n) grown le =
-    let at = path_there x.nodes.items n (omega (arith, le)) in
-    let within = slice_get_within (paths_of y.nodes.items) n at.0 (grown.paths n at.0 at.1) in
-    let many = paths_length y.nodes.items in
+    let at = path_there x.nodes n (omega (arith, le)) in
+    let within = slice_get_within (paths_of y.nodes) n at.0 (grown.paths n at.0 at.1) in
+    let many = paths_length y.nodes in
     omega (arith, within, many)
 
-pub nodes_grown : (x y : Search) → HasGrown x y → length x.nodes.items ≤ length y.nodes.items
-nodes_grown x y grown = below_grown x y (length x.nodes.items) grown (omega arith)
+pub nodes_grown : (x y : Search) → HasGrown x y → length x.nodes ≤ length y.nodes
+nodes_grown x y grown = below_grown x y (length x.nodes) grown (omega arith)
 
 -- a search that has gone on from one history more
-pub gone_one : (script : ScriptView) (x y : Search) (next : ℕ) → HasGoneOn script x next → next < length x.nodes.items → HasGrown x y → IsSound script y → (IsTrue y.is_complete → IsExpandedAt script y next)
+pub gone_one : (script : ScriptView) (x y : Search) (next : ℕ) → HasGoneOn script x next → next < length x.nodes → HasGrown x y → IsSound script y → (IsTrue y.is_complete → IsExpandedAt script y next)
     → HasGoneOn script y (next + 1)
 gone_one script x y next gone lt grown sound expanded = record {
   sound = sound;
@@ -100,7 +101,7 @@ gone_still script x y next gone grown sound = record {
 
 -- a search that leaves a history out for the limit
 
-pub sound_full : (script : ScriptView) (x : Search) → IsSound script x → length x.nodes.items ≡ x.limit → IsSound script (record x { is_complete = false; met_limit = true })
+pub sound_full : (script : ScriptView) (x : Search) → IsSound script x → length x.nodes ≡ x.limit → IsSound script (record x { is_complete = false; met_limit = true })
 sound_full script x is full =
     record { script_is = is.script_is; outcomes = is.outcomes; broken = is.broken; nodes = is.nodes; few = is.few; keys = is.keys; ends = is.ends; keyed = is.keyed; once = is.once; met = λ _. full; told = is.told; marked = is.marked; hold = is.hold; short = is.short; histories = is.histories }
 
@@ -114,3 +115,27 @@ sound_left script x is = record { script_is = is.script_is; outcomes = is.outcom
 
 pub grown_left : (x : Search) → HasGrown x (record x { is_complete = false })
 grown_left x = record { script = refl; limit = refl; paths = λ i path at. at; outcomes = λ o has. has; broken = λ none. none; complete = λ is. absurd (false≢true is) }
+
+-- a search that has noted parts of a key
+
+pub sound_parts : (script : ScriptView) (x y : Search) → IsSound script x → Grows x.parts y.parts → IsSound script (record x { parts = y.parts; key = y.key; cuts = y.cuts })
+sound_parts script x y is grown = record {
+  script_is = is.script_is;
+  outcomes = is.outcomes;
+  broken = is.broken;
+  nodes = is.nodes;
+  few = is.few;
+  keys = λ code has. (let was = is.keys code has in (was.0, code_grown x.parts y.parts code was.0 grown was.1, was.2));
+  ends = is.ends;
+  keyed = is.keyed;
+  once = is.once;
+  met = is.met;
+  told = is.told;
+  marked = is.marked;
+  hold = is.hold;
+  short = is.short;
+  histories = is.histories;
+}
+
+pub grown_parts : (x y : Search) → HasGrown x (record x { parts = y.parts; key = y.key; cuts = y.cuts })
+grown_parts x y = record { script = refl; limit = refl; paths = λ i path at. at; outcomes = λ o has. has; broken = λ none. none; complete = λ is. is }

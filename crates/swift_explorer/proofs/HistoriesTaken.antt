@@ -26,7 +26,7 @@ pub grown_taken : (x z : Search) → HasGrown x (record x { histories = z.histor
 grown_taken x z = record { script = refl; limit = refl; paths = λ i path at. at; outcomes = λ o has. has; broken = λ none. none; complete = λ is. is }
 
 -- to a history that was kept at a place the steps there lead
-pub path_found : (script : ScriptView) (x : Search) → IsSound script x → (place : ℕ) (path : List Move) → slice_get (paths_of x.nodes.items) place ≡ Some path → (k : KeptHistory) → get nat_eq x.histories place ≡ Some k
+pub path_found : (script : ScriptView) (x : Search) → IsSound script x → (place : ℕ) (path : List Move) → slice_get (paths_of x.nodes) place ≡ Some path → (k : KeptHistory) → get nat_eq x.histories place ≡ Some k
     → IsPath script path k.history
 path_found script x is place path there k at =
     let was = is.histories place k at in

@@ -1,8 +1,9 @@
 -- What a set of keys has.
-use Rattle.swift_explorer.proofs.Prelude.{◌≡◌, ◌⊎◌, ◌↔◌, ◌<◌, ℕ, zero, suc, Bool, true, false, List, [], ◌∷◌, length, get_or, refl, sym, subst, ap, ◌∙◌, arith, inl, inr, ◌||◌, Contains, map, not, list_any, bytes_eq}
+use Rattle.swift_explorer.proofs.Prelude.{◌≡◌, ◌⊎◌, ◌↔◌, ◌<◌, ℕ, zero, suc, Bool, true, false, List, [], ◌∷◌, length, get_or, refl, sym, subst, ap, ◌∙◌, arith, inl, inr, ◌||◌, Contains, map, not, list_any, bytes_eq, ◌==◌, ◌&&◌, GroupPair, HalfCode, KeyCode}
 use Rattle.swift_explorer.specs.declared.key_set.Key.{Key}
 use Rattle.std.specs.HashSet.{HashSet, PutsKey}
 use Rattle.std.proofs.lemmas.List.Folds.{Any-from_list_any, list_any_at}
+use Rattle.std.specs.Cmp.{first_so, second_so, unsigned_Decides}
 use Rattle.std.proofs.lemmas.Slice.Eq.{bytes_eq-Decides}
 use Rattle.std.proofs.lemmas.List.Sorted.{Contains-permutation, IsPermutation-map, IsPermutation-sym}
 
@@ -22,11 +23,12 @@ among_there keys key is =
 pub there_among : (keys : List (List ℕ)) (key : List ℕ) → Contains keys key → list_any (bytes_eq key) keys ≡ true
 there_among keys key has = list_any_at (bytes_eq key) keys has.0 key has.1 ((bytes_eq-Decides key (get_or keys has.0 key)).1 (sym has.2))
 
-by_place : (head x : List ℕ) (rest : List (List ℕ)) (k : ℕ) → k < length (head ∷ rest) → get_or (head ∷ rest) k x ≡ x → Contains rest x ⊎ (head ≡ x)
+by_place : {A : Type 0} (head x : A) (rest : List A) (k : ℕ) → k < length (head ∷ rest) → get_or (head ∷ rest) k x ≡ x → Contains rest x ⊎ (head ≡ x)
 by_place head x rest zero low is = inr is
 by_place head x rest (suc k) low is = inl (k, omega arith, is)
 
-first_or_other : (head x : List ℕ) (rest : List (List ℕ)) → Contains (head ∷ rest) x → Contains rest x ⊎ (head ≡ x)
+-- what is among these is the first, or among the others
+pub first_or_other : {A : Type 0} (head x : A) (rest : List A) → Contains (head ∷ rest) x → Contains rest x ⊎ (head ≡ x)
 first_or_other head x rest has = by_place head x rest has.0 has.1 has.2
 
 one_more : {S : Type 0} (s n : HashSet Key S) (key : Key) (added : Bool) → PutsKey s n key added → (k : List ℕ) → Contains (bytes_of n.keys) k → Contains (bytes_of s.keys) k ⊎ (key.bytes.items ≡ k)
@@ -62,3 +64,43 @@ put_keys s n key added put is k = (
     | inr same ↦ subst (Contains (bytes_of n.keys)) same (there s n key added put is)
   ],
 )
+
+-- the same of codes
+
+pair_same : (p q : GroupPair) → ((p.left == q.left) && (p.right == q.right)) ≡ true → p ≡ q
+pair_same p q is =
+    let left : p.left ≡ q.left = (unsigned_Decides p.left q.left).0 (first_so _ _ is) in
+    let right : p.right ≡ q.right = (unsigned_Decides p.right q.right).0 (second_so _ _ is) in
+    λ i. record { left = left i; right = right i }
+
+abbrev pair_eq : GroupPair → GroupPair → Bool
+pair_eq p q = (p.left == q.left) && (p.right == q.right)
+
+abbrev half_eq : HalfCode → HalfCode → Bool
+half_eq a b = pair_eq a.left b.left && pair_eq a.right b.right
+
+abbrev code_eq : KeyCode → KeyCode → Bool
+code_eq a b = half_eq a.left b.left && half_eq a.right b.right
+
+half_same : (a b : HalfCode) → half_eq a b ≡ true → a ≡ b
+half_same a b is =
+    let left : a.left ≡ b.left = pair_same a.left b.left (first_so _ _ is) in
+    let right : a.right ≡ b.right = pair_same a.right b.right (second_so _ _ is) in
+    λ i. record { left = left i; right = right i }
+
+code_same : (a b : KeyCode) → code_eq a b ≡ true → a ≡ b
+code_same a b is =
+    let left : a.left ≡ b.left = half_same a.left b.left (first_so _ _ is) in
+    let right : a.right ≡ b.right = half_same a.right b.right (second_so _ _ is) in
+    λ i. record { left = left i; right = right i }
+
+-- a code that is found is there
+pub known_code : (codes : List KeyCode) (code : KeyCode) → list_any (code_eq code) codes ≡ true → Contains codes code
+known_code codes code is =
+    let one = Any-from_list_any (code_eq code) codes is in
+    subst (Contains codes) (sym (code_same code one.1 one.4)) (one.0, one.2, one.3)
+
+-- the codes are those of before and the one that was put in
+pub codes_added : {S : Type 0} (s n : HashSet KeyCode S) (code : KeyCode) (added : Bool) → PutsKey s n code added → (c : KeyCode) → Contains n.keys c → Contains s.keys c ⊎ (code ≡ c)
+codes_added s n code true put c has = first_or_other code c s.keys (Contains-permutation n.keys (code ∷ s.keys) c (IsPermutation-sym (code ∷ s.keys) n.keys put) has)
+codes_added s n code false put c has = inl (subst (λ (keys : List KeyCode). Contains keys c) put has)

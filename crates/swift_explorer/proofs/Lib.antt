@@ -14,6 +14,8 @@ mod EachMove
 mod Written
 mod Alike
 mod Nodes
+mod PartsKnown
+mod KeptNodes
 mod Growing
 mod KeySets
 mod Keeping

@@ -1,5 +1,5 @@
 -- What is read of turns that look away.
-use Rattle.swift_explorer.proofs.Prelude.{◌≡◌, ◌<◌, ℕ, ◌+◌, List, [], ◌∷◌, ◌++◌, drop, length, get_or, refl, sym, subst, ap, ap₂, ◌∙◌, Bool, true, false, inl, inr, Option, Some, Contains, ◌&&◌, option_map, arc_value, false≢true, drop_more, Contains-append_left, Contains-push, Contains-push_cases, TaskId, term_of, terms_of, Formula, ScriptView, FrameView, is_cancelled, JobFacts, Block, standing, NextTurn, given_at, given_view, frames_look_away, job_looks_away, term_looks_away, terms_look_away, turn_looks_away, Move, Step, SearchedHistory, One, Turn, Away, AwayCancelled, ArePlansOf, HasEachStep, IsChosen, IsPlanOf, LooksAway, HasEachMove, IsHistory, IsMoveOf, NextIs, frames_are}
+use Rattle.swift_explorer.proofs.Prelude.{◌≡◌, ◌<◌, ℕ, ◌+◌, List, [], ◌∷◌, ◌++◌, drop, length, get_or, sym, subst, ap, ap₂, ◌∙◌, Bool, true, false, inl, inr, Option, Some, Contains, ◌&&◌, option_map, arc_value, false≢true, drop_more, Contains-append_left, Contains-push, Contains-push_cases, TaskId, term_of, terms_of, Formula, ScriptView, FrameView, is_cancelled, JobFacts, Block, standing, NextTurn, given_at, given_view, frames_look_away, job_looks_away, term_looks_away, terms_look_away, turn_looks_away, Move, Step, SearchedHistory, One, Turn, Away, AwayCancelled, ArePlansOf, HasEachStep, IsChosen, IsPlanOf, LooksAway, HasEachMove, IsHistory, IsMoveOf, NextIs, frames_are}
 use Rattle.swift_reordering.proofs.Flags.{job_stays}
 
 pub away_from : (cancelled : Bool) (xs : List Formula) (i : ℕ) (x : Formula) → i < length xs → x ≡ get_or xs i x → terms_look_away cancelled (terms_of (drop i xs)) ≡ (term_looks_away cancelled (term_of x) && terms_look_away cancelled (terms_of (drop (i + 1) xs)))

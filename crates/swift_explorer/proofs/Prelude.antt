@@ -50,11 +50,13 @@ pub use Rattle.swift_explorer.specs.FoundText.{begins, ended_text, steps_text, t
 pub use Rattle.swift_explorer.specs.FrameNumbers.{binding_numbers, bindings_numbers, fields_numbers, frame_numbers, ids_numbers, rows_numbers, values_numbers}
 pub use Rattle.swift_explorer.specs.FusedInside.{ArePlansOf, HasEachStep, IsChosen, IsPlanOf, IsRoomy, LooksAway, first_half}
 pub use Rattle.swift_explorer.specs.HistoryInside.{AreEnded, AreFirst, AreThere, GoesOn, HasEach, HasEachMove, HaveClosed, IsCopy, IsHistory, IsMissing, IsMoveOf, IsPath, IsSomeHistory, IsUnderWay, MayBegin, WasDone, has_records, rows_at}
-pub use Rattle.swift_explorer.specs.KeysInside.{IsKeyFor, IsKeyOf, IsNumbered, ReadyView, body_numbers, end_numbers, frames_left, job_left, job_numbers, outcome_bytes, ready_numbers, ready_view, rest_numbers, rest_of, task_left, with_counts}
+pub use Rattle.swift_explorer.specs.KeysInside.{IsKeyFor, IsNumbered, ReadyView, body_numbers, end_numbers, frames_left, job_left, job_numbers, outcome_bytes, ready_numbers, ready_view, rest_numbers, rest_of, task_left, with_counts}
 pub use Rattle.swift_explorer.specs.LogDigestsInside.{AreGroups, AreGroupsNoted, AskedAtMost, IsGroupNoted, IsKeyNoted, IsNamedAt, IsNamedIn, IsRead, IsReadOf, IsReadSome, IsSameGroup}
 pub use Rattle.swift_explorer.specs.MarksInside.{AreTold, HaveMarks, HaveSilentMarks, NextIs, frames_are, operation_is, term_is}
+pub use Rattle.swift_explorer.specs.NodesInside.{AreWithin, NodeView, node_view}
 pub use Rattle.swift_explorer.specs.Numbers.{each_numbers, ending_numbers, env_numbers, fault_numbers, flag_numbers, given_numbers, life_numbers, link_numbers, list_numbers, number_numbers, option_numbers, origin_numbers, pair_numbers, priority_numbers, resume_numbers, some_numbers, stage_numbers, task_numbers, value_numbers, wide_numbers}
 pub use Rattle.swift_explorer.specs.Outcomes.{Differ, EachOnce, HasEachOutcome, IfReached, IsBrokenAfter, IsLogOf, IsOutcomeOf, NeverBreaks, Tells}
+pub use Rattle.swift_explorer.specs.PartsInside.{AreParts, Grows, IsCode, IsGroup, IsHalf, IsPair, IsPart}
 pub use Rattle.swift_explorer.specs.SearchInside.{AreKeyed, GoOn, GoesFrom, HasGoneOn, HasGrown, HasLike, HasLikeAhead, HasSeen, IsAhead, IsExpanded, IsExpandedAt, IsFollowedAhead, IsFollowedBy, IsKept, IsNoted, IsSound, Keeps, LeadsTo, MayFollow, MayGoOn, StepWasTried, TurnWasTried, WasTried, WasTriedLast, path_after, paths_from, paths_of}
 pub use Rattle.swift_explorer.specs.Steps.{AreSteps, BreaksInvariant, IsBroken, IsStep, roots_after, roots_over}
 pub use Rattle.swift_explorer.specs.declared.fused.Step.{Step}
@@ -70,9 +72,12 @@ pub use Rattle.swift_explorer.specs.declared.marks.MarkKind.TheVariants.{Away, A
 pub use Rattle.swift_explorer.specs.declared.moves.Move.{Move}
 pub use Rattle.swift_explorer.specs.declared.moves.Move.TheVariants.{Add}
 pub use Rattle.swift_explorer.specs.declared.outcome.RunOutcome.{RunOutcome}
+pub use Rattle.swift_explorer.specs.declared.parts.GroupPair.{GroupPair}
+pub use Rattle.swift_explorer.specs.declared.parts.HalfCode.{HalfCode}
+pub use Rattle.swift_explorer.specs.declared.parts.KeyCode.{KeyCode}
+pub use Rattle.swift_explorer.specs.declared.parts.KeyParts.{KeyParts}
 pub use Rattle.swift_explorer.specs.declared.queue.KeptHistory.{KeptHistory}
 pub use Rattle.swift_explorer.specs.declared.search.Ahead.{Ahead}
-pub use Rattle.swift_explorer.specs.declared.search.Node.{Node}
 pub use Rattle.swift_explorer.specs.declared.search.Search.{Search}
 pub use Rattle.swift_history.specs.Checks.{is_begun, is_under_way, was_given}
 pub use Rattle.swift_history.specs.Histories.{AllStand, Block, ReportView, Standing, Stands, added, after_block, at_first, begun, checkpoint_at, fields_of, folded, folded_in, no_checkpoint, ran, record_in, records_of}

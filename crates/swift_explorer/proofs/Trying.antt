@@ -74,7 +74,7 @@ ahead_too script paths blocks others stand also same ahead =
 
 -- a step that was followed was tried, where its history is kept
 pub step_tried : (script : ScriptView) (x : Search) (path : List Move) (m : Move) (history : SearchedHistory) (done : Followed) (before after : List Move)
-    → IsFollowedAhead script path m history done before after → ((blocks : List Block) → IsHistory script blocks history → HasLike script (paths_of x.nodes.items) blocks) → (x.broken ≡ None → done ≡ Yes) → WasTriedLast script x path m
+    → IsFollowedAhead script path m history done before after → ((blocks : List Block) → IsHistory script blocks history → HasLike script (paths_of x.nodes) blocks) → (x.broken ≡ None → done ≡ Yes) → WasTriedLast script x path m
 step_tried script x path m history done before after f kept quiet blocks b leads may does =
     let cps = starts script in
     let o = other_led script path blocks f.blocks b leads f.leads may in
@@ -85,7 +85,7 @@ step_tried script x path m history done before after f kept quiet blocks b leads
     let far : List Block = f.blocks ++ f.last ∷ [] in
     let all = same_on script cps mine (f.blocks ++ o.block ∷ []) far o.same (one.0, two.0) in
     record {
-      kept = ahead_too script (paths_of x.nodes.items) mine far (all_push script cps blocks [] b leads.stand may.stands) (all_push script cps f.blocks [] f.last f.leads.stand f.follows.stands) all
+      kept = ahead_too script (paths_of x.nodes) mine far (all_push script cps blocks [] b leads.stand may.stands) (all_push script cps f.blocks [] f.last f.leads.stand f.follows.stands) all
           (record { turns = f.turns; run = f.run; whole = f.quiet; like = kept (after_turns far f.turns) f.is });
       whole = λ none breaks. f.whole (quiet none) (one.1 (o.breaks breaks));
     }
@@ -171,7 +171,7 @@ module _ (script : ScriptView) (x : Search) (path : List Move) (a : Ahead) (ahea
       let b_stand = all_push script (starts script) blocks [] b leads.stand may.stands in
       let o_stand = all_push script (starts script) ahead.blocks [] o.block ahead.leads.stand o.may.stands in
       let was = one_tried script x path one.0 (All-contains (StepWasTried script x path) a.steps.items (One one.0) tried one.1) ahead.blocks o.block ahead.leads o.may one.2 in
-      inl (record { kept = ahead_too script (paths_of x.nodes.items) (blocks ++ b ∷ []) (ahead.blocks ++ o.block ∷ []) b_stand o_stand o.same was.kept; whole = λ none breaks. was.whole none (o.breaks breaks) })
+      inl (record { kept = ahead_too script (paths_of x.nodes) (blocks ++ b ∷ []) (ahead.blocks ++ o.block ∷ []) b_stand o_stand o.same was.kept; whole = λ none breaks. was.whole none (o.breaks breaks) })
   tried_by blocks b leads may o (inr turn) = inr (record {
     task = turn.0;
     does = o.back (step.Begin turn.0) turn.2;
@@ -191,10 +191,10 @@ module _ (script : ScriptView) (x : Search) (path : List Move) (a : Ahead) (ahea
   }
 
 -- the path to a history that was followed after that of a node
-pub kept_path : (script : ScriptView) (x : Search) (h : SearchedHistory) (path : List Move) (last : Move) (before : ℕ) (moves more : List Move) (f : Followed) → GoesFrom (paths_of x.nodes.items) before moves (path ++ last ∷ []) → IsFollowedAhead script path last h f moves more
-    → IsPath script (path_after (paths_of x.nodes.items) before more) h
+pub kept_path : (script : ScriptView) (x : Search) (h : SearchedHistory) (path : List Move) (last : Move) (before : ℕ) (moves more : List Move) (f : Followed) → GoesFrom (paths_of x.nodes) before moves (path ++ last ∷ []) → IsFollowedAhead script path last h f moves more
+    → IsPath script (path_after (paths_of x.nodes) before more) h
 kept_path script x h path last before moves more f from by =
     let base : List Move = from.0 in
-    let is : path_after (paths_of x.nodes.items) before more ≡ (path ++ last ∷ []) ++ by.moves =
-    path_on (paths_of x.nodes.items) before more base from.1 ∙ ap (λ (ms : List Move). base ++ ms) by.after_is ∙ sym (append_assoc base moves by.moves) ∙ ap (λ (ms : List Move). ms ++ by.moves) from.2 in
+    let is : path_after (paths_of x.nodes) before more ≡ (path ++ last ∷ []) ++ by.moves =
+    path_on (paths_of x.nodes) before more base from.1 ∙ ap (λ (ms : List Move). base ++ ms) by.after_is ∙ sym (append_assoc base moves by.moves) ∙ ap (λ (ms : List Move). ms ++ by.moves) from.2 in
     subst (λ (ms : List Move). IsPath script ms h) (sym is) by.path_is

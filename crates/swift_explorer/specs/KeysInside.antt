@@ -76,13 +76,9 @@ pub record IsNumbered (x : SearchedHistory) (numbers : List ℤ) : Type 0 where
   pub written : IsWritten (digest_of x.steps.book.log) (rest_of x) numbers
   pub places : length x.steps.book.held ≡ tasks_of (root_count x.steps.book.script) x.steps.book.log
 
--- these bytes decide how it may go on
-abbrev pub IsKeyOf : SearchedHistory → List ℕ → Type 0
-IsKeyOf x key = (numbers : List ℤ) × IsNumbered x numbers × (key ≡ all_packed numbers)
-
--- these are the bytes of a history of these blocks
-abbrev pub IsKeyFor : ScriptView → List Block → List ℕ → Type 0
-IsKeyFor script blocks key = (x : SearchedHistory) × IsHistory script blocks x × IsKeyOf x key
+-- these are the numbers of a history of these blocks
+abbrev pub IsKeyFor : ScriptView → List Block → List ℤ → Type 0
+IsKeyFor script blocks key = (x : SearchedHistory) × IsHistory script blocks x × IsNumbered x key
 
 -- where a task comes from and how it has ended
 abbrev pub end_numbers : Origin × Ending → List ℤ

@@ -9,6 +9,8 @@ pub mod MarksInside
 pub mod FlagsInside
 pub mod AheadInside
 pub mod QueueInside
+pub mod PartsInside
+pub mod NodesInside
 pub mod SearchInside
 pub mod KeysInside
 pub mod EndsInside

@@ -1,5 +1,5 @@
 -- While histories are searched. No public clause names these.
-use Rattle.std.specs.Prelude.{◌≡◌, ◌<◌, ◌≤◌, ◌⊎◌, ℕ, true, false, IsTrue, Some, None, All, IfSome, List, [], ◌∷◌, ◌++◌, length, nat_eq, slice_get, slice_index_or, Contains}
+use Rattle.std.specs.Prelude.{◌≡◌, ◌<◌, ◌≤◌, ◌⊎◌, ℕ, ℤ, true, false, IsTrue, Some, None, All, IfSome, List, [], ◌∷◌, ◌++◌, length, nat_eq, slice_get, slice_index_or, Contains}
 use Rattle.std.specs.HashMap.{get}
 use Rattle.std.specs.Arc.{arc_value}
 use Rattle.swift_script.specs.Scripts.{ScriptView}
@@ -18,7 +18,9 @@ use Rattle.swift_explorer.specs.declared.outcome.RunOutcome.{RunOutcome}
 use Rattle.swift_explorer.specs.declared.history.SearchedHistory.{SearchedHistory}
 use Rattle.swift_explorer.specs.declared.history.Followed.{Followed}
 use Rattle.swift_explorer.specs.declared.history.Followed.TheVariants.{Yes}
-use Rattle.swift_explorer.specs.declared.search.Node.{Node}
+use Rattle.swift_explorer.specs.NodesInside.{NodeView}
+use Rattle.swift_explorer.specs.PartsInside.{IsCode}
+use Rattle.swift_explorer.specs.declared.parts.KeyCode.{KeyCode}
 use Rattle.swift_explorer.specs.declared.dive.Seen.{Seen}
 use Rattle.swift_explorer.specs.declared.search.Ahead.{Ahead}
 use Rattle.swift_explorer.specs.declared.search.Search.{Search}
@@ -40,18 +42,18 @@ path_after [] before moves = []
 path_after (p ∷ ps) before moves = slice_index_or (p ∷ ps) before [] ++ moves
 
 -- the steps to each of some nodes, after those to the nodes before them
-abbrev pub paths_from : List Node → List (List Move) → List (List Move)
+abbrev pub paths_from : List NodeView → List (List Move) → List (List Move)
 paths_from [] paths = paths
-paths_from (n ∷ ns) paths = paths_from ns (paths ++ path_after paths n.before n.moves.items ∷ [])
+paths_from (n ∷ ns) paths = paths_from ns (paths ++ path_after paths n.before n.moves ∷ [])
 
 -- the steps to each of these nodes, in their order
-abbrev pub paths_of : List Node → List (List Move)
+abbrev pub paths_of : List NodeView → List (List Move)
 paths_of nodes = paths_from nodes []
 
 -- each node but the first goes on from one before it, by its steps
-abbrev pub GoOn : List Node → Type 0
-GoOn nodes = (i : ℕ) (n : Node) → 0 < i → slice_get nodes i ≡ Some n
-    → (path : List Move) × (n.before < i) × (slice_get (paths_of nodes) n.before ≡ Some path) × (slice_get (paths_of nodes) i ≡ Some (path ++ n.moves.items))
+abbrev pub GoOn : List NodeView → Type 0
+GoOn nodes = (i : ℕ) (n : NodeView) → 0 < i → slice_get nodes i ≡ Some n
+    → (path : List Move) × (n.before < i) × (slice_get (paths_of nodes) n.before ≡ Some path) × (slice_get (paths_of nodes) i ≡ Some (path ++ n.moves))
 
 -- a node that comes after these can go on from this one, unless it is the first
 abbrev pub MayGoOn : List (List Move) → ℕ → Type 0
@@ -82,7 +84,7 @@ pub record HasLikeAhead (script : ScriptView) (paths : List (List Move)) (blocks
   pub like : HasLike script paths (after_turns blocks turns)
 
 -- one of these paths leads to blocks that have this key
-pub record IsKept (script : ScriptView) (paths : List (List Move)) (key : List ℕ) : Type 0 where
+pub record IsKept (script : ScriptView) (paths : List (List Move)) (key : List ℤ) : Type 0 where
   pub place : ℕ
   pub path : List Move
   pub there : slice_get paths place ≡ Some path
@@ -103,24 +105,24 @@ pub record IsSound (script : ScriptView) (x : Search) : Type 0 where
   pub script_is : arc_value x.script ≡ script
   pub outcomes : All (IsOutcomeOf script) x.outcomes.items
   pub broken : IfSome x.broken (λ schedule. IsBrokenAfter script schedule.items)
-  pub nodes : GoOn x.nodes.items
-  pub few : length x.nodes.items ≤ x.limit
-  pub keys : (key : List ℕ) → Contains x.keys key → IsKept script (paths_of x.nodes.items) key
+  pub nodes : GoOn x.nodes
+  pub few : length x.nodes ≤ x.limit
+  pub keys : (c : KeyCode) → Contains x.keys.keys c → (key : List ℤ) × IsCode x.parts c key × IsKept script (paths_of x.nodes) key
   pub ends : (key : List ℕ) → Contains x.ends key → IsNoted x.outcomes.items key
   pub keyed : AreKeyed x.outcomes.items x.ends
   pub once : EachOnce x.outcomes.items
-  pub met : IsTrue x.met_limit → length x.nodes.items ≡ x.limit
+  pub met : IsTrue x.met_limit → length x.nodes ≡ x.limit
   pub told : AreTold script x.away
   pub marked : HaveSilentMarks script x.marks.items
   pub hold : StartsHold script
   pub short : IsTrue x.ran_short → RunsShort script
-  pub histories : AreHistories script (paths_of x.nodes.items) (get nat_eq x.histories)
+  pub histories : AreHistories script (paths_of x.nodes) (get nat_eq x.histories)
 
 -- A search has gone on: it has what it had, and where a history was left out or a turn was broken, that stays so.
 pub record HasGrown (old new : Search) : Type 0 where
   pub script : new.script ≡ old.script
   pub limit : new.limit ≡ old.limit
-  pub paths : (place : ℕ) (path : List Move) → slice_get (paths_of old.nodes.items) place ≡ Some path → slice_get (paths_of new.nodes.items) place ≡ Some path
+  pub paths : (place : ℕ) (path : List Move) → slice_get (paths_of old.nodes) place ≡ Some path → slice_get (paths_of new.nodes) place ≡ Some path
   pub outcomes : (o : RunOutcome) → Contains old.outcomes.items o → Contains new.outcomes.items o
   pub broken : new.broken ≡ None → old.broken ≡ None
   pub complete : IsTrue new.is_complete → IsTrue old.is_complete
@@ -147,7 +149,7 @@ pub record MayFollow (script : ScriptView) (blocks : List Block) (b : Block) : T
 -- A block after others was tried: some history that was kept leads as it does with silent turns after it, and where no turn was found that breaks an invariant, this
 -- one breaks none.
 pub record WasTried (script : ScriptView) (x : Search) (blocks : List Block) (b : Block) : Type 0 where
-  pub kept : HasLikeAhead script (paths_of x.nodes.items) (blocks ++ b ∷ [])
+  pub kept : HasLikeAhead script (paths_of x.nodes) (blocks ++ b ∷ [])
   pub whole : x.broken ≡ None → IsBroken b → ⊥
 
 -- after these steps each block was tried that this step does
@@ -174,21 +176,21 @@ pub record IsExpanded (script : ScriptView) (x : Search) (path : List Move) : Ty
 
 -- the same of the path to the node at this place
 abbrev pub IsExpandedAt : ScriptView → Search → ℕ → Type 0
-IsExpandedAt script x place = (path : List Move) × (slice_get (paths_of x.nodes.items) place ≡ Some path) × IsExpanded script x path
+IsExpandedAt script x place = (path : List Move) × (slice_get (paths_of x.nodes) place ≡ Some path) × IsExpanded script x path
 
 -- A search is sound, and has gone on from the kept histories before a place; where it is complete, it has kept one that leads as the one
 -- in which nothing has happened.
 pub record HasGoneOn (script : ScriptView) (x : Search) (next : ℕ) : Type 0 where
   pub sound : IsSound script x
-  pub first : IsTrue x.is_complete → HasLike script (paths_of x.nodes.items) []
-  pub within : next ≤ length x.nodes.items
+  pub first : IsTrue x.is_complete → HasLike script (paths_of x.nodes) []
+  pub within : next ≤ length x.nodes
   pub expanded : IsTrue x.is_complete → (place : ℕ) → place < next → IsExpandedAt script x place
 
 -- A history was kept: the search has grown, is sound still, and where it is complete, has a history that leads alike.
 pub record Keeps (old new : Search) (history : SearchedHistory) : Type 0 where
   pub grown : HasGrown old new
   pub sound : IsSound (arc_value old.script) new
-  pub kept : IsTrue new.is_complete → (blocks : List Block) → IsHistory (arc_value old.script) blocks history → HasLike (arc_value old.script) (paths_of new.nodes.items) blocks
+  pub kept : IsTrue new.is_complete → (blocks : List Block) → IsHistory (arc_value old.script) blocks history → HasLike (arc_value old.script) (paths_of new.nodes) blocks
 
 -- These steps and one more were followed, and the last block breaks no invariant unless that is told.
 pub record IsFollowedBy (script : ScriptView) (path : List Move) (step : Move) (x : SearchedHistory) (done : Followed) : Type 0 where

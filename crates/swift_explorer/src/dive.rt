@@ -145,7 +145,7 @@ impl Search {
     // Follows the history at a place to an end, by so many steps at most, and writes what is seen of it. How many steps it then has.
     fn dive_from(&mut self, place: usize, steps: usize) -> Result<usize, AllocError>
         requires sound { IsSound (arc_value self.old.script) self.old }
-        requires there { place < length self.old.nodes.items }
+        requires there { place < length self.old.nodes }
         ensures { OnOk result (HasSeen self.old self.new) }
     {
         let mut path = path_to(self.alloc, &self.nodes, place)?;

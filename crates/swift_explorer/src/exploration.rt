@@ -70,7 +70,7 @@ impl Model for Exploration {
 
     ghost coded = { Prim.hlevel (codes, expression_code, statement_code (block_code (Prim.hlevel (codes, expression_code)) (Prim.hlevel (codes, expression_code)))) };
 
-    ghost view = { λ x. record { script = arc_value x.search.script; limit = x.search.limit; kept = length x.search.nodes.items; gone_on = x.next; outcomes = length x.search.outcomes.items; met_limit = x.search.met_limit } };
+    ghost view = { λ x. record { script = arc_value x.search.script; limit = x.search.limit; kept = length x.search.nodes; gone_on = x.next; outcomes = length x.search.outcomes.items; met_limit = x.search.met_limit } };
 
     ghost invariant = { λ x. HasGoneOn (arc_value x.search.script) x.search x.next };
 }
@@ -186,6 +186,9 @@ impl Exploration {
             marks: _,
             nodes,
             keys: _,
+            parts: _,
+            key: _,
+            cuts: _,
             outcomes,
             ends: _,
             broken,

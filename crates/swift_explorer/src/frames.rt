@@ -58,13 +58,19 @@ fn put_one_if(key: &mut Vec<i64>, ready: Option<NextTurn>) -> Result<(), AllocEr
     }
 }
 
-/// What each task goes on with, from the last task: the number of its next turn, what that begins with, and its frames.
-pub fn put_ready(key: &mut Vec<i64>, mut tasks: Vec<Option<NextTurn>>) -> Result<(), AllocError>
+/// What each task goes on with, from the last task: the number of its next turn, what that begins with, and its frames. A part of the key
+/// ends after each.
+pub fn put_ready(
+    key: &mut Vec<i64>,
+    cuts: &mut Vec<usize>,
+    mut tasks: Vec<Option<NextTurn>>,
+) -> Result<(), AllocError>
     ensures { OnOk result (key.new.items ≡ key.old.items ++ list_numbers (option_numbers ready_numbers) (reverse (map (option_map ready_view) tasks.items))) }
 {
     while let Some(task) = tasks.pop() {
         key.push(1)?;
         put_one_if(key, task)?;
+        cuts.push(key.len())?;
     }
     key.push(0)?;
     Ok(())
@@ -79,12 +85,17 @@ fn put_job(key: &mut Vec<i64>, task: TaskId, ready: NextTurn) -> Result<(), Allo
 }
 
 /// The same of jobs, from the last one, each after its task. Out of memory, some of them are left.
-pub fn put_jobs(key: &mut Vec<i64>, jobs: &mut Vec<Job<Body>>) -> Result<(), AllocError>
+pub fn put_jobs(
+    key: &mut Vec<i64>,
+    cuts: &mut Vec<usize>,
+    jobs: &mut Vec<Job<Body>>,
+) -> Result<(), AllocError>
     ensures { OnOk result (key.new.items ≡ key.old.items ++ list_numbers job_numbers (reverse (map job_left (map job_facts jobs.old.items)))) }
 {
     while let Some(job) = jobs.pop() {
         let (task, ready) = NextTurn::from_job(job);
         put_job(key, task, ready)?;
+        cuts.push(key.len())?;
     }
     key.push(0)?;
     Ok(())

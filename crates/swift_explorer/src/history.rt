@@ -37,9 +37,6 @@ use swift_script::Script;
 use swift_steps::{OpenHistory, PlayedTurn, copy_all_fields};
 use swift_types::{Ending, ExecId, Fault, TaskId};
 
-// Room for so many numbers of a key is made at once: most have some hundred.
-const NUMBERS: usize = 1_024;
-
 /// Whether a step could be done.
 #[derive(Clone, Copy, PartialEq, Eq)]
 pub enum Followed {
@@ -411,10 +408,10 @@ impl SearchedHistory {
         }))
     }
 
-    /// What decides how it may go on, as numbers. It gives the history up.
-    pub fn into_key(self) -> Result<Vec<i64>, AllocError>
+    /// What decides how it may go on, as numbers, in place of those that were there, and where parts of them end. It gives the history up.
+    pub fn into_key(self, key: &mut Vec<i64>, cuts: &mut Vec<usize>) -> Result<(), AllocError>
         requires { IsRead self.digest self.steps.book.log }
-        ensures { IfOk result (λ key. IsNumbered self key.items) }
+        ensures { OnOk result (IsNumbered self key.new.items) }
     {
         let SearchedHistory {
             steps,
@@ -436,16 +433,16 @@ impl SearchedHistory {
         book.facts();
         let (log, mut waiting) = book.close();
         drop(log);
-        let mut key = Vec::new(alloc);
-        let put = put_jobs(&mut key, &mut waiting);
+        key.clear();
+        cuts.clear();
+        let put = put_jobs(key, cuts, &mut waiting);
         spend_all(waiting);
         put?;
-        key.reserve(NUMBERS)?;
-        put_flags(&mut key, &used)?;
-        put_fields(&mut key, &fields)?;
-        put_ready(&mut key, tasks)?;
-        digest.put_digest(alloc, &mut key)?;
-        Ok(key)
+        put_flags(key, &used)?;
+        put_fields(key, cuts, &fields)?;
+        put_ready(key, cuts, tasks)?;
+        digest.put_digest(alloc, key, cuts)?;
+        Ok(())
     }
 
     /// Gives the history up.

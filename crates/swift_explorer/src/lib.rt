@@ -19,6 +19,8 @@ mod frames;
 mod fused;
 // One history, followed from its beginning.
 mod history;
+// Histories that a search has kept.
+mod kept;
 // Keys that are known.
 mod key_set;
 // What decides how a history may go on, as numbers.
@@ -29,6 +31,8 @@ mod marks;
 mod moves;
 // How a history has ended.
 mod outcome;
+// Keys by the numbers of their parts.
+mod parts;
 // Histories that are kept beside the nodes that the search has still to go on from.
 mod queue;
 // A schedule that is run again.

@@ -1,6 +1,6 @@
 //! The search.
 
-ghost use Rattle.std.specs.Prelude.{◌≡◌, ◌<◌, ◌≤◌, ◌+◌, ℕ, List, [], ◌∷◌, ◌++◌, All, Contains, IfOk, IfSome, IsTrue, None, OnOk, Some, is_some, length, min, reverse, slice_get, true, false};
+ghost use Rattle.std.specs.Prelude.{◌≡◌, ◌<◌, ◌≤◌, ◌+◌, ℕ, ℤ, List, [], ◌∷◌, ◌++◌, All, Contains, IfOk, IfSome, IsTrue, None, OnOk, Some, is_some, length, min, reverse, slice_get, true, false};
 ghost use Rattle.std.specs.Arc.{arc_value};
 ghost use Rattle.swift_history.specs.Histories.{Block, ReportView};
 ghost use Rattle.swift_explorer.specs.Outcomes.{EachOnce, IfReached, IsBrokenAfter, IsOutcomeOf, RunsShort, Tells};
@@ -11,31 +11,28 @@ ghost use Rattle.swift_explorer.specs.AheadInside.{IsAsBefore, StartsHold};
 ghost use Rattle.swift_explorer.specs.LogDigestsInside.{IsRead};
 ghost use Rattle.swift_explorer.specs.FusedInside.{first_half};
 ghost use Rattle.swift_explorer.specs.MarksInside.{AreTold, HaveSilentMarks};
-ghost use Rattle.swift_explorer.specs.KeysInside.{IsKeyOf, outcome_bytes, end_numbers};
+ghost use Rattle.swift_explorer.specs.KeysInside.{IsNumbered, outcome_bytes, end_numbers};
 ghost use Rattle.swift_explorer.specs.SearchInside.{AreKeyed, GoOn, GoesFrom, HasGoneOn, HasGrown, IsAhead, IsExpandedAt, IsFollowedAhead, IsFollowedBy, IsNoted, IsSound, Keeps, MayGoOn, StepWasTried, WasTriedLast, path_after, paths_of};
 ghost use Rattle.swift_explorer.specs.Numbers.{list_numbers};
+ghost use Rattle.swift_explorer.specs.PartsInside.{Grows, IsCode};
 
 use crate::fused::Step;
 use crate::history::{Followed, SearchedHistory};
+use crate::kept::Nodes;
 use crate::key_set::{Key, KeySet};
 use crate::keys::{pack, put_ending, put_fields, put_origin};
 use crate::marks::{AwayMarks, MarkKind, away_marks, methods_marks};
 use crate::moves::Move;
 use crate::outcome::{End, RunOutcome};
+use crate::parts::{KeyCode, KeyParts};
 use crate::queue::{KeptHistory, put_history, spare_copy, take_history};
+use crate::sums::SeenSums;
 use std::alloc::{AllocError, Global};
 use std::collections::{HashMap, HashSet};
 use std::sync::Arc;
 use swift_events::Origin;
 use swift_script::Script;
 use swift_types::{Ending, TaskId};
-
-// A history that was kept: these steps after another that was.
-#[derive(Drop)]
-pub(crate) struct Node {
-    before: usize,
-    moves: Vec<Move>,
-}
 
 // A search, and what it has found so far.
 #[derive(Drop)]
@@ -47,17 +44,22 @@ pub(crate) struct Search {
     pub(crate) away: AwayMarks,
     // Of each method, which of its instructions are silent.
     pub(crate) marks: Vec<Vec<bool>>,
-    pub(crate) nodes: Vec<Node>,
-    // A key for each node.
-    pub(crate) keys: KeySet,
+    pub(crate) nodes: Nodes,
+    // The codes of the keys of the nodes.
+    pub(crate) keys: HashSet<KeyCode>,
+    // The parts of keys.
+    pub(crate) parts: KeyParts,
+    // Room for the key that is made, and for where its parts end.
+    pub(crate) key: Vec<i64>,
+    pub(crate) cuts: Vec<usize>,
     pub(crate) outcomes: Vec<RunOutcome>,
     // A key for each outcome.
     pub(crate) ends: KeySet,
     pub(crate) broken: Option<Vec<Move>>,
     // Histories of nodes that it has not gone on from, by the node's place.
     pub(crate) histories: HashMap<usize, KeptHistory>,
-    // The sums of the histories that were kept.
-    pub(crate) sums: HashSet<u64>,
+    // Sums of the histories that were kept.
+    pub(crate) sums: SeenSums,
     // Whether no history was left out, and each step after those that it has gone on from was tried.
     pub(crate) is_complete: bool,
     // Whether a history was left out since as many were kept as may be.
@@ -66,20 +68,8 @@ pub(crate) struct Search {
     pub(crate) ran_short: bool,
 }
 
-// Appends these steps, the last one first.
-fn push_back(path: &mut Vec<Move>, moves: &[Move]) -> Result<(), AllocError>
-    ensures { OnOk result (path.new.items ≡ path.old.items ++ reverse moves.now) }
-{
-    let mut left = moves.len();
-    'left: while 0 < left {
-        left -= 1;
-        path.push(moves[left])?;
-    }
-    Ok(())
-}
-
 // The steps to a node.
-pub(crate) fn path_to(alloc: Global, nodes: &[Node], place: usize) -> Result<Vec<Move>, AllocError>
+pub(crate) fn path_to(alloc: Global, nodes: &Nodes, place: usize) -> Result<Vec<Move>, AllocError>
     requires there { place < length nodes.now }
     requires on { GoOn nodes.now }
     ensures { IfOk result (λ path. slice_get (paths_of nodes.now) place ≡ Some path.items) }
@@ -87,9 +77,7 @@ pub(crate) fn path_to(alloc: Global, nodes: &[Node], place: usize) -> Result<Vec
     let mut path = Vec::new(alloc);
     let mut at = place;
     'back: while 0 < at {
-        let node = &nodes[at];
-        push_back(&mut path, &node.moves)?;
-        at = node.before;
+        at = nodes.push_steps(at, &mut path)?;
     }
     path.reverse();
     Ok(path)
@@ -123,20 +111,9 @@ fn outcome_key(alloc: Global, outcome: &RunOutcome) -> Result<Key, AllocError>
 {
     let mut key = Vec::new(alloc);
     put_endings(&mut key, &outcome.endings)?;
-    put_fields(&mut key, &outcome.fields)?;
+    put_fields(&mut key, &mut Vec::new(alloc), &outcome.fields)?;
     Ok(Key {
         bytes: pack(alloc, &key)?,
-    })
-}
-
-// What decides how a history may go on, as bytes.
-fn key_of(alloc: Global, history: SearchedHistory) -> Result<Key, AllocError>
-    requires { IsRead history.digest history.steps.book.log }
-    ensures { IfOk result (λ key. IsKeyOf history key.bytes.items) }
-{
-    let numbers = history.into_key()?;
-    Ok(Key {
-        bytes: pack(alloc, &numbers)?,
     })
 }
 
@@ -312,7 +289,7 @@ impl Search {
         script: &Arc<Script>,
         limit: usize,
     ) -> Result<Search, AllocError>
-        ensures none { IfOk result (λ x. x.nodes.items ≡ []) }
+        ensures none { IfOk result (λ x. x.nodes ≡ []) }
         ensures script { IfOk result (λ x. arc_value x.script ≡ arc_value script.now) }
         ensures limit { IfOk result (λ x. x.limit ≡ limit) }
         ensures sound { IfOk result (IsSound (arc_value script.now)) }
@@ -326,17 +303,31 @@ impl Search {
             limit,
             away,
             marks,
-            nodes: Vec::new(alloc),
-            keys: KeySet::new(alloc),
+            nodes: Nodes::new(alloc),
+            keys: HashSet::new(alloc),
+            parts: KeyParts::new(alloc),
+            key: Vec::new(alloc),
+            cuts: Vec::new(alloc),
             outcomes: Vec::new(alloc),
             ends: KeySet::new(alloc),
             broken: None,
             histories: HashMap::new(alloc),
-            sums: HashSet::new(alloc),
+            sums: SeenSums::new(alloc)?,
             is_complete: true,
             met_limit: false,
             ran_short: false,
         })
+    }
+
+    // The code of what decides how a history may go on.
+    fn code_of(&mut self, history: SearchedHistory) -> Result<KeyCode, AllocError>
+        requires { IsRead history.digest history.steps.book.log }
+        ensures rest { self.new ≡ record self.old { parts = self.new.parts; key = self.new.key; cuts = self.new.cuts } }
+        ensures grown { OnOk result (Grows self.old.parts self.new.parts) }
+        ensures code { IfOk result (λ code. (numbers : List ℤ) × IsNumbered history numbers × IsCode self.new.parts code numbers) }
+    {
+        history.into_key(&mut self.key, &mut self.cuts)?;
+        self.parts.code(&self.key, &self.cuts)
     }
 
     // Keeps a history, where none is kept that goes on alike.
@@ -346,16 +337,16 @@ impl Search {
         before: usize,
         moves: Vec<Move>,
     ) -> Result<(), AllocError>
-        requires before { MayGoOn (paths_of self.old.nodes.items) before }
-        requires path { IsPath (arc_value self.old.script) (path_after (paths_of self.old.nodes.items) before moves.items) history }
+        requires before { MayGoOn (paths_of self.old.nodes) before }
+        requires path { IsPath (arc_value self.old.script) (path_after (paths_of self.old.nodes) before moves.items) history }
         requires sound { IsSound (arc_value self.old.script) self.old }
         ensures keeps { OnOk result (Keeps self.old self.new history) }
     {
         let next = read_whole(history)?;
         let sum = next.sum();
-        let spare = spare_copy(&self.histories, self.sums.contains(&sum), &next);
-        let key = key_of(self.alloc, next)?;
-        if self.keys.contains(&key) {
+        let spare = spare_copy(&self.histories, self.sums.has(sum), &next);
+        let code = self.code_of(next)?;
+        if self.keys.contains(&code) {
             return Ok(());
         }
         if self.nodes.len() >= self.limit {
@@ -363,10 +354,10 @@ impl Search {
             self.met_limit = true;
             return Ok(());
         }
-        self.keys.add(key)?;
+        self.keys.insert(code)?;
         let place = self.nodes.len();
-        self.nodes.push(Node { before, moves })?;
-        self.sums.insert(sum)?;
+        self.nodes.push(before, &moves)?;
+        self.sums.note(sum);
         put_history(&mut self.histories, place, spare)
     }
 
@@ -396,7 +387,7 @@ impl Search {
     ) -> Result<(), AllocError>
         requires sound { IsSound (arc_value self.old.script) self.old }
         requires followed { IsPath (arc_value self.old.script) path.now history }
-        requires path { GoesFrom (paths_of self.old.nodes.items) before moves.items (path.now ++ last ∷ []) }
+        requires path { GoesFrom (paths_of self.old.nodes) before moves.items (path.now ++ last ∷ []) }
         ensures grown { OnOk result (HasGrown self.old self.new) }
         ensures sound { OnOk result (IsSound (arc_value self.old.script) self.new) }
         ensures tried { OnOk result (IsTrue self.new.is_complete → WasTriedLast (arc_value self.old.script) self.new path.now last) }
@@ -430,7 +421,7 @@ impl Search {
     ) -> Result<(), AllocError>
         requires sound { IsSound (arc_value self.old.script) self.old }
         requires followed { IsPath (arc_value self.old.script) path.now history.history }
-        requires path { slice_get (paths_of self.old.nodes.items) before ≡ Some path.now }
+        requires path { slice_get (paths_of self.old.nodes) before ≡ Some path.now }
         ensures grown { OnOk result (HasGrown self.old self.new) }
         ensures sound { OnOk result (IsSound (arc_value self.old.script) self.new) }
         ensures tried { OnOk result (IsTrue self.new.is_complete → StepWasTried (arc_value self.old.script) self.new path.now step) }
@@ -501,7 +492,7 @@ impl Search {
     ) -> Result<(), AllocError>
         requires sound { IsSound (arc_value self.old.script) self.old }
         requires followed { IsPath (arc_value self.old.script) path.now history.now }
-        requires path { slice_get (paths_of self.old.nodes.items) place ≡ Some path.now }
+        requires path { slice_get (paths_of self.old.nodes) place ≡ Some path.now }
         ensures grown { OnOk result (HasGrown self.old self.new) }
         ensures sound { OnOk result (IsSound (arc_value self.old.script) self.new) }
         ensures tried { OnOk result (IsTrue self.new.is_complete → All (StepWasTried (arc_value self.old.script) self.new path.now) steps.now) }
@@ -523,7 +514,7 @@ impl Search {
     ) -> Result<(), AllocError>
         requires sound { IsSound (arc_value self.old.script) self.old }
         requires followed { IsPath (arc_value self.old.script) path.now history.history }
-        requires path { slice_get (paths_of self.old.nodes.items) place ≡ Some path.now }
+        requires path { slice_get (paths_of self.old.nodes) place ≡ Some path.now }
         ensures grown { OnOk result (HasGrown self.old self.new) }
         ensures sound { OnOk result (IsSound (arc_value self.old.script) self.new) }
         ensures tried { OnOk result (IsTrue self.new.is_complete → All (StepWasTried (arc_value self.old.script) self.new path.now) steps.now) }
@@ -561,7 +552,7 @@ impl Search {
     ) -> Result<(), AllocError>
         requires sound { IsSound (arc_value self.old.script) self.old }
         requires followed { IsPath (arc_value self.old.script) path.now history.history }
-        requires path { slice_get (paths_of self.old.nodes.items) place ≡ Some path.now }
+        requires path { slice_get (paths_of self.old.nodes) place ≡ Some path.now }
         requires ahead { IsAhead (arc_value self.old.script) path.now ahead }
         ensures grown { OnOk result (HasGrown self.old self.new) }
         ensures sound { OnOk result (IsSound (arc_value self.old.script) self.new) }
@@ -584,7 +575,7 @@ impl Search {
         path: &[Move],
     ) -> Result<Option<SearchedHistory>, AllocError>
         requires sound { IsSound (arc_value self.old.script) self.old }
-        requires path { slice_get (paths_of self.old.nodes.items) place ≡ Some path.now }
+        requires path { slice_get (paths_of self.old.nodes) place ≡ Some path.now }
         ensures rest { self.new ≡ record self.old { histories = self.new.histories } }
         ensures sound { IsSound (arc_value self.old.script) self.new }
         ensures history { IfOk result (λ o. IfSome o (IsPath (arc_value self.old.script) path.now)) }
@@ -604,7 +595,7 @@ impl Search {
     ) -> Result<(), AllocError>
         requires sound { IsSound (arc_value self.old.script) self.old }
         requires followed { IsPath (arc_value self.old.script) path.now history.history }
-        requires path { slice_get (paths_of self.old.nodes.items) place ≡ Some path.now }
+        requires path { slice_get (paths_of self.old.nodes) place ≡ Some path.now }
         ensures grown { OnOk result (HasGrown self.old self.new) }
         ensures sound { OnOk result (IsSound (arc_value self.old.script) self.new) }
         ensures expanded { OnOk result (IsTrue self.new.is_complete → IsExpandedAt (arc_value self.old.script) self.new place) }
@@ -621,7 +612,7 @@ impl Search {
     // Goes on from a history that is kept.
     fn expand(&mut self, place: usize) -> Result<(), AllocError>
         requires sound { IsSound (arc_value self.old.script) self.old }
-        requires there { place < length self.old.nodes.items }
+        requires there { place < length self.old.nodes }
         ensures grown { OnOk result (HasGrown self.old self.new) }
         ensures sound { OnOk result (IsSound (arc_value self.old.script) self.new) }
         ensures expanded { OnOk result (IsTrue self.new.is_complete → IsExpandedAt (arc_value self.old.script) self.new place) }
@@ -640,9 +631,9 @@ impl Search {
         requires { HasGoneOn (arc_value self.old.script) self.old from }
         ensures grown { OnOk result (HasGrown self.old self.new) }
         ensures gone_on { IfOk result (HasGoneOn (arc_value self.new.script) self.new) }
-        ensures far { IfOk result (λ next. self.new.met_limit ≡ false → next ≡ min (from + more) (length self.new.nodes.items)) }
+        ensures far { IfOk result (λ next. self.new.met_limit ≡ false → next ≡ min (from + more) (length self.new.nodes)) }
         ensures between { IfOk result (λ next. (from ≤ next) × (next ≤ from + more)) }
-        ensures left { IfOk result (λ next. IsTrue self.new.met_limit → self.old.met_limit ≡ false → next < length self.new.nodes.items) }
+        ensures left { IfOk result (λ next. IsTrue self.new.met_limit → self.old.met_limit ≡ false → next < length self.new.nodes) }
     {
         let mut next = from;
         for _ in 0..more {

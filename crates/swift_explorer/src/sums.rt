@@ -4,9 +4,51 @@
 ghost use Rattle.swift_turn.specs.Body.{IsRunning};
 
 use crate::history::SearchedHistory;
+use std::alloc::{AllocError, Global};
 use swift_interpreter::{Exit, Frame};
 use swift_steps::{NextTurn, PlayedTurn};
 use swift_types::{Ending, Env, Resume, TaskId};
+
+// So many sums are remembered.
+const SUMS: usize = 32_768;
+
+/// Sums of histories that were kept: of those with one place, the last one.
+#[derive(Drop)]
+pub(crate) struct SeenSums {
+    sums: Vec<u64>,
+}
+
+// Where a sum stands.
+fn place_of(sum: u64) -> usize {
+    (sum >> 49) as usize
+}
+
+impl SeenSums {
+    /// None.
+    pub(crate) fn new(alloc: Global) -> Result<SeenSums, AllocError> {
+        let mut sums = Vec::with_capacity(alloc, SUMS)?;
+        for _ in 0..SUMS {
+            sums.push(0)?;
+        }
+        Ok(SeenSums { sums })
+    }
+
+    /// Whether a sum was seen, as far as that is remembered.
+    pub(crate) fn has(&self, sum: u64) -> bool {
+        match self.sums.get(place_of(sum)) {
+            Some(seen) => *seen == sum,
+            None => false,
+        }
+    }
+
+    /// A sum was seen.
+    pub(crate) fn note(&mut self, sum: u64) {
+        let place = place_of(sum);
+        if place < self.sums.len() {
+            self.sums[place] = sum;
+        }
+    }
+}
 
 // A sum with one more number.
 fn with(sum: u64, number: u64) -> u64 {

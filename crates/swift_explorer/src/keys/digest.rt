@@ -587,12 +587,17 @@ pub(crate) fn put_head(
     put_wide(key, made)
 }
 
-/// Appends these cards.
-pub(crate) fn put_cards(key: &mut Vec<i64>, cards: &[KeyCard]) -> Result<(), AllocError>
+/// Appends these cards. A part of the key ends after each.
+pub(crate) fn put_cards(
+    key: &mut Vec<i64>,
+    cuts: &mut Vec<usize>,
+    cards: &[KeyCard],
+) -> Result<(), AllocError>
     ensures { OnOk result ((d : Digest) → AreCards cards.now (length cards.now) d → key.new.items ≡ key.old.items ++ each_numbers card_numbers d.cards (length cards.now)) }
 {
     for card in cards {
         put_card(key, card)?;
+        cuts.push(key.len())?;
     }
     Ok(())
 }

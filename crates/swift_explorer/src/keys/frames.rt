@@ -125,13 +125,18 @@ fn put_rows(key: &mut Vec<i64>, rows: &[Vec<i64>]) -> Result<(), AllocError>
     Ok(())
 }
 
-/// The fields of all executors.
-pub fn put_fields(key: &mut Vec<i64>, fields: &[Vec<Vec<i64>>]) -> Result<(), AllocError>
+/// The fields of all executors. A part of the key ends after each.
+pub fn put_fields(
+    key: &mut Vec<i64>,
+    cuts: &mut Vec<usize>,
+    fields: &[Vec<Vec<i64>>],
+) -> Result<(), AllocError>
     ensures { OnOk result (key.new.items ≡ key.old.items ++ fields_numbers (map (λ rows. rows_of rows.items) fields.now)) }
 {
     for rows in fields {
         key.push(1)?;
         put_rows(key, rows)?;
+        cuts.push(key.len())?;
     }
     key.push(0)?;
     Ok(())

@@ -194,10 +194,11 @@ fn put_groups_of(
     Ok(())
 }
 
-// The same of the first tasks.
+// The same of the first tasks. A part of the key ends after each.
 fn put_groups(
     alloc: Global,
     key: &mut Vec<i64>,
+    cuts: &mut Vec<usize>,
     groups: &[NamedGroup],
     tasks: u64,
     bound: u64,
@@ -208,6 +209,7 @@ fn put_groups(
 {
     for place in 0..tasks {
         put_groups_of(alloc, key, groups, TaskId(place as u32), bound)?;
+        cuts.push(key.len())?;
     }
     Ok(())
 }
@@ -269,23 +271,34 @@ impl LogDigest {
         Ok(())
     }
 
-    /// Appends the digest of what was read: all of it that decides what may come next.
-    pub fn put_digest(&self, alloc: Global, key: &mut Vec<i64>) -> Result<(), AllocError>
+    /// Appends the digest of what was read: all of it that decides what may come next. Parts of the key end after each card.
+    pub fn put_digest(
+        &self,
+        alloc: Global,
+        key: &mut Vec<i64>,
+        cuts: &mut Vec<usize>,
+    ) -> Result<(), AllocError>
         requires { IsReadSome self.now }
         ensures { OnOk result ((log : List Noted) → IsRead self.now log → IsWritten (digest_of log) key.old.items key.new.items) }
     {
-        self.put_parts(alloc, key, self.cards.len() as u64)
+        self.put_parts(alloc, key, cuts, self.cards.len() as u64)
     }
 
     // The same, where there are cards for so many tasks.
-    fn put_parts(&self, alloc: Global, key: &mut Vec<i64>, tasks: u64) -> Result<(), AllocError>
+    fn put_parts(
+        &self,
+        alloc: Global,
+        key: &mut Vec<i64>,
+        cuts: &mut Vec<usize>,
+        tasks: u64,
+    ) -> Result<(), AllocError>
         requires some { IsReadSome self.now }
         requires tasks { tasks ≡ length self.now.cards.items }
         ensures { OnOk result ((log : List Noted) → IsRead self.now log → IsWritten (digest_of log) key.old.items key.new.items) }
     {
         put_head(key, tasks, self.bound, self.made)?;
-        put_cards(key, &self.cards)?;
-        put_groups(alloc, key, &self.groups, tasks, self.bound)?;
+        put_cards(key, cuts, &self.cards)?;
+        put_groups(alloc, key, cuts, &self.groups, tasks, self.bound)?;
         Ok(())
     }
 }

@@ -18,6 +18,6 @@ loop-job-preserved c =
 pub returns : goal.returns
 returns c =
     let none : c.loop-job.jobs.items ≡ [] = search rules in
-    c.in_ok-push.ensures.items
+    c.in_ok-push-2.ensures.items
     ∙ ap (λ (js : List (JobView BodyView)). c.loop-job.key.items ++ list_numbers job_numbers (reverse (map job_left (map job_facts js)))) (sym none)
     ∙ c.loop-job.invariant

@@ -15,6 +15,6 @@ loop-task-preserved c =
 pub returns : goal.returns
 returns c =
     let none : c.loop-task.tasks.items ≡ [] = search rules in
-    c.in_ok-push-2.ensures.items
+    c.in_ok-push-3.ensures.items
     ∙ ap (λ (ts : List (Option NextTurn)). c.loop-task.key.items ++ list_numbers (option_numbers ready_numbers) (reverse (map (option_map ready_view) ts))) (sym none)
     ∙ c.loop-task.invariant

@@ -6,4 +6,4 @@ pub returns-clause-kept : goal.returns-clause-kept
 returns-clause-kept c =
     let old = c.self.inside.search in
     let new = c.go_through.new.self in
-    subst (λ (v : ExplorationView). v.kept ≤ length new.nodes.items) c.self.view_is (nodes_grown old new c.in_ok-next.ensures.grown)
+    subst (λ (v : ExplorationView). v.kept ≤ length new.nodes) c.self.view_is (nodes_grown old new c.in_ok-next.ensures.grown)

@@ -1,12 +1,12 @@
-use Rattle.swift_explorer.proofs.Prelude.{◌≡◌, ◌≤◌, ◌∙◌, ℕ, true, leb, length, vec_len, sym, subst, ap, arith, false≢true, leb-true, ScriptView, Search, ExplorationView, HasEachOutcome, NeverBreaks}
+use Rattle.swift_explorer.proofs.Prelude.{◌≡◌, ◌≤◌, ◌∙◌, ℕ, true, leb, length, sym, subst, ap, arith, false≢true, leb-true, ScriptView, Search, ExplorationView, HasEachOutcome, NeverBreaks}
 use Rattle.swift_explorer.proofs.Complete.{has_each, never_breaks}
 use Rattle.swift_explorer.proofs.exploration.Exploration.finish.Goals.{then-is_complete, else-is_complete}
 use Rattle.swift_explorer.proofs.exploration.Exploration.finish.Goals as goal
 
-last_of : (states : ℕ) (x : Search) (next : ℕ) → states ≡ vec_len x.nodes → leb states next ≡ true → length x.nodes.items ≤ next
+last_of : (states : ℕ) (x : Search) (next : ℕ) → states ≡ length x.nodes → leb states next ≡ true → length x.nodes ≤ next
 last_of states x next many is = let low = leb-true states next is in omega (arith, low, many)
 
-at_limit : (states : ℕ) (x : Search) → states ≡ vec_len x.nodes → length x.nodes.items ≡ x.limit → states ≡ x.limit
+at_limit : (states : ℕ) (x : Search) → states ≡ length x.nodes → length x.nodes ≡ x.limit → states ≡ x.limit
 at_limit states x many met = omega (arith, many, met)
 
 pub returns-clause-all : goal.returns-clause-all

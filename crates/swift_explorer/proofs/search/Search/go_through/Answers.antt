@@ -15,7 +15,7 @@ loop-preserved c =
     let old = c.loop.invariant in
     let made = c.in_ok-expand.ensures in
     let own : arc_value s.script ≡ script = ap arc_value old.grown.script in
-    let there : k < length s.nodes.items = omega (arith, c.if-next-len.false, c.len.ensures) in
+    let there : k < length s.nodes = omega (arith, c.if-next-len.false, c.len.ensures) in
     let far = old.far in
     record {
       grown = grown_on x s z old.grown made.grown;

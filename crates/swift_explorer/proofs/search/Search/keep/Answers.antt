@@ -1,5 +1,6 @@
-use Rattle.swift_explorer.proofs.Prelude.{rules, ◌≡◌, ◌<◌, length, true, sym, subst, arith, arc_value, list_any, bytes_eq, on_ok_weaker, ScriptView, IsHistory, IsPath, Node, Search, path_after, paths_of}
-use Rattle.swift_explorer.proofs.Keeping.{keeps_before, keeps_full, keeps_known, keeps_new, path_before}
+use Rattle.swift_explorer.proofs.Prelude.{rules, ◌≡◌, ◌<◌, List, ◌++◌, ◌∷◌, [], length, sym, subst, ap, ◌∙◌, arith, arc_value, on_ok_weaker, ScriptView, Move, IsHistory, IsPath, MayGoOn, NodeView, Search, path_after, paths_of}
+use Rattle.swift_explorer.proofs.KeySets.{codes_added, known_code}
+use Rattle.swift_explorer.proofs.Keeping.{coded, keeps_before, keeps_coded, keeps_full, keeps_known, keeps_new, path_before}
 use Rattle.swift_explorer.proofs.search.Search.keep.Goals as goal
 
 pub read_whole-requires : goal.read_whole-requires
@@ -10,26 +11,47 @@ read_whole-requires c =
 pub returns-then-contains : goal.returns-then-contains
 returns-then-contains c =
     let x = c.args.self.now in
-    let key = c.in_ok-key.key.bytes.items in
-    let among : list_any (bytes_eq key) x.keys ≡ true = search rules in
-    record { keeps = keeps_before x x c.args.history c.in_ok-next.next c.requires.path.is.followed.script_is c.in_ok-next.ensures.same (keeps_known x c.in_ok-next.next key c.requires.sound c.in_ok-key.ensures among) }
+    let y = c.code_of.new.self in
+    let h = c.in_ok-next.next in
+    let made = c.in_ok-code.ensures in
+    let at = coded x y c.requires.sound c.code_of.ensures.rest made.grown in
+    let has = known_code y.keys.keys c.in_ok-code.code (search rules) in
+    record {
+      keeps = keeps_before x y c.args.history h c.requires.path.is.followed.script_is c.in_ok-next.ensures.same
+          (keeps_coded x y y h at.0 at.1 (keeps_known y h made.code.0 c.in_ok-code.code at.2 made.code.1 made.code.2 has));
+    }
 
 pub returns-then-len-self : goal.returns-then-len-self
-returns-then-len-self c = record { keeps = keeps_full c.args.self.now c.args.history c.requires.sound (omega (arith, c.if-len-self.true, c.len.ensures)) }
+returns-then-len-self c =
+    let x = c.args.self.now in
+    let y = c.code_of.new.self in
+    let h = c.in_ok-next.next in
+    let at = coded x y c.requires.sound c.code_of.ensures.rest c.in_ok-code.ensures.grown in
+    record {
+      keeps = keeps_before x _ c.args.history h c.requires.path.is.followed.script_is c.in_ok-next.ensures.same
+          (keeps_coded x y _ h at.0 at.1 (keeps_full y h at.2 (omega (arith, c.if-len-self.true, c.len.ensures))));
+    }
 
 pub returns : goal.returns
 returns c =
     let x = c.args.self.now in
-    let key = c.in_ok-key.key.bytes.items in
+    let y = c.code_of.new.self in
     let h = c.in_ok-next.next in
-    let n : Node = record { before = c.args.before; moves = c.args.moves } in
-    let p : IsPath (arc_value x.script) (path_after (paths_of x.nodes.items) n.before n.moves.items) h =
-    path_before (arc_value x.script) (path_after (paths_of x.nodes.items) n.before n.moves.items) c.args.history h c.in_ok-next.ensures.same c.requires.path in
-    let room : length x.nodes.items < x.limit = omega (arith, c.if-len-self.false, c.len.ensures) in
-    let z : Search = record x { histories = c.put_history.new.histories; sums = c.insert.new.self } in
+    let made = c.in_ok-code.ensures in
+    let rest = c.code_of.ensures.rest in
+    let at = coded x y c.requires.sound rest made.grown in
+    let n : NodeView = record { before = c.args.before; moves = c.args.moves.items } in
+    let may : MayGoOn (paths_of y.nodes) n.before = subst (λ (s : Search). MayGoOn (paths_of s.nodes) n.before) (sym rest) c.requires.before in
+    let p : IsPath (arc_value y.script) (path_after (paths_of y.nodes) n.before n.moves) h =
+    subst (λ (s : Search). IsPath (arc_value s.script) (path_after (paths_of s.nodes) n.before n.moves) h) (sym rest)
+    (path_before (arc_value x.script) (path_after (paths_of x.nodes) n.before n.moves) c.args.history h c.in_ok-next.ensures.same c.requires.path) in
+    let room : length y.nodes < y.limit = omega (arith, c.if-len-self.false, c.len.ensures) in
+    let pushed : c.push.new.self ≡ y.nodes ++ n ∷ [] = c.in_ok-push.ensures ∙ ap (λ (ms : List Move). y.nodes ++ (record { before = n.before; moves = ms } ∷ [])) c.deref.ensures.value in
+    let z : Search = record y { keys = c.insert.new.self; histories = c.put_history.new.histories; sums = c.note.new.self } in
     record {
       keeps = on_ok_weaker c.put_history.result (λ there. keeps_before x _ c.args.history h c.requires.path.is.followed.script_is c.in_ok-next.ensures.same
-          (keeps_new x h key n c.push.new.self c.add.new.self c.requires.sound c.in_ok-key.ensures c.requires.before p c.in_ok-push.ensures.items (λ k has. (c.in_ok-add.ensures.ok k).0 has) room
-          z c.len-place.result c.spare_copy-spare.result (omega (arith, c.len-place.ensures)) c.spare_copy-spare.ensures there))
+          (keeps_coded x y _ h at.0 at.1
+          (keeps_new y h made.code.0 c.in_ok-code.code n c.push.new.self at.2 made.code.1 made.code.2 may p pushed room z c.len-place.result c.spare_copy-spare.result
+          (codes_added y.keys c.insert.new.self c.in_ok-code.code c.in_ok-insert.field-0 c.in_ok-insert.ensures.keys) (omega (arith, c.len-place.ensures)) c.spare_copy-spare.ensures there)))
           c.put_history.ensures;
     }

@@ -9,6 +9,6 @@ returns-clause-sound c =
     let own : c.deref.result.now ≡ script = search rules in
     let own_away : c.deref-2.result.now ≡ script = search rules in
     let own_marks : c.deref-3.result.now ≡ script = search rules in
-    sound_none script _ (search rules) c.new.ensures.items c.new-2.ensures c.new-3.ensures.items c.new-4.ensures (search rules)
+    sound_none script _ (search rules) c.new.ensures c.new-2.ensures.empty c.new-6.ensures.items c.new-7.ensures (search rules)
     (subst (λ (s : ScriptView). AreTold s c.in_ok-away.away) own_away c.in_ok-away.ensures) (subst (λ (s : ScriptView). HaveSilentMarks s c.in_ok-marks.marks.items) own_marks c.in_ok-marks.ensures)
-    (subst StartsHold own (starts_hold c.deref.result.now c.facts.ensures.starts)) (λ is. absurd (false≢true is)) (λ is. absurd (false≢true is)) c.new-5.ensures.empty
+    (subst StartsHold own (starts_hold c.deref.result.now c.facts.ensures.starts)) (λ is. absurd (false≢true is)) (λ is. absurd (false≢true is)) c.new-8.ensures.empty

@@ -27,10 +27,10 @@ keep-requires-clause-path c =
     kept_path script x h c.args.path.now c.args.last c.args.before c.args.moves.items c.follow_ahead.new.moves.items f c.requires.path by
 
 pub keep-requires-clause-before : goal.keep-requires-clause-before
-keep-requires-clause-before c = may_on (paths_of c.args.self.now.nodes.items) c.args.before c.requires.path.0 c.requires.path.1
+keep-requires-clause-before c = may_on (paths_of c.args.self.now.nodes) c.args.before c.requires.path.0 c.requires.path.1
 
 pub keep-requires-in-Ok-Broken-clause-before : goal.keep-requires-in-Ok-Broken-clause-before
-keep-requires-in-Ok-Broken-clause-before c = may_on (paths_of c.args.self.now.nodes.items) c.args.before c.requires.path.0 c.requires.path.1
+keep-requires-in-Ok-Broken-clause-before c = may_on (paths_of c.args.self.now.nodes) c.args.before c.requires.path.0 c.requires.path.1
 
 pub returns-in-Ok-No-clause-grown : goal.returns-in-Ok-No-clause-grown
 returns-in-Ok-No-clause-grown c = (keeps_none c.args.self.now c.follow_ahead.new.history c.requires.sound).grown

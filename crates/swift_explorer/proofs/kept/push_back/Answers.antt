@@ -1,6 +1,6 @@
 use Rattle.swift_explorer.proofs.Prelude.{◌≡◌, ◌∙◌, List, ◌++◌, append-nil, drop, length, reverse, sym, ap, arith, drop_all, Move, Add}
 use Rattle.swift_explorer.proofs.Nodes.{back_more}
-use Rattle.swift_explorer.proofs.search.push_back.Goals as goal
+use Rattle.swift_explorer.proofs.kept.push_back.Goals as goal
 
 pub left-init : goal.left-init
 left-init c =

@@ -1,5 +1,5 @@
 use Rattle.swift_explorer.proofs.Prelude.{◌≡◌, ◌≤◌, ◌++◌, drop, length, reverse}
-use Rattle.swift_explorer.proofs.search.push_back.Given as goal
+use Rattle.swift_explorer.proofs.kept.push_back.Given as goal
 
 -- those from here on are there, the last one first
 abbrev pub invariant-left : goal.invariant-left
