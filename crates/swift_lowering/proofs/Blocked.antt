@@ -2,7 +2,9 @@
 use Rattle.std.proofs.Common.{Option, ◌≡◌, ◌<◌, ◌≤◌, ◌+◌, ◌-◌, ℕ, Bool, true, false, None, Some, length, IsTrue, arith, refl, ap, subst, ◌∙◌, ◌⊎◌, inl, inr, slice_get}
 use Rattle.swift_syntax.specs.declared.tree.Stmt.{Stmt}
 use Rattle.swift_syntax.specs.declared.tree.StmtForm.TheVariants as form
+use Rattle.swift_syntax.specs.declared.tree.TaskForm.{TaskForm}
 use Rattle.swift_syntax.specs.declared.tree.ValueType.{ValueType}
+use Rattle.swift_types.specs.declared.priority.Priority.{Priority}
 use Rattle.swift_syntax.specs.Expressions.{after}
 use Rattle.swift_types.specs.declared.operator.Operator.{Operator}
 use Rattle.swift_types.specs.declared.operator.Operator.TheVariants as operators
@@ -18,7 +20,7 @@ use Rattle.swift_expressions.specs.declared.scope.Standing.TheVariants as standi
 use Rattle.swift_expressions.specs.declared.typed.Typed.{Typed}
 use Rattle.swift_expressions.proofs.Stepped.{given_as}
 use Rattle.swift_lowering.specs.Blocks as blocks
-use Rattle.swift_lowering.specs.Blocks.{BeginsChild, Counts, CountsOn, Does, DoesAll, DoesBlock, DoesElse, EndsChild, Fixes, IsNext, LoopsOver, NamesCounter, Renames, Repeats, TakesResults, Tests, are_in_order, child_begun, child_count, close_while, done_where, ends_group, in_groups, open_guard, open_results, open_while, range_test, rest_where, trapped_unless, with_child_count, with_while}
+use Rattle.swift_lowering.specs.Blocks.{AddsTask, BeginsChild, Counts, CountsOn, Does, DoesAll, DoesBlock, DoesElse, EndsChild, Fixes, IsNext, LoopsOver, MakesTask, NamesCounter, Renames, Repeats, TakesResults, Tests, are_in_order, child_begun, child_count, close_while, counted_in, done_where, ends_group, in_groups, open_guard, open_results, open_while, range_test, rest_where, trapped_unless, with_child_count, with_while}
 use Rattle.swift_lowering.specs.Returning.{has_rest, leaves_early, may_return}
 
 -- what is put from one state is from another one that is the same
@@ -140,3 +142,33 @@ all_in_child there is begins rest ends = blocks.child there is begins.1 rest end
 -- what a closure puts before is left aside
 pub child_behind : (stmt : Stmt) {t u : State} {variable count : ℕ} → BeginsChild t stmt.token (leaves_early t stmt.next) variable count u → (t : State) × BeginsChild t stmt.token (leaves_early t stmt.next) variable count u
 child_behind stmt {t} h = (t, h)
+
+-- a task begins
+pub task_made : (callee : Callee) (priority : Option Priority) (kind : Kind) {s r u v t : State} {name variable : ℕ} {is_detached : Bool} → r ≡ s → IsDeclared r name false u → variable ≡ next_variable r → v ≡ put (instruction.Make variable is_detached callee priority) u → Binds v name standings.Task variable kind variable t → MakesTask s name is_detached t
+task_made callee priority kind {r = r} {u} {v} {t} {name} {variable} {is_detached} e d is p b =
+    let begins : v ≡ put (instruction.Make (next_variable r) is_detached callee priority) u = p ∙ ap (λ x. put (instruction.Make x is_detached callee priority) u) is in
+    subst (λ x. MakesTask x name is_detached t) e (record {
+      u = u;
+      callee = callee;
+      priority = priority;
+      kind = kind;
+      declared = d;
+      binds = subst (λ x. Binds x name standings.Task (next_variable r) kind (next_variable r) t) begins (subst (λ x. Binds v name standings.Task x kind x t) is b);
+    })
+
+pub task_behind : (name : ℕ) (is_detached : Bool) {t u : State} → MakesTask t name is_detached u → (t : State) × MakesTask t name is_detached u
+task_behind name is_detached {t} h = (t, h)
+
+-- a child of a group begins
+pub task_added : (callee : Callee) (place : ℕ) (b : Binding) {s r u t : State} {is_only : Bool} → slice_get s.scope place ≡ Some b → r ≡ s → u ≡ put (instruction.Add b.variable is_only callee None) r → t ≡ counted_in is_only place b u → AddsTask s is_only t
+task_added callee place b {s} {is_only = is_only} at e p n = record { place = place; b = b; there = at; callee = callee; state = n ∙ ap (counted_in is_only place b) (p ∙ ap (put (instruction.Add b.variable is_only callee None)) e) }
+
+pub added_behind : (is_only : Bool) {t u : State} → AddsTask t is_only u → (t : State) × AddsTask t is_only u
+added_behind is_only {t} h = (t, h)
+
+-- statements that make tasks
+pub makes_task_by : {s u : State} {stmt : Stmt} {name : ℕ} {what : TaskForm} → stmt.form ≡ form.Task name what → (t : State) × MakesTask t name what.is_detached u → Does s stmt u
+makes_task_by e h = blocks.makes_task e h.1
+
+pub adds_task_by : {s u : State} {stmt : Stmt} {is_only : Bool} {what : TaskForm} → stmt.form ≡ form.AddTask is_only what → (t : State) × AddsTask t is_only u → Does s stmt u
+adds_task_by e h = blocks.adds_task e h.1

@@ -3,13 +3,15 @@ use Rattle.std.specs.Prelude.{ℕ, zero, suc, ◌≡◌, ◌==◌, ◌^◌, ◌-
 use Rattle.std.specs.List.{slice_get}
 use Rattle.swift_types.specs.declared.operator.Operator.{Operator}
 use Rattle.swift_types.specs.declared.operator.Operator.TheVariants as operators
+use Rattle.swift_types.specs.declared.priority.Priority.{Priority}
 use Rattle.swift_syntax.specs.Expressions.{after}
 use Rattle.swift_syntax.specs.declared.tree.Stmt.{Stmt}
 use Rattle.swift_syntax.specs.declared.tree.StmtForm.{StmtForm}
 use Rattle.swift_syntax.specs.declared.tree.StmtForm.TheVariants as form
+use Rattle.swift_syntax.specs.declared.tree.TaskForm.{TaskForm}
 use Rattle.swift_syntax.specs.declared.tree.ValueType.{ValueType}
 use Rattle.swift_expressions.specs.Lowered.{Lowers, child_test, counted, used, with_child_test, yielding}
-use Rattle.swift_expressions.specs.States.{Binds, Gives, IsDeclared, State, bytes_at, left_to, named, next_value, next_variable, put, stmt_at, value_in, with_done, with_temporary, with_value}
+use Rattle.swift_expressions.specs.States.{Binds, Gives, IsDeclared, State, bytes_at, left_to, named, next_value, next_variable, put, stmt_at, value_in, with_done, with_partial, with_temporary, with_value}
 use Rattle.swift_expressions.specs.declared.code.Callee.{Callee}
 use Rattle.swift_expressions.specs.declared.code.Instruction.TheVariants as instruction
 use Rattle.swift_expressions.specs.declared.code.Kind.{Kind}
@@ -128,10 +130,30 @@ pub data TakesResults (s : State) (name : ℕ) (t : State) : Type 0 where
   without_name : {b : Binding} (place : ℕ) → slice_get s.scope place ≡ Some b → bytes_at s name ≡ codes "_" → IsNext (open_results b (used place s)) b 0 t → TakesResults s name t
   with_name : {b : Binding} {u : State} (place : ℕ) → slice_get s.scope place ≡ Some b → IsNext (open_results b (used place s)) b name u → Binds u name standings.Constant (next_variable s) b.kind (next_variable s) t → TakesResults s name t
 
--- whether what a statement puts is left aside here: tasks, groups, bindings, and what a `do` catches
+-- A task begins, which its name stands for. What it runs, and how urgent it is, is not said.
+pub record MakesTask (s : State) (name : ℕ) (is_detached : Bool) (t : State) : Type 0 where
+  pub u : State
+  pub callee : Callee
+  pub priority : Option Priority
+  pub kind : Kind
+  pub declared : IsDeclared s name false u
+  pub binds : Binds (put (instruction.Make (next_variable s) is_detached callee priority) u) name standings.Task (next_variable s) kind (next_variable s) t
+
+-- a child that may be left out may be missing from its group; any other is counted
+abbrev pub counted_in : Bool → ℕ → Binding → State → State
+counted_in true place b s = with_partial place s
+counted_in false place b s = counted operators.Plus b.count s
+
+-- A child of a group begins. What it runs, and which group that is, is not said.
+pub record AddsTask (s : State) (is_only : Bool) (t : State) : Type 0 where
+  pub place : ℕ
+  pub b : Binding
+  pub there : slice_get s.scope place ≡ Some b
+  pub callee : Callee
+  pub state : t ≡ counted_in is_only place b (put (instruction.Add b.variable is_only callee None) s)
+
+-- whether what a statement puts is left aside here: groups, bindings, and what a `do` catches
 abbrev pub is_left_aside : StmtForm → Bool
-is_left_aside (form.Task name what) = true
-is_left_aside (form.AddTask is_only what) = true
 is_left_aside (form.Group into found is_throwing body) = true
 is_left_aside (form.Bind into of given body) = true
 is_left_aside (form.DoCatch body caught) = true
@@ -182,7 +204,7 @@ pub record EndsChild (s : State) (variable count : ℕ) (t : State) : Type 0 whe
   pub state : t ≡ ends_group (put instruction.End (put (instruction.Cancel variable) (child_begun yields variable count s)))
 
 mutual
-  -- What a statement becomes.
+  -- What a statement becomes. What the closure of a task puts before that is left aside.
   pub data Does : State → Stmt → State → Type 0 where
     plain : {s t : State} {stmt : Stmt} → DoesPlain s t stmt.form → Does s stmt t
     conditional : {s t u v w : State} {stmt : Stmt} {test held failed value : ℕ} → stmt.form ≡ form.If test held failed → Tests s test t value → DoesBlock (put (instruction.If value) t) held u → DoesElse u failed v → w ≡ put instruction.End v → Does s stmt w
@@ -192,6 +214,8 @@ mutual
     for_range : {s t u : State} {stmt : Stmt} {from to body counter : ℕ} {is_closed : Bool} → stmt.form ≡ form.For from to is_closed body → Counts s from to is_closed counter t → CountsOn t stmt.token counter body u → Does s stmt u
     for_results : {s t : State} {stmt : Stmt} {group body : ℕ} {is_tried : Bool} → stmt.form ≡ form.ForAwait group is_tried body → LoopsOver s stmt.token body t → Does s stmt t
     while_results : {s t : State} {stmt : Stmt} {group body : ℕ} {is_tried : Bool} → stmt.form ≡ form.WhileNext group is_tried body → LoopsOver s stmt.token body t → Does s stmt t
+    makes_task : {s t u : State} {stmt : Stmt} {name : ℕ} {what : TaskForm} → stmt.form ≡ form.Task name what → MakesTask t name what.is_detached u → Does s stmt u
+    adds_task : {s t u : State} {stmt : Stmt} {is_only : Bool} {what : TaskForm} → stmt.form ≡ form.AddTask is_only what → AddsTask t is_only u → Does s stmt u
     left_aside : {s t : State} {stmt : Stmt} → is_left_aside stmt.form ≡ true → Does s stmt t
 
   -- What the statements of a block become, from a place on, in order; at most so many are looked at. What follows one that may return is done

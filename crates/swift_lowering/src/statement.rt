@@ -4,7 +4,7 @@ ghost use Rattle.std.specs.Prelude.{◌≡◌, IsNone, length};
 ghost use Rattle.swift_expressions.specs.Instructions.{KeepsRefusal};
 ghost use Rattle.swift_expressions.specs.States.{Becomes, State, state_of};
 ghost use Rattle.swift_lowering.specs.Returning.{leaves_early};
-ghost use Rattle.swift_lowering.specs.Blocks.{BeginsChild, CountsOn, Does, DoesAll, DoesBlock, DoesElse, LoopsOver, Repeats, open_guard};
+ghost use Rattle.swift_lowering.specs.Blocks.{AddsTask, BeginsChild, CountsOn, Does, DoesAll, DoesBlock, DoesElse, LoopsOver, MakesTask, Repeats, open_guard};
 
 use crate::assignment::{begin_given, end_caught, give};
 use crate::catching::{begin_caught, caught_wait};
@@ -277,6 +277,7 @@ fn loop_results(
 // A task.
 #[cycle(statement)]
 fn task(lowering: &mut Lowering<'_>, stmt: Stmt, name: usize, form: TaskForm, depth: u32)
+    ensures makes { IsNone lowering.new.refused → (t : State) × MakesTask t name form.is_detached (state_of lowering.new) }
     ensures refused { KeepsRefusal lowering.old lowering.new }
 {
     let body = task_body(lowering, stmt, form, false);
@@ -287,6 +288,7 @@ fn task(lowering: &mut Lowering<'_>, stmt: Stmt, name: usize, form: TaskForm, de
 // A child of a group.
 #[cycle(statement)]
 fn group_child(lowering: &mut Lowering<'_>, stmt: Stmt, is_only: bool, form: TaskForm, depth: u32)
+    ensures adds { IsNone lowering.new.refused → (t : State) × AddsTask t is_only (state_of lowering.new) }
     ensures refused { KeepsRefusal lowering.old lowering.new }
 {
     let body = task_body(lowering, stmt, form, true);

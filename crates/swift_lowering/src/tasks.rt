@@ -4,7 +4,7 @@ ghost use Rattle.std.specs.Prelude.{◌≡◌, IfNone, IfSome, IsNone, IsSome, S
 ghost use Rattle.swift_expressions.specs.Instructions.{KeepsRefusal};
 ghost use Rattle.swift_expressions.specs.States.{Becomes, left_to, next_variable, put, state_of};
 ghost use Rattle.swift_expressions.specs.Lowered.{yielding};
-ghost use Rattle.swift_lowering.specs.Blocks.{BeginsChild, EndsChild, IsNext, TakesResults, child_begun, child_count, open_results, with_child_count};
+ghost use Rattle.swift_lowering.specs.Blocks.{AddsTask, BeginsChild, EndsChild, IsNext, MakesTask, TakesResults, child_begun, child_count, counted_in, open_results, with_child_count};
 ghost use Rattle.swift_lowering.specs.Returning.{leaves_early};
 ghost use Rattle.swift_lowering.specs.EndsInside.{EndsCancelled};
 ghost use Rattle.swift_lowering.specs.Statements.{result_given, result_set};
@@ -73,11 +73,10 @@ pub(crate) fn make_task(
     form: TaskForm,
     made: MadeClosure,
 )
+    ensures makes { IsNone lowering.new.refused → MakesTask (state_of lowering.old) name form.is_detached (state_of lowering.new) }
     ensures refused { KeepsRefusal lowering.old lowering.new }
 {
-    if name == 0 {
-        lowering.refuse(Rule::TaskLeft, stmt.token);
-    }
+    lowering.refuse_where(name == 0, Rule::TaskLeft, stmt.token);
     let variable = lowering.variable(name, false);
     let urgency = priority(lowering, form.priority);
     lowering.put(Instruction::Make(variable, form.is_detached, made.callee, urgency));
@@ -114,6 +113,30 @@ pub(crate) fn group_named(lowering: &mut Lowering<'_>, token: usize) -> Option<(
     Some((place, found))
 }
 
+// Refuses a child that gives or throws what its group does not. Of a group of nothing the value of a child is let go.
+fn want_child(lowering: &mut Lowering<'_>, made: MadeClosure, group: Binding, token: usize)
+    ensures state { Becomes lowering.new (state_of lowering.old) }
+    ensures refused { KeepsRefusal lowering.old lowering.new }
+{
+    let is_given = group.kind == Kind::Void || made.kind == group.kind;
+    lowering.refuse_where(!is_given, Rule::WrongType, token);
+    let is_thrown = !made.is_throwing || group.is_throwing;
+    lowering.refuse_where(!is_thrown, Rule::Try, token);
+}
+
+// A child that may be left out may be missing from its group, of which no result was taken so far; any other is counted.
+fn count_in(lowering: &mut Lowering<'_>, is_only: bool, place: usize, group: Binding, token: usize)
+    ensures state { Becomes lowering.new (counted_in is_only place group (state_of lowering.old)) }
+    ensures refused { KeepsRefusal lowering.old lowering.new }
+{
+    if is_only {
+        lowering.refuse_where(group.is_used, Rule::NotYet, token);
+        mark_partial(lowering, place);
+    } else {
+        count_up(lowering, group.count);
+    }
+}
+
 /// Adds a child to a group.
 pub(crate) fn add_task(
     lowering: &mut Lowering<'_>,
@@ -122,29 +145,17 @@ pub(crate) fn add_task(
     form: TaskForm,
     made: MadeClosure,
 )
+    ensures adds { IsNone lowering.new.refused → AddsTask (state_of lowering.old) is_only (state_of lowering.new) }
     ensures refused { KeepsRefusal lowering.old lowering.new }
 {
     let Some((place, group)) = group_named(lowering, stmt.token) else {
         return;
     };
-    // Of a group of nothing the value of a child is let go.
-    if group.kind != Kind::Void && made.kind != group.kind {
-        lowering.refuse(Rule::WrongType, stmt.token);
-    }
-    if made.is_throwing && !group.is_throwing {
-        lowering.refuse(Rule::Try, stmt.token);
-    }
+    want_child(lowering, made, group, stmt.token);
     // In Swift it has no effect: a child has its owner's.
     priority(lowering, form.priority);
     lowering.put(Instruction::Add(group.variable, is_only, made.callee, None));
-    if is_only {
-        if group.is_used {
-            lowering.refuse(Rule::NotYet, stmt.token);
-        }
-        mark_partial(lowering, place);
-    } else {
-        count_up(lowering, group.count);
-    }
+    count_in(lowering, is_only, place, group, stmt.token);
 }
 
 // A variable that says whether the child of an `async let` is left, where its scope may be left before that is awaited; else the child's.

@@ -2,7 +2,7 @@ use Rattle.std.proofs.Common.{◌≡◌, ◌∙◌, length, ap, sym, arith}
 use Rattle.swift_expressions.specs.States.{left_to, state_of}
 use Rattle.swift_lowering.specs.Blocks as blocks
 use Rattle.swift_lowering.specs.Blocks.{is_left_aside}
-use Rattle.swift_lowering.proofs.Blocked.{all_begun, all_in_child, all_on, all_spent, all_unless, child_behind, conditional_does, count_on_by, guarded_does, loop_over_by, other_does, repeats_by, results_do, while_again_does, while_value_does}
+use Rattle.swift_lowering.proofs.Blocked.{added_behind, adds_task_by, all_begun, all_in_child, all_on, all_spent, all_unless, child_behind, conditional_does, count_on_by, guarded_does, loop_over_by, makes_task_by, other_does, repeats_by, results_do, task_behind, while_again_does, while_value_does}
 use Rattle.swift_lowering.proofs.statement.+statement.Goals as goal
 
 pub block-returns-clause-block : goal.block-returns-clause-block
@@ -72,6 +72,12 @@ loop_results-returns-clause-results t c = λ n4.
 pub child-returns-clause-begins : goal.child-returns-clause-begins
 child-returns-clause-begins t c = λ n. child_behind c.args.stmt (c.begin_child.ensures.begins n)
 
+pub task-returns-clause-makes : goal.task-returns-clause-makes
+task-returns-clause-makes t c = λ n. task_behind c.args.name c.args.form.is_detached (c.make_task.ensures.makes n)
+
+pub group_child-returns-clause-adds : goal.group_child-returns-clause-adds
+group_child-returns-clause-adds t c = λ n. added_behind c.args.is_only (c.add_task.ensures.adds n)
+
 pub statements-loop-init : goal.statements-loop-init
 statements-loop-init t c = record { refused = λ n. n; does = λ n s h. all_begun h }
 
@@ -117,10 +123,10 @@ pub statement-returns-in-ForAwait-clause-does : goal.statement-returns-in-ForAwa
 statement-returns-in-ForAwait-clause-does t c = λ n. results_do c.in-ForAwait.is (c.loop_results.ensures.results n)
 
 pub statement-returns-in-Task-clause-does : goal.statement-returns-in-Task-clause-does
-statement-returns-in-Task-clause-does t c = λ n. blocks.left_aside (ap is_left_aside c.in-Task.is)
+statement-returns-in-Task-clause-does t c = λ n. makes_task_by c.in-Task.is (c.task.ensures.makes n)
 
 pub statement-returns-in-AddTask-clause-does : goal.statement-returns-in-AddTask-clause-does
-statement-returns-in-AddTask-clause-does t c = λ n. blocks.left_aside (ap is_left_aside c.in-AddTask.is)
+statement-returns-in-AddTask-clause-does t c = λ n. adds_task_by c.in-AddTask.is (c.group_child.ensures.adds n)
 
 pub statement-returns-in-Group-clause-does : goal.statement-returns-in-Group-clause-does
 statement-returns-in-Group-clause-does t c = λ n. blocks.left_aside (ap is_left_aside c.in-Group.is)
