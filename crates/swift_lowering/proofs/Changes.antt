@@ -9,7 +9,7 @@ use Rattle.swift_expressions.specs.declared.code.Value.{Value}
 use Rattle.swift_expressions.specs.declared.code.Value.TheVariants as value
 use Rattle.swift_expressions.specs.declared.lowering.Lowering.{Lowering}
 use Rattle.swift_expressions.specs.Instructions.{IsPlaced, KeepsRefusal, Puts, value_at}
-use Rattle.swift_lowering.specs.AssignmentsInside.{read_of, set_of}
+use Rattle.swift_lowering.specs.Assignments.{read_of, set_of}
 use Rattle.swift_lowering.specs.EndsInside.{Combines, Changes, EndsCancelled, EndsInAssignment, EndsInChange, EndsInSet, Sets}
 use Rattle.swift_lowering.specs.declared.assignment.Destination.{Destination}
 use Rattle.swift_lowering.specs.declared.assignment.Destination.TheVariants.{Name, Field}

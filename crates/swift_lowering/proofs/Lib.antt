@@ -1,1 +1,5 @@
+pub mod Blocked
 pub mod Changes
+pub mod Grown
+pub mod Returning
+pub mod Stated

@@ -1,5 +1,9 @@
--- Where an assignment goes. No public clause names it. (Own.)
-use Rattle.std.specs.Prelude.{ℕ}
+-- Where an assignment goes, and how it changes what stands there. (Our own.)
+use Rattle.std.specs.Prelude.{ℕ, Option, None, Some}
+use Rattle.swift_types.specs.declared.operator.Operator.{Operator}
+use Rattle.swift_types.specs.declared.operator.Operator.TheVariants as operators
+use Rattle.swift_syntax.specs.declared.tree.Assigning.{Assigning}
+use Rattle.swift_syntax.specs.declared.tree.Assigning.TheVariants as assigning
 use Rattle.swift_expressions.specs.declared.code.Instruction.{Instruction}
 use Rattle.swift_expressions.specs.declared.code.Instruction.TheVariants as instruction
 use Rattle.swift_expressions.specs.declared.code.Value.{Value}
@@ -16,3 +20,10 @@ read_of (Field f) = value.Field f
 abbrev pub set_of : Destination → ℕ → Instruction
 set_of (Name b) place = instruction.Set b.variable place
 set_of (Field f) place = instruction.SetField f place
+
+-- how an assignment combines what was there with a value, unless it only sets it
+abbrev pub operator_of : Assigning → Option Operator
+operator_of assigning.Set = None
+operator_of assigning.Add = Some operators.Plus
+operator_of assigning.Subtract = Some operators.Minus
+operator_of assigning.Multiply = Some operators.Times

@@ -1,9 +1,6 @@
 -- What the instructions of a file end in (our own).
-use Rattle.std.specs.Prelude.{ℕ, ◌≡◌, ◌++◌, List, [], ◌∷◌, Option, Some, None, MatchOption, true}
+use Rattle.std.specs.Prelude.{ℕ, ◌≡◌, ◌++◌, List, [], ◌∷◌, Option, MatchOption, true}
 use Rattle.swift_types.specs.declared.operator.Operator.{Operator}
-use Rattle.swift_types.specs.declared.operator.Operator.TheVariants as operators
-use Rattle.swift_syntax.specs.declared.tree.Assigning.{Assigning}
-use Rattle.swift_syntax.specs.declared.tree.Assigning.TheVariants as assigning
 use Rattle.swift_expressions.specs.declared.code.Code.{Code}
 use Rattle.swift_expressions.specs.declared.code.Instruction.{Instruction}
 use Rattle.swift_expressions.specs.declared.code.Instruction.TheVariants as instruction
@@ -11,13 +8,6 @@ use Rattle.swift_expressions.specs.declared.code.Value.{Value}
 use Rattle.swift_expressions.specs.declared.code.Value.TheVariants as value
 use Rattle.swift_expressions.specs.declared.lowering.Lowering.{Lowering}
 use Rattle.swift_expressions.specs.Instructions.{IsBound, IsVariableOf, value_at}
-
--- how an assignment combines what was there with a value, unless it only sets it
-abbrev pub operator_of : Assigning → Option Operator
-operator_of assigning.Set = None
-operator_of assigning.Add = Some operators.Plus
-operator_of assigning.Subtract = Some operators.Minus
-operator_of assigning.Multiply = Some operators.Times
 
 -- A value combines what is read there and then with another one.
 pub record Combines (code : Code) (operator : Operator) (read : Value) (right place : ℕ) : Type 0 where

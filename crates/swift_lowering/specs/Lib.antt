@@ -1,4 +1,10 @@
+-- Where an assignment goes.
+pub mod Assignments
 -- What instructions end in.
 pub mod EndsInside
--- Where an assignment goes.
-pub mod AssignmentsInside
+-- What statements without a block become.
+pub mod Statements
+-- Which statements may return.
+pub mod Returning
+-- What statements with a block become.
+pub mod Blocks

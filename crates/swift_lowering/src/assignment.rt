@@ -1,9 +1,12 @@
 //! Where values go.
 
-ghost use Rattle.std.specs.Prelude.{◌≡◌, IfNone, IsNone, IsSome};
+ghost use Rattle.std.specs.Prelude.{◌≡◌, ℤ, IfNone, IfSome, IsNone, IsSome};
 ghost use Rattle.swift_expressions.specs.Instructions.{IsPlaced, KeepsRefusal, Puts};
-ghost use Rattle.swift_lowering.specs.AssignmentsInside.{read_of, set_of};
-ghost use Rattle.swift_lowering.specs.EndsInside.{EndsInAssignment, EndsInChange, EndsInSet, operator_of};
+ghost use Rattle.swift_lowering.specs.Assignments.{operator_of, read_of, set_of};
+ghost use Rattle.swift_expressions.specs.States.{Becomes, next_value, put, state_of, with_value};
+ghost use Rattle.swift_lowering.specs.EndsInside.{EndsInAssignment, EndsInChange, EndsInSet};
+ghost use Rattle.swift_lowering.specs.Statements.{Assigns, Defines, GivesTo, IsNamed, changed, ended_by, given_back, given_by, returned, thrown, toggled};
+ghost use Rattle.swift_lowering.specs.declared.assignment.Destination.{Destination};
 
 use crate::catching::{Held, begin_held};
 use crate::tasks::give_result;
@@ -16,7 +19,10 @@ use swift_syntax::{Assigning, ExprForm, Into, Rule, Stmt, StmtForm, ValueType};
 use swift_types::Operator;
 
 // Refuses a value of another type, where one is wanted.
-fn want_type(lowering: &mut Lowering<'_>, found: Typed, wanted: Option<Kind>, token: usize) {
+fn want_type(lowering: &mut Lowering<'_>, found: Typed, wanted: Option<Kind>, token: usize)
+    ensures state { Becomes lowering.new (state_of lowering.old) }
+    ensures refused { KeepsRefusal lowering.old lowering.new }
+{
     if let Some(kind) = wanted {
         want(lowering, found, kind, token);
     }
@@ -29,23 +35,43 @@ fn define(
     wanted: Option<Kind>,
     found: Typed,
     is_var: bool,
-) {
+)
+    ensures defines { IsNone lowering.new.refused → Defines (state_of lowering.old) name found is_var (state_of lowering.new) }
+    ensures refused { KeepsRefusal lowering.old lowering.new }
+{
     want_type(lowering, found, wanted, name);
+    want_value(lowering, found, name);
+    refuse_twice(lowering, name);
+    match named_value(lowering, found.value, name) {
+        Some(variable) => declare(lowering, name, variable, found.kind, is_var),
+        None => {
+            let variable = lowering.variable(name, false);
+            lowering.put(Instruction::Let(variable, found.value));
+            declare(lowering, name, variable, found.kind, is_var);
+        }
+    }
+}
+
+// The variable that is a value, if it gets a name here: it had none.
+fn named_value(lowering: &mut Lowering<'_>, value: usize, name: usize) -> Option<usize>
+    ensures named { IfSome result (λ v. IsNone lowering.new.refused → IsNamed (state_of lowering.old) value name v (state_of lowering.new)) }
+    ensures other { IfNone result (Becomes lowering.new (state_of lowering.old)) }
+    ensures refused { KeepsRefusal lowering.old lowering.new }
+{
+    match lowering.value_at(value) {
+        Value::Variable(place) if lowering.name_variable(place, name) => Some(place),
+        _ => None,
+    }
+}
+
+// Refuses a name for nothing, or for a priority.
+fn want_value(lowering: &mut Lowering<'_>, found: Typed, name: usize)
+    ensures state { Becomes lowering.new (state_of lowering.old) }
+    ensures refused { KeepsRefusal lowering.old lowering.new }
+{
     if found.kind == Kind::Void || found.kind == Kind::Urgency {
         lowering.refuse(Rule::WrongType, name);
     }
-    refuse_twice(lowering, name);
-    let mut variable = NONE;
-    if let Value::Variable(place) = lowering.value_at(found.value) {
-        if lowering.name_variable(place, name) {
-            variable = place;
-        }
-    }
-    if variable == NONE {
-        variable = lowering.variable(name, false);
-        lowering.put(Instruction::Let(variable, found.value));
-    }
-    declare(lowering, name, variable, found.kind, is_var);
 }
 
 // Whether a block has a name already.
@@ -60,7 +86,10 @@ fn has_name(lowering: &Lowering<'_>, name: usize) -> bool {
 }
 
 // Refuses a name that its block has already.
-fn refuse_twice(lowering: &mut Lowering<'_>, name: usize) {
+fn refuse_twice(lowering: &mut Lowering<'_>, name: usize)
+    ensures state { Becomes lowering.new (state_of lowering.old) }
+    ensures refused { KeepsRefusal lowering.old lowering.new }
+{
     if has_name(lowering, name) {
         lowering.refuse(Rule::NameTwice, name);
     }
@@ -69,6 +98,7 @@ fn refuse_twice(lowering: &mut Lowering<'_>, name: usize) {
 // Refuses to give a name its own value, as Swift does.
 fn refuse_self(lowering: &mut Lowering<'_>, value: usize, target: usize, name: usize)
     ensures code { lowering.new.code ≡ lowering.old.code }
+    ensures state { Becomes lowering.new (state_of lowering.old) }
     ensures refused { KeepsRefusal lowering.old lowering.new }
 {
     if value == target {
@@ -89,6 +119,7 @@ enum Destination {
 fn destination_of(lowering: &mut Lowering<'_>, name: usize, is_own: bool) -> Option<Destination>
     ensures unknown { IfNone result (IsSome lowering.new.refused) }
     ensures code { lowering.new.code ≡ lowering.old.code }
+    ensures state { Becomes lowering.new (state_of lowering.old) }
     ensures refused { KeepsRefusal lowering.old lowering.new }
 {
     if !is_own {
@@ -109,6 +140,7 @@ fn destination_of(lowering: &mut Lowering<'_>, name: usize, is_own: bool) -> Opt
 // Refuses to set what is no variable, or to a value of another type.
 fn want_set(lowering: &mut Lowering<'_>, to: Destination, found: Typed, name: usize)
     ensures code { IsNone lowering.new.refused → lowering.new.code ≡ lowering.old.code }
+    ensures state { Becomes lowering.new (state_of lowering.old) }
     ensures refused { KeepsRefusal lowering.old lowering.new }
 {
     match to {
@@ -131,6 +163,7 @@ fn want_set(lowering: &mut Lowering<'_>, to: Destination, found: Typed, name: us
 // Gives a value to where it goes.
 fn store(lowering: &mut Lowering<'_>, to: Destination, found: Typed, name: usize)
     ensures put { Puts lowering.old lowering.new (set_of to found.value) }
+    ensures state { Becomes lowering.new (put (set_of to found.value) (state_of lowering.old)) }
     ensures values { IsNone lowering.new.refused → lowering.new.code.values ≡ lowering.old.code.values }
     ensures refused { KeepsRefusal lowering.old lowering.new }
 {
@@ -155,6 +188,7 @@ fn store(lowering: &mut Lowering<'_>, to: Destination, found: Typed, name: usize
 #[tactic(auto, using(crate::proofs::Changes::sets_of))]
 fn set(lowering: &mut Lowering<'_>, name: usize, is_own: bool, found: Typed)
     ensures set { IsNone lowering.new.refused → EndsInSet lowering.old.code.instructions.items lowering.new.code found.value }
+    ensures state { IsNone lowering.new.refused → (to : Destination) × (state_of lowering.new ≡ put (set_of to found.value) (state_of lowering.old)) }
     ensures refused { KeepsRefusal lowering.old lowering.new }
 {
     if let Some(to) = destination_of(lowering, name, is_own) {
@@ -165,6 +199,8 @@ fn set(lowering: &mut Lowering<'_>, name: usize, is_own: bool, found: Typed)
 // What stands there before it is changed.
 fn current(lowering: &mut Lowering<'_>, to: Destination) -> Typed
     ensures put { IsNone lowering.new.refused → IsPlaced lowering.old.code lowering.new.code (read_of to) result.value }
+    ensures state { Becomes lowering.new (with_value (read_of to) (state_of lowering.old)) }
+    ensures place { IsNone lowering.new.refused → result.value ≡ next_value (state_of lowering.old) }
     ensures instructions { IsNone lowering.new.refused → lowering.new.code.instructions ≡ lowering.old.code.instructions }
     ensures refused { KeepsRefusal lowering.old lowering.new }
 {
@@ -195,6 +231,8 @@ fn operator_of(how: Assigning) -> Option<Operator>
 #[tactic(auto, using(crate::proofs::Changes::changed))]
 fn change(lowering: &mut Lowering<'_>, operator: Operator, is_own: bool, found: Typed, name: usize)
     ensures changed { IsNone lowering.new.refused → EndsInChange lowering.old.code.instructions.items lowering.new.code operator found.value }
+    ensures state { IsNone lowering.new.refused → (to : Destination) × (state_of lowering.new ≡ changed operator to found.value (state_of lowering.old)) }
+    ensures refused { KeepsRefusal lowering.old lowering.new }
 {
     want(lowering, found, Kind::Int, name);
     let Some(to) = destination_of(lowering, name, is_own) else {
@@ -215,6 +253,8 @@ pub(crate) fn assign(
     name: usize,
 )
     ensures assigned { IsNone lowering.new.refused → EndsInAssignment lowering.new.code (operator_of how) }
+    ensures assigns { IsNone lowering.new.refused → Assigns (state_of lowering.old) place (state_of lowering.new) (operator_of how) }
+    ensures refused { KeepsRefusal lowering.old lowering.new }
 {
     let found = expression(lowering, place);
     match operator_of(how) {
@@ -224,7 +264,10 @@ pub(crate) fn assign(
 }
 
 /// `NAME.toggle()`
-pub(crate) fn toggle(lowering: &mut Lowering<'_>, is_own: bool, name: usize) {
+pub(crate) fn toggle(lowering: &mut Lowering<'_>, is_own: bool, name: usize)
+    ensures state { IsNone lowering.new.refused → (to : Destination) × (state_of lowering.new ≡ toggled to (state_of lowering.old)) }
+    ensures refused { KeepsRefusal lowering.old lowering.new }
+{
     let Some(to) = destination_of(lowering, name, is_own) else {
         return;
     };
@@ -234,32 +277,76 @@ pub(crate) fn toggle(lowering: &mut Lowering<'_>, is_own: bool, name: usize) {
     store(lowering, to, after, name);
 }
 
-/// A value that is returned.
-pub(crate) fn give_back(lowering: &mut Lowering<'_>, found: Option<Typed>, stmt: Stmt) {
-    let kind = found.map_or(Kind::Void, |f| f.kind);
+// Refuses a value of another type than the unit gives, where that is known; else it is known from here on.
+fn want_result(lowering: &mut Lowering<'_>, kind: Kind, token: usize)
+    ensures state { Becomes lowering.new (state_of lowering.old) }
+    ensures refused { KeepsRefusal lowering.old lowering.new }
+{
     match lowering.setting.result {
         Some(wanted) => {
             if wanted != kind {
-                lowering.refuse(Rule::WrongType, stmt.token);
+                lowering.refuse(Rule::WrongType, token);
             }
         }
         None => lowering.setting.result = Some(kind),
     }
-    if let Returns::Closure(_, blocks) = lowering.setting.returns {
-        if stmt.next != 0 || lowering.setting.blocks != blocks {
-            lowering.refuse(Rule::NotYet, stmt.token);
-        }
-        if let Some(found) = found {
-            give_result(lowering, found);
-        }
-        return;
-    }
+}
+
+// Returns from the unit.
+fn give_unit(lowering: &mut Lowering<'_>, value: usize)
+    ensures state { Becomes lowering.new (returned value (state_of lowering.old)) }
+    ensures refused { KeepsRefusal lowering.old lowering.new }
+{
     if lowering.setting.groups > 0 {
         lowering.return_inside();
     }
-    match found {
-        Some(found) if kind != Kind::Void => lowering.put(Instruction::Return(found.value)),
-        _ => lowering.put(Instruction::Return(NONE)),
+    lowering.put(Instruction::Return(value));
+}
+
+// Where a value is that is returned; nothing has no place.
+fn given_back(found: Typed) -> usize
+    ensures { result ≡ given_back found.kind found.value }
+{
+    match found.kind {
+        Kind::Void => NONE,
+        Kind::Int | Kind::Bool | Kind::Urgency => found.value,
+    }
+}
+
+// Refuses a `return` of a closure anywhere but at the end of its block.
+fn want_last(lowering: &mut Lowering<'_>, blocks: usize, stmt: Stmt)
+    ensures state { Becomes lowering.new (state_of lowering.old) }
+    ensures refused { KeepsRefusal lowering.old lowering.new }
+{
+    if stmt.next != 0 || lowering.setting.blocks != blocks {
+        lowering.refuse(Rule::NotYet, stmt.token);
+    }
+}
+
+/// A value that is returned.
+pub(crate) fn give_back(lowering: &mut Lowering<'_>, found: Typed, stmt: Stmt)
+    ensures state { Becomes lowering.new (given_by lowering.old.setting.returns found (state_of lowering.old)) }
+    ensures refused { KeepsRefusal lowering.old lowering.new }
+{
+    want_result(lowering, found.kind, stmt.token);
+    match lowering.setting.returns {
+        Returns::Closure(_, blocks) => {
+            want_last(lowering, blocks, stmt);
+            give_result(lowering, found);
+        }
+        Returns::Unit => give_unit(lowering, given_back(found)),
+    }
+}
+
+/// `return` without a value
+pub(crate) fn give_nothing(lowering: &mut Lowering<'_>, stmt: Stmt)
+    ensures state { Becomes lowering.new (ended_by lowering.old.setting.returns (state_of lowering.old)) }
+    ensures refused { KeepsRefusal lowering.old lowering.new }
+{
+    want_result(lowering, Kind::Void, stmt.token);
+    match lowering.setting.returns {
+        Returns::Closure(_, blocks) => want_last(lowering, blocks, stmt),
+        Returns::Unit => give_unit(lowering, NONE),
     }
 }
 
@@ -269,18 +356,24 @@ fn kind_if(named: Option<ValueType>) -> Option<Kind> {
 }
 
 /// Gives a value to where it goes.
-pub(crate) fn give(lowering: &mut Lowering<'_>, into: Into, found: Typed, stmt: Stmt) {
+pub(crate) fn give(lowering: &mut Lowering<'_>, into: Into, found: Typed, stmt: Stmt)
+    ensures gives { IsNone lowering.new.refused → GivesTo (state_of lowering.old) found (state_of lowering.new) into }
+    ensures refused { KeepsRefusal lowering.old lowering.new }
+{
     match into {
         Into::Nothing => {}
         Into::Let(name, wanted) => define(lowering, name, kind_if(wanted), found, false),
         Into::Var(name, wanted) => define(lowering, name, kind_if(wanted), found, true),
         Into::Assign(name) => set(lowering, name, false, found),
-        Into::Return => give_back(lowering, Some(found), stmt),
+        Into::Return => give_back(lowering, found, stmt),
     }
 }
 
 // The number of a case of an enum of errors.
-fn case_number(lowering: &mut Lowering<'_>, of: usize, name: usize) -> i64 {
+fn case_number(lowering: &mut Lowering<'_>, of: usize, name: usize) -> i64
+    ensures state { Becomes lowering.new (state_of lowering.old) }
+    ensures refused { KeepsRefusal lowering.old lowering.new }
+{
     let found = lowering
         .tree
         .cases
@@ -300,7 +393,10 @@ fn case_number(lowering: &mut Lowering<'_>, of: usize, name: usize) -> i64 {
 }
 
 // The number that an expression throws: the place of a case in its enum, or -1.
-fn thrown(lowering: &mut Lowering<'_>, place: usize) -> i64 {
+fn thrown(lowering: &mut Lowering<'_>, place: usize) -> i64
+    ensures state { Becomes lowering.new (state_of lowering.old) }
+    ensures refused { KeepsRefusal lowering.old lowering.new }
+{
     let expr = lowering.tree.expr(place);
     match expr.form {
         ExprForm::Member(of) => case_number(lowering, of, expr.token),
@@ -313,7 +409,10 @@ fn thrown(lowering: &mut Lowering<'_>, place: usize) -> i64 {
 }
 
 /// `throw e`
-pub(crate) fn throw(lowering: &mut Lowering<'_>, place: usize) {
+pub(crate) fn throw(lowering: &mut Lowering<'_>, place: usize)
+    ensures state { IsNone lowering.new.refused → (number : ℤ) × (state_of lowering.new ≡ thrown number (state_of lowering.old)) }
+    ensures refused { KeepsRefusal lowering.old lowering.new }
+{
     lowering.setting.has_thrown = true;
     let token = lowering.tree.expr(place).token;
     lowering.refuse_thrown(token);
@@ -323,7 +422,9 @@ pub(crate) fn throw(lowering: &mut Lowering<'_>, place: usize) {
 }
 
 /// Gives what came in a `do` to where it goes.
-pub(crate) fn end_caught(lowering: &mut Lowering<'_>, held: Option<Held>) {
+pub(crate) fn end_caught(lowering: &mut Lowering<'_>, held: Option<Held>)
+    ensures refused { KeepsRefusal lowering.old lowering.new }
+{
     begin_given(lowering, held);
     if held.is_some() {
         lowering.put(Instruction::End);
@@ -331,7 +432,9 @@ pub(crate) fn end_caught(lowering: &mut Lowering<'_>, held: Option<Held>) {
 }
 
 /// The beginning of what is done where what came in a `do` was given to where it goes.
-pub(crate) fn begin_given(lowering: &mut Lowering<'_>, held: Option<Held>) {
+pub(crate) fn begin_given(lowering: &mut Lowering<'_>, held: Option<Held>)
+    ensures refused { KeepsRefusal lowering.old lowering.new }
+{
     let Some(held) = held else {
         return;
     };

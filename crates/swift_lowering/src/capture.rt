@@ -2,6 +2,7 @@
 
 ghost use Rattle.std.specs.Prelude.{◌≡◌, IsNone};
 ghost use Rattle.swift_expressions.specs.Instructions.{KeepsRefusal};
+ghost use Rattle.swift_expressions.specs.States.{Becomes, state_of};
 ghost use Rattle.swift_lowering.specs.EndsInside.{IsHandedOver};
 
 use crate::closure::ClosureBody;
@@ -75,7 +76,9 @@ fn capture(
     captures: usize,
     token: usize,
     last: usize,
-) -> usize {
+) -> usize
+    ensures refused { KeepsRefusal lowering.old lowering.new }
+{
     let Some(found) = standing_at(lowering, token) else {
         return last;
     };
@@ -99,7 +102,10 @@ fn capture(
 }
 
 // Refuses a name that is not global, or that means a member here.
-fn want_global(lowering: &mut Lowering<'_>, token: usize) {
+fn want_global(lowering: &mut Lowering<'_>, token: usize)
+    ensures state { Becomes lowering.new (state_of lowering.old) }
+    ensures refused { KeepsRefusal lowering.old lowering.new }
+{
     if instance_named(lowering, token).is_none() && constant_named(lowering, token).is_none() {
         lowering.refuse(Rule::UnknownName, token);
     }
@@ -107,7 +113,10 @@ fn want_global(lowering: &mut Lowering<'_>, token: usize) {
 }
 
 /// Refuses names in a closure's list that stand for nothing.
-pub(crate) fn refuse_unknown(lowering: &mut Lowering<'_>, captures: usize) {
+pub(crate) fn refuse_unknown(lowering: &mut Lowering<'_>, captures: usize)
+    ensures state { Becomes lowering.new (state_of lowering.old) }
+    ensures refused { KeepsRefusal lowering.old lowering.new }
+{
     let mut place = captures;
     for _ in 0..lowering.tree.arguments.len() {
         let Some(argument) = lowering.tree.argument(place) else {
@@ -122,7 +131,9 @@ pub(crate) fn refuse_unknown(lowering: &mut Lowering<'_>, captures: usize) {
 }
 
 /// Captures what the names in a closure stand for. The place of the first operand, or `NONE`.
-pub(crate) fn capture_all(lowering: &mut Lowering<'_>, unit: usize, body: ClosureBody) -> usize {
+pub(crate) fn capture_all(lowering: &mut Lowering<'_>, unit: usize, body: ClosureBody) -> usize
+    ensures refused { KeepsRefusal lowering.old lowering.new }
+{
     let from = lowering.scope.len();
     let mut first = NONE;
     let mut last = NONE;

@@ -3,6 +3,9 @@
 //! A value that nothing else gives tells of a fault: 2 of a Bool or of nothing. An Int comes from a method of its own, which adds one unless
 //! it is below 0, so that 0 is free to tell.
 
+ghost use Rattle.std.specs.Prelude.{IsNone};
+ghost use Rattle.swift_expressions.specs.Instructions.{KeepsRefusal};
+
 use crate::closure::{begin_unit, end_unit};
 use swift_expressions::{
     Fallback, Instruction, Kind, Lowering, NONE, Target, Typed, Value, Wait, count_down, count_up,
@@ -43,14 +46,18 @@ fn last_wait(lowering: &Lowering<'_>) -> Option<(Target, Wait)> {
 }
 
 // Puts another wait in the place of one.
-fn replace(lowering: &mut Lowering<'_>, place: usize, instruction: Instruction) {
+fn replace(lowering: &mut Lowering<'_>, place: usize, instruction: Instruction)
+    ensures refused { KeepsRefusal lowering.old lowering.new }
+{
     if let Some(found) = lowering.code.instructions.get_mut(place) {
         *found = instruction;
     }
 }
 
 // Parameters of a unit, one for each operand. The operands that they are.
-fn hand_over(lowering: &mut Lowering<'_>, first: usize) -> usize {
+fn hand_over(lowering: &mut Lowering<'_>, first: usize) -> usize
+    ensures refused { KeepsRefusal lowering.old lowering.new }
+{
     let mut place = first;
     let mut begin = NONE;
     let mut last = NONE;
@@ -70,7 +77,9 @@ fn hand_over(lowering: &mut Lowering<'_>, first: usize) -> usize {
 }
 
 // What is waited for, with other operands; and the operands that it had.
-fn rewired(lowering: &mut Lowering<'_>, what: Wait, token: usize) -> (Wait, usize) {
+fn rewired(lowering: &mut Lowering<'_>, what: Wait, token: usize) -> (Wait, usize)
+    ensures refused { KeepsRefusal lowering.old lowering.new }
+{
     match what {
         Wait::Method(instance, method, first) => {
             let handed = hand_over(lowering, first);
@@ -89,7 +98,9 @@ fn rewired(lowering: &mut Lowering<'_>, what: Wait, token: usize) -> (Wait, usiz
 
 // The statements that leave 0 free, of what is called at a token: one is added to a value that is not below 0. That this is possible has to
 // hold.
-fn free_zero(lowering: &mut Lowering<'_>, variable: usize, token: usize) {
+fn free_zero(lowering: &mut Lowering<'_>, variable: usize, token: usize)
+    ensures refused { KeepsRefusal lowering.old lowering.new }
+{
     let value = lowering.value(Value::Variable(variable));
     let most = lowering.number(i64::MAX);
     let is_less = lowering.value(Value::Binary(Operator::Less, value, most));
@@ -104,7 +115,9 @@ fn free_zero(lowering: &mut Lowering<'_>, variable: usize, token: usize) {
 }
 
 // A method that waits and leaves 0 free, in the place of a wait.
-fn wrap(lowering: &mut Lowering<'_>, place: usize, target: Target, what: Wait, token: usize) {
+fn wrap(lowering: &mut Lowering<'_>, place: usize, target: Target, what: Wait, token: usize)
+    ensures refused { KeepsRefusal lowering.old lowering.new }
+{
     let outer = lowering.setting.unit;
     let begun = begin_unit(lowering, token);
     let unit = begun.unit;
@@ -130,7 +143,9 @@ fn told(
     what: Wait,
     kind: Kind,
     token: usize,
-) -> (usize, i64) {
+) -> (usize, i64)
+    ensures refused { KeepsRefusal lowering.old lowering.new }
+{
     let place = lowering.here().saturating_sub(1);
     let variable = match target {
         Target::Declare(variable) => variable,
@@ -147,7 +162,9 @@ fn told(
 }
 
 // Lowers a wait whose fault is caught.
-fn lower_wait(lowering: &mut Lowering<'_>, place: usize) -> Typed {
+fn lower_wait(lowering: &mut Lowering<'_>, place: usize) -> Typed
+    ensures refused { KeepsRefusal lowering.old lowering.new }
+{
     let before = lowering.setting;
     want_wait(lowering, place);
     let zero = lowering.number(0);
@@ -165,7 +182,9 @@ pub(crate) fn begin_caught(
     stmt: Stmt,
     place: usize,
     token: usize,
-) -> Option<Held> {
+) -> Option<Held>
+    ensures refused { KeepsRefusal lowering.old lowering.new }
+{
     let before = lowering.here();
     let found = lower_wait(lowering, place);
     // A wait of the statement itself, and not of one before it.
@@ -187,7 +206,9 @@ pub(crate) fn begin_caught(
 }
 
 /// The beginning of what is done where no fault is caught: what came is as it was given.
-pub(crate) fn begin_held(lowering: &mut Lowering<'_>, held: Held) {
+pub(crate) fn begin_held(lowering: &mut Lowering<'_>, held: Held)
+    ensures refused { KeepsRefusal lowering.old lowering.new }
+{
     lowering.put(Instruction::Else);
     if held.found.kind != Kind::Int {
         return;

@@ -1,5 +1,10 @@
 //! Closures, and the methods that they become.
 
+ghost use Rattle.std.specs.Prelude.{◌≡◌, ℕ, IsTrue};
+ghost use Rattle.swift_expressions.specs.Instructions.{KeepsRefusal};
+ghost use Rattle.swift_expressions.specs.States.{Becomes, form_at, state_of};
+ghost use Rattle.swift_lowering.specs.Statements.{IsSaid};
+
 use crate::capture::{capture_all, refuse_unknown};
 use crate::returns::exits;
 use swift_expressions::{
@@ -59,8 +64,10 @@ pub(crate) fn lone_value(lowering: &Lowering<'_>, first: usize) -> usize {
 }
 
 /// Whether an expression is a call of `print`, `precondition` or `assert`.
-pub(crate) fn is_said(lowering: &Lowering<'_>, value: usize) -> bool {
-    let expr = lowering.tree.expr(value);
+pub(crate) fn is_said(lowering: &Lowering<'_>, value: usize) -> bool
+    ensures said { IsTrue result → (receiver : Receiver) (first : ℕ) → form_at (state_of lowering.now) value ≡ ExprForm.Call receiver first → IsSaid (state_of lowering.now) value }
+{
+    let expr = lowering.expr(value);
     match expr.form {
         ExprForm::Call(Receiver::Nobody, _) => {
             lowering.spells(expr.token, "print")
@@ -201,7 +208,9 @@ fn called(lowering: &Lowering<'_>, place: usize) -> Option<InstanceCall> {
 
 /// A closure that only calls a method of an instance is that method; one that only calls a function that is `async` is that function, which
 /// runs outside of actors as the closure does.
-pub(crate) fn direct(lowering: &mut Lowering<'_>, body: ClosureBody) -> Option<MadeClosure> {
+pub(crate) fn direct(lowering: &mut Lowering<'_>, body: ClosureBody) -> Option<MadeClosure>
+    ensures refused { KeepsRefusal lowering.old lowering.new }
+{
     refuse_unknown(lowering, body.captures);
     let (place, is_awaited, is_tried) = uncovered(lowering, body.value);
     let call = called(lowering, place)?;
@@ -216,7 +225,9 @@ pub(crate) fn direct(lowering: &mut Lowering<'_>, body: ClosureBody) -> Option<M
 }
 
 // What is called as what a task runs.
-fn hand_over(lowering: &mut Lowering<'_>, call: InstanceCall, is_tried: bool) -> MadeClosure {
+fn hand_over(lowering: &mut Lowering<'_>, call: InstanceCall, is_tried: bool) -> MadeClosure
+    ensures refused { KeepsRefusal lowering.old lowering.new }
+{
     let InstanceCall {
         instance,
         method,
@@ -267,7 +278,9 @@ pub(crate) struct OpenUnit {
 }
 
 /// A unit that a closure becomes begins here, at a token.
-pub(crate) fn begin_unit(lowering: &mut Lowering<'_>, token: usize) -> OpenUnit {
+pub(crate) fn begin_unit(lowering: &mut Lowering<'_>, token: usize) -> OpenUnit
+    ensures refused { KeepsRefusal lowering.old lowering.new }
+{
     let (actor, method) = match lowering.code.units.get(lowering.setting.unit) {
         Some(outer) => (outer.actor, outer.method),
         None => (NONE, NONE),
@@ -279,7 +292,9 @@ pub(crate) fn begin_unit(lowering: &mut Lowering<'_>, token: usize) -> OpenUnit 
 }
 
 /// A unit that a closure becomes ends here, before a token.
-pub(crate) fn end_unit(lowering: &mut Lowering<'_>, begun: OpenUnit, end: usize) {
+pub(crate) fn end_unit(lowering: &mut Lowering<'_>, begun: OpenUnit, end: usize)
+    ensures refused { KeepsRefusal lowering.old lowering.new }
+{
     let here = lowering.here();
     if let Some(made) = lowering.code.units.get_mut(begun.unit) {
         made.from = begun.skip.saturating_add(1);
@@ -305,7 +320,9 @@ pub(crate) struct OpenClosure {
 }
 
 /// A closure begins here, as a unit with what it captures.
-pub(crate) fn begin_closure(lowering: &mut Lowering<'_>, body: ClosureBody) -> OpenClosure {
+pub(crate) fn begin_closure(lowering: &mut Lowering<'_>, body: ClosureBody) -> OpenClosure
+    ensures refused { KeepsRefusal lowering.old lowering.new }
+{
     let outer = lowering.setting;
     let boundary = lowering.scope.len();
     let begun = begin_unit(lowering, body.from);
@@ -320,7 +337,9 @@ pub(crate) fn begin_closure(lowering: &mut Lowering<'_>, body: ClosureBody) -> O
 }
 
 /// A value that is all that a closure says is what it gives.
-pub(crate) fn give_lone(lowering: &mut Lowering<'_>, value: usize) {
+pub(crate) fn give_lone(lowering: &mut Lowering<'_>, value: usize)
+    ensures refused { KeepsRefusal lowering.old lowering.new }
+{
     let found = expression(lowering, value);
     lowering.setting.result = Some(found.kind);
     let value = if found.kind == Kind::Void {
@@ -332,7 +351,10 @@ pub(crate) fn give_lone(lowering: &mut Lowering<'_>, value: usize) {
 }
 
 /// Refuses a closure with a value that may end without one.
-pub(crate) fn want_end(lowering: &mut Lowering<'_>, body: ClosureBody) {
+pub(crate) fn want_end(lowering: &mut Lowering<'_>, body: ClosureBody)
+    ensures state { Becomes lowering.new (state_of lowering.old) }
+    ensures refused { KeepsRefusal lowering.old lowering.new }
+{
     let kind = lowering.setting.result.unwrap_or(Kind::Void);
     if kind != Kind::Void && !exits(lowering, body.first) {
         lowering.refuse(Rule::NoReturn, body.to.saturating_sub(1));
@@ -344,7 +366,9 @@ pub(crate) fn end_closure(
     lowering: &mut Lowering<'_>,
     closure: OpenClosure,
     body: ClosureBody,
-) -> MadeClosure {
+) -> MadeClosure
+    ensures refused { KeepsRefusal lowering.old lowering.new }
+{
     let kind = lowering.setting.result.unwrap_or(Kind::Void);
     let is_throwing = lowering.setting.has_thrown;
     end_unit(lowering, closure.begun, body.to);

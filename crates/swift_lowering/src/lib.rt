@@ -15,6 +15,8 @@ mod closure;
 mod effect;
 // Whole files.
 mod file;
+// What holds of the definitions.
+mod laws;
 // What stands at the head of a loop.
 mod looping;
 // What `print`, `precondition` and `assert` say.
@@ -27,3 +29,4 @@ mod statement;
 mod tasks;
 
 pub use file::{Lowered, lower};
+pub use laws::{an_operator_reads_late, what_statements_put_stays};

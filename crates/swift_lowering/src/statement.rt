@@ -1,26 +1,35 @@
 //! Statements with blocks.
 
+ghost use Rattle.std.specs.Prelude.{◌≡◌, IsNone, length};
+ghost use Rattle.swift_expressions.specs.Instructions.{KeepsRefusal};
+ghost use Rattle.swift_expressions.specs.States.{Becomes, State, state_of};
+ghost use Rattle.swift_lowering.specs.Returning.{leaves_early};
+ghost use Rattle.swift_lowering.specs.Blocks.{AddsTask, BeginsChild, CountsOn, Does, DoesAll, DoesBlock, DoesElse, LoopsOver, MakesTask, Repeats, open_guard};
+
 use crate::assignment::{begin_given, end_caught, give};
 use crate::catching::{begin_caught, caught_wait};
 use crate::closure::{
     ClosureBody, MadeClosure, begin_closure, direct, end_closure, give_lone, lone_value, want_end,
 };
 use crate::effect::simple;
-use crate::looping::{begin_count, test_of};
-use crate::returns::{exits, may_return, stmt_may_return};
+use crate::looping::{
+    begin_count, close_while, done_where, name_counter, open_while, rest_where, test_of,
+};
+use crate::returns::{exits, has_rest, may_return};
 use crate::tasks::{
     add_task, begin_bind, begin_child, begin_group, begin_result, begin_results, child_body,
-    end_child, enter_closure, give_result, make_task, result_of, task_body, want_cover,
+    end_child, end_closed, enter_closure, give_result, make_task, result_of, task_body, want_cover,
 };
 use swift_expressions::{
-    DEPTH, Instruction, Kind, Lowering, NONE, Returns, Value, count_up, declare, expression,
-    kind_of, leave,
+    DEPTH, Instruction, Kind, Lowering, Value, count_up, expression, kind_of, leave,
 };
-use swift_syntax::{Rule, Stmt, StmtForm, ValueType};
+use swift_syntax::{Into, Rule, Stmt, StmtForm, TaskForm, ValueType};
 
 // A closure as the method of a task.
 #[cycle(statement)]
-fn closure(lowering: &mut Lowering<'_>, body: ClosureBody, depth: u32) -> MadeClosure {
+fn closure(lowering: &mut Lowering<'_>, body: ClosureBody, depth: u32) -> MadeClosure
+    ensures refused { KeepsRefusal lowering.old lowering.new }
+{
     if let Some(found) = direct(lowering, body) {
         return found;
     }
@@ -36,7 +45,10 @@ fn closure(lowering: &mut Lowering<'_>, body: ClosureBody, depth: u32) -> MadeCl
 
 // A block, in which names of its own stand.
 #[cycle(statement)]
-fn block(lowering: &mut Lowering<'_>, first: usize, depth: u32) {
+fn block(lowering: &mut Lowering<'_>, first: usize, depth: u32)
+    ensures block { IsNone lowering.new.refused → DoesBlock (state_of lowering.old) first (state_of lowering.new) }
+    ensures refused { KeepsRefusal lowering.old lowering.new }
+{
     let start = lowering.scope.len();
     let outer = lowering.setting.block_start;
     lowering.setting.block_start = start;
@@ -47,6 +59,18 @@ fn block(lowering: &mut Lowering<'_>, first: usize, depth: u32) {
     leave(lowering, start);
 }
 
+// What is done where a test does not hold, if there is such a block.
+#[cycle(statement)]
+fn otherwise(lowering: &mut Lowering<'_>, failed: usize, depth: u32)
+    ensures other { IsNone lowering.new.refused → DoesElse (state_of lowering.old) failed (state_of lowering.new) }
+    ensures refused { KeepsRefusal lowering.old lowering.new }
+{
+    if failed != 0 {
+        lowering.put(Instruction::Else);
+        block(lowering, failed, depth);
+    }
+}
+
 #[cycle(statement)]
 fn conditional(
     lowering: &mut Lowering<'_>,
@@ -55,23 +79,25 @@ fn conditional(
     failed: usize,
     token: usize,
     depth: u32,
-) {
+)
+    ensures does { (stmt : Stmt) → stmt.form ≡ StmtForm.If test held failed → IsNone lowering.new.refused → Does (state_of lowering.old) stmt (state_of lowering.new) }
+    ensures refused { KeepsRefusal lowering.old lowering.new }
+{
     let test = test_of(lowering, test, token);
     lowering.put(Instruction::If(test));
     block(lowering, held, depth);
-    if failed != 0 {
-        lowering.put(Instruction::Else);
-        block(lowering, failed, depth);
-    }
+    otherwise(lowering, failed, depth);
     lowering.put(Instruction::End);
 }
 
 // A block in a loop.
 #[cycle(statement)]
-fn repeated(lowering: &mut Lowering<'_>, body: usize, depth: u32) {
-    if may_return(lowering, body) {
-        lowering.need_done();
-    }
+fn repeated(lowering: &mut Lowering<'_>, body: usize, depth: u32)
+    ensures repeats { IsNone lowering.new.refused → Repeats (state_of lowering.old) body (state_of lowering.new) }
+    ensures refused { KeepsRefusal lowering.old lowering.new }
+{
+    let returns = may_return(lowering, body);
+    done_where(lowering, returns);
     let loops = lowering.setting.loops;
     lowering.setting.loops = loops.saturating_add(1);
     block(lowering, body, depth);
@@ -80,7 +106,10 @@ fn repeated(lowering: &mut Lowering<'_>, body: usize, depth: u32) {
 
 // A `while`. A test that does something is done before the loop, and again at the end of its body.
 #[cycle(statement)]
-fn loop_while(lowering: &mut Lowering<'_>, test: usize, body: usize, token: usize, depth: u32) {
+fn loop_while(lowering: &mut Lowering<'_>, test: usize, body: usize, token: usize, depth: u32)
+    ensures does { (stmt : Stmt) → stmt.form ≡ StmtForm.While test body → IsNone lowering.new.refused → Does (state_of lowering.old) stmt (state_of lowering.new) }
+    ensures refused { KeepsRefusal lowering.old lowering.new }
+{
     let before = lowering.here();
     let first = test_of(lowering, test, token);
     // It is but a value; a comma makes more of it.
@@ -90,30 +119,23 @@ fn loop_while(lowering: &mut Lowering<'_>, test: usize, body: usize, token: usiz
         lowering.put(Instruction::End);
         return;
     }
-    let variable = lowering.temporary();
-    lowering.put(Instruction::Let(variable, first));
-    let current = lowering.value(Value::Variable(variable));
-    lowering.put(Instruction::While(current));
+    let variable = open_while(lowering, first);
     repeated(lowering, body, depth);
-    if may_return(lowering, body) {
-        lowering.put(Instruction::Rest);
-    }
+    let returns = may_return(lowering, body);
+    rest_where(lowering, returns);
     let again = test_of(lowering, test, token);
-    lowering.put(Instruction::Set(variable, again));
-    if may_return(lowering, body) {
-        lowering.put(Instruction::End);
-    }
-    lowering.put(Instruction::End);
+    let returns = may_return(lowering, body);
+    close_while(lowering, variable, again, returns);
 }
 
 // A `for` over numbers.
 #[cycle(statement)]
-fn loop_for(lowering: &mut Lowering<'_>, counter: usize, body: usize, name: usize, depth: u32) {
+fn loop_for(lowering: &mut Lowering<'_>, counter: usize, body: usize, name: usize, depth: u32)
+    ensures counts { IsNone lowering.new.refused → CountsOn (state_of lowering.old) name counter body (state_of lowering.new) }
+    ensures refused { KeepsRefusal lowering.old lowering.new }
+{
     let start = lowering.scope.len();
-    if !lowering.spells(name, "_") {
-        lowering.name_variable(counter, name);
-        declare(lowering, name, counter, Kind::Int, false);
-    }
+    name_counter(lowering, counter, name);
     repeated(lowering, body, depth);
     count_up(lowering, counter);
     lowering.put(Instruction::End);
@@ -127,7 +149,9 @@ fn closure_block(
     first: usize,
     variable: usize,
     depth: u32,
-) -> Option<Kind> {
+) -> Option<Kind>
+    ensures refused { KeepsRefusal lowering.old lowering.new }
+{
     let outer = lowering.setting;
     enter_closure(lowering, variable);
     let lone = lone_value(lowering, first);
@@ -144,48 +168,88 @@ fn closure_block(
     kind
 }
 
-// A statement with a block that is none of its own unit's.
-#[cycle(statement)]
-fn closed(lowering: &mut Lowering<'_>, stmt: Stmt, depth: u32) {
-    let start = lowering.scope.len();
-    let outer = lowering.setting;
-    let (into, variable, kind) = match stmt.form {
-        StmtForm::Group(into, found, is_throwing, body) => {
-            want_cover(lowering, stmt, is_throwing);
-            let variable = begin_result(lowering, into);
-            begin_group(lowering, stmt, kind_of(found), is_throwing);
-            lowering.setting.is_throwing = is_throwing;
-            let kind = closure_block(lowering, body, variable, depth);
-            (into, variable, kind)
-        }
-        StmtForm::Bind(into, of, given, body) => {
-            let variable = begin_result(lowering, into);
-            begin_bind(lowering, of, stmt.token, given);
-            lowering.setting.is_throwing = outer.is_throwing && stmt.is_tried;
-            lowering.setting.is_async = outer.is_async && stmt.is_awaited;
-            let kind = closure_block(lowering, body, variable, depth);
-            (into, variable, kind)
-        }
-        _ => return,
-    };
-    lowering.setting.is_throwing = outer.is_throwing;
-    lowering.setting.is_async = outer.is_async;
-    lowering.put(Instruction::End);
-    leave(lowering, start);
+// Gives what a closure gave to where it goes.
+fn give_closed(
+    lowering: &mut Lowering<'_>,
+    stmt: Stmt,
+    into: Into,
+    variable: usize,
+    kind: Option<Kind>,
+)
+    ensures refused { KeepsRefusal lowering.old lowering.new }
+{
     if let Some(found) = result_of(lowering, variable, kind, stmt.token) {
         give(lowering, into, found, stmt);
     }
 }
 
+// A group.
+#[cycle(statement)]
+fn grouped(
+    lowering: &mut Lowering<'_>,
+    stmt: Stmt,
+    into: Into,
+    of: ValueType,
+    is_throwing: bool,
+    body: usize,
+    depth: u32,
+)
+    ensures refused { KeepsRefusal lowering.old lowering.new }
+{
+    let start = lowering.scope.len();
+    let outer = lowering.setting;
+    want_cover(lowering, stmt, is_throwing);
+    let variable = begin_result(lowering, into);
+    begin_group(lowering, stmt, kind_of(of), is_throwing);
+    lowering.setting.is_throwing = is_throwing;
+    let kind = closure_block(lowering, body, variable, depth);
+    end_closed(lowering, outer, start);
+    give_closed(lowering, stmt, into, variable, kind);
+}
+
+// A task local that is bound.
+#[cycle(statement)]
+fn bound(
+    lowering: &mut Lowering<'_>,
+    stmt: Stmt,
+    into: Into,
+    of: usize,
+    given: usize,
+    body: usize,
+    depth: u32,
+)
+    ensures refused { KeepsRefusal lowering.old lowering.new }
+{
+    let start = lowering.scope.len();
+    let outer = lowering.setting;
+    let variable = begin_result(lowering, into);
+    begin_bind(lowering, of, stmt.token, given);
+    lowering.setting.is_throwing = outer.is_throwing && stmt.is_tried;
+    lowering.setting.is_async = outer.is_async && stmt.is_awaited;
+    let kind = closure_block(lowering, body, variable, depth);
+    end_closed(lowering, outer, start);
+    give_closed(lowering, stmt, into, variable, kind);
+}
+
+// What is done where the test of a `guard` does not hold begins here.
+fn open_guard(lowering: &mut Lowering<'_>, test: usize)
+    ensures state { Becomes lowering.new (open_guard test (state_of lowering.old)) }
+    ensures refused { KeepsRefusal lowering.old lowering.new }
+{
+    let failed = lowering.value(Value::Not(test));
+    lowering.put(Instruction::If(failed));
+}
+
 // A `guard`.
 #[cycle(statement)]
-fn guarded(lowering: &mut Lowering<'_>, test: usize, body: usize, token: usize, depth: u32) {
-    if !exits(lowering, body) {
-        lowering.refuse(Rule::NoReturn, token);
-    }
+fn guarded(lowering: &mut Lowering<'_>, test: usize, body: usize, token: usize, depth: u32)
+    ensures does { (stmt : Stmt) → stmt.form ≡ StmtForm.Guard test body → IsNone lowering.new.refused → Does (state_of lowering.old) stmt (state_of lowering.new) }
+    ensures refused { KeepsRefusal lowering.old lowering.new }
+{
+    let exits = exits(lowering, body);
+    lowering.refuse_where(!exits, Rule::NoReturn, token);
     let held = test_of(lowering, test, token);
-    let failed = lowering.value(Value::Not(held));
-    lowering.put(Instruction::If(failed));
+    open_guard(lowering, held);
     block(lowering, body, depth);
     lowering.put(Instruction::End);
 }
@@ -199,7 +263,10 @@ fn loop_results(
     is_tried: bool,
     body: usize,
     depth: u32,
-) {
+)
+    ensures results { IsNone lowering.new.refused → LoopsOver (state_of lowering.old) name body (state_of lowering.new) }
+    ensures refused { KeepsRefusal lowering.old lowering.new }
+{
     let start = lowering.scope.len();
     begin_results(lowering, name, group, is_tried);
     repeated(lowering, body, depth);
@@ -207,27 +274,31 @@ fn loop_results(
     leave(lowering, start);
 }
 
-// A task, or a child of a group.
+// A task.
 #[cycle(statement)]
-fn tasked(lowering: &mut Lowering<'_>, stmt: Stmt, depth: u32) {
-    match stmt.form {
-        StmtForm::Task(name, form) => {
-            let body = task_body(lowering, stmt, form, false);
-            let made = closure(lowering, body, depth);
-            make_task(lowering, stmt, name, form, made);
-        }
-        StmtForm::AddTask(is_only, form) => {
-            let body = task_body(lowering, stmt, form, true);
-            let made = closure(lowering, body, depth);
-            add_task(lowering, stmt, is_only, form, made);
-        }
-        _ => {}
-    }
+fn task(lowering: &mut Lowering<'_>, stmt: Stmt, name: usize, form: TaskForm, depth: u32)
+    ensures makes { IsNone lowering.new.refused → (t : State) × MakesTask t name form.is_detached (state_of lowering.new) }
+    ensures refused { KeepsRefusal lowering.old lowering.new }
+{
+    let body = task_body(lowering, stmt, form, false);
+    let made = closure(lowering, body, depth);
+    make_task(lowering, stmt, name, form, made);
+}
+
+// A child of a group.
+#[cycle(statement)]
+fn group_child(lowering: &mut Lowering<'_>, stmt: Stmt, is_only: bool, form: TaskForm, depth: u32)
+    ensures adds { IsNone lowering.new.refused → (t : State) × AddsTask t is_only (state_of lowering.new) }
+    ensures refused { KeepsRefusal lowering.old lowering.new }
+{
+    let body = task_body(lowering, stmt, form, true);
+    let made = closure(lowering, body, depth);
+    add_task(lowering, stmt, is_only, form, made);
 }
 
 // The one statement of a block, if it waits for what may be caught; and for what.
 fn lone_wait(lowering: &Lowering<'_>, first: usize) -> Option<(Stmt, usize)> {
-    let stmt = lowering.tree.stmt(first)?;
+    let stmt = lowering.stmt(first)?;
     if stmt.next != 0 {
         return None;
     }
@@ -237,7 +308,9 @@ fn lone_wait(lowering: &Lowering<'_>, first: usize) -> Option<(Stmt, usize)> {
 
 // A `do`. Where it has more than one statement, a variable says whether a fault was caught.
 #[cycle(statement)]
-fn do_catch(lowering: &mut Lowering<'_>, body: usize, caught: usize, token: usize, depth: u32) {
+fn do_catch(lowering: &mut Lowering<'_>, body: usize, caught: usize, token: usize, depth: u32)
+    ensures refused { KeepsRefusal lowering.old lowering.new }
+{
     if let Some((stmt, place)) = lone_wait(lowering, body) {
         let held = begin_caught(lowering, stmt, place, token);
         block(lowering, caught, depth);
@@ -256,7 +329,9 @@ fn do_catch(lowering: &mut Lowering<'_>, body: usize, caught: usize, token: usiz
 
 // The block of a `do`, in which names of its own stand. What it throws is caught, so it stands in a unit that does not throw.
 #[cycle(statement)]
-fn do_block(lowering: &mut Lowering<'_>, first: usize, flag: usize, token: usize, depth: u32) {
+fn do_block(lowering: &mut Lowering<'_>, first: usize, flag: usize, token: usize, depth: u32)
+    ensures refused { KeepsRefusal lowering.old lowering.new }
+{
     let start = lowering.scope.len();
     let outer = lowering.setting;
     lowering.setting.block_start = start;
@@ -273,7 +348,9 @@ fn do_block(lowering: &mut Lowering<'_>, first: usize, flag: usize, token: usize
 
 // The statements of a `do` from a place on. What follows one whose fault is caught is done where there was none.
 #[cycle(statement)]
-fn do_statements(lowering: &mut Lowering<'_>, first: usize, flag: usize, token: usize, depth: u32) {
+fn do_statements(lowering: &mut Lowering<'_>, first: usize, flag: usize, token: usize, depth: u32)
+    ensures refused { KeepsRefusal lowering.old lowering.new }
+{
     if depth == 0 {
         lowering.refuse(Rule::TooLarge, token);
         return;
@@ -281,7 +358,7 @@ fn do_statements(lowering: &mut Lowering<'_>, first: usize, flag: usize, token: 
     let within = depth - 1;
     let mut place = first;
     for _ in 0..lowering.tree.stmts.len() {
-        let Some(stmt) = lowering.tree.stmt(place) else {
+        let Some(stmt) = lowering.stmt(place) else {
             return;
         };
         place = stmt.next;
@@ -290,7 +367,7 @@ fn do_statements(lowering: &mut Lowering<'_>, first: usize, flag: usize, token: 
             let one = lowering.number(1);
             lowering.put(Instruction::Set(flag, one));
             begin_given(lowering, held);
-            let is_early = place != 0 && returns_early(lowering, stmt);
+            let is_early = has_rest(lowering, stmt);
             if is_early {
                 lowering.need_done();
                 lowering.put(Instruction::Rest);
@@ -306,7 +383,7 @@ fn do_statements(lowering: &mut Lowering<'_>, first: usize, flag: usize, token: 
             lowering.refuse(Rule::NotYet, token);
         }
         statement(lowering, stmt, within);
-        if place != 0 && returns_early(lowering, stmt) {
+        if has_rest(lowering, stmt) {
             lowering.need_done();
             lowering.put(Instruction::Rest);
             do_statements(lowering, place, flag, token, within);
@@ -318,7 +395,10 @@ fn do_statements(lowering: &mut Lowering<'_>, first: usize, flag: usize, token: 
 
 // A statement that is no `async let`.
 #[cycle(statement)]
-fn statement(lowering: &mut Lowering<'_>, stmt: Stmt, depth: u32) {
+fn statement(lowering: &mut Lowering<'_>, stmt: Stmt, depth: u32)
+    ensures does { IsNone lowering.new.refused → Does (state_of lowering.old) stmt (state_of lowering.new) }
+    ensures refused { KeepsRefusal lowering.old lowering.new }
+{
     let token = stmt.token;
     match stmt.form {
         StmtForm::If(test, held, failed) => {
@@ -333,8 +413,14 @@ fn statement(lowering: &mut Lowering<'_>, stmt: Stmt, depth: u32) {
         StmtForm::ForAwait(group, is_tried, body) | StmtForm::WhileNext(group, is_tried, body) => {
             loop_results(lowering, token, group, is_tried, body, depth);
         }
-        StmtForm::Task(..) | StmtForm::AddTask(..) => tasked(lowering, stmt, depth),
-        StmtForm::Group(..) | StmtForm::Bind(..) => closed(lowering, stmt, depth),
+        StmtForm::Task(name, form) => task(lowering, stmt, name, form, depth),
+        StmtForm::AddTask(is_only, form) => group_child(lowering, stmt, is_only, form, depth),
+        StmtForm::Group(into, of, is_throwing, body) => {
+            grouped(lowering, stmt, into, of, is_throwing, body, depth);
+        }
+        StmtForm::Bind(into, of, given, body) => {
+            bound(lowering, stmt, into, of, given, body, depth);
+        }
         StmtForm::DoCatch(body, caught) => do_catch(lowering, body, caught, token, depth),
         _ => simple(lowering, stmt),
     }
@@ -348,7 +434,10 @@ fn child(
     wanted: Option<ValueType>,
     given: usize,
     depth: u32,
-) -> (usize, usize) {
+) -> (usize, usize)
+    ensures begins { IsNone lowering.new.refused → (t : State) × BeginsChild t stmt.token (leaves_early t stmt.next) result.0 result.1 (state_of lowering.new) }
+    ensures refused { KeepsRefusal lowering.old lowering.new }
+{
     if !lowering.setting.is_async {
         lowering.refuse(Rule::Await, stmt.token);
     }
@@ -358,21 +447,23 @@ fn child(
             lowering.refuse(Rule::WrongType, stmt.token);
         }
     }
-    let is_left_early = leaves_early(lowering, stmt.next);
-    begin_child(lowering, stmt, made, is_left_early)
+    begin_child(lowering, stmt, made)
 }
 
 // The statements of a block from a place on. What follows an `async let` stands in its group, and what follows something that may return
 // is done where it did not.
 #[cycle(statement)]
-fn statements(lowering: &mut Lowering<'_>, first: usize, depth: u32) {
+fn statements(lowering: &mut Lowering<'_>, first: usize, depth: u32)
+    ensures does { IsNone lowering.new.refused → DoesAll (length lowering.old.tree.now.value.stmts.items) (state_of lowering.old) first (state_of lowering.new) }
+    ensures refused { KeepsRefusal lowering.old lowering.new }
+{
     if depth == 0 {
         lowering.refuse(Rule::TooLarge, 0);
         return;
     }
     let mut place = first;
     for _ in 0..lowering.tree.stmts.len() {
-        let Some(stmt) = lowering.tree.stmt(place) else {
+        let Some(stmt) = lowering.stmt(place) else {
             return;
         };
         place = stmt.next;
@@ -383,7 +474,7 @@ fn statements(lowering: &mut Lowering<'_>, first: usize, depth: u32) {
             return;
         }
         statement(lowering, stmt, depth - 1);
-        if place != 0 && returns_early(lowering, stmt) {
+        if has_rest(lowering, stmt) {
             lowering.need_done();
             lowering.put(Instruction::Rest);
             statements(lowering, place, depth - 1);
@@ -393,30 +484,10 @@ fn statements(lowering: &mut Lowering<'_>, first: usize, depth: u32) {
     }
 }
 
-// Whether one of the statements from a place on that is not the last one may return out of the unit.
-fn leaves_early(lowering: &Lowering<'_>, first: usize) -> bool {
-    let mut place = first;
-    for _ in 0..lowering.tree.stmts.len() {
-        let Some(stmt) = lowering.tree.stmt(place) else {
-            return false;
-        };
-        place = stmt.next;
-        if place != 0 && returns_early(lowering, stmt) {
-            return true;
-        }
-    }
-    false
-}
-
-// Whether a statement may return out of the unit.
-fn returns_early(lowering: &Lowering<'_>, stmt: Stmt) -> bool {
-    match lowering.setting.returns {
-        Returns::Unit => stmt_may_return(lowering, stmt),
-        Returns::Closure(..) => false,
-    }
-}
-
 /// The statements of a body.
-pub(crate) fn body_statements(lowering: &mut Lowering<'_>, first: usize) {
+pub(crate) fn body_statements(lowering: &mut Lowering<'_>, first: usize)
+    ensures does { IsNone lowering.new.refused → DoesAll (length lowering.old.tree.now.value.stmts.items) (state_of lowering.old) first (state_of lowering.new) }
+    ensures refused { KeepsRefusal lowering.old lowering.new }
+{
     statements(lowering, first, DEPTH);
 }

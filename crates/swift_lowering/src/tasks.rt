@@ -1,13 +1,21 @@
 //! Tasks, groups and bindings, beside their closures.
 
-ghost use Rattle.std.specs.Prelude.{IsNone};
+ghost use Rattle.std.specs.Prelude.{◌≡◌, IfNone, IfSome, IsNone, IsSome, Some, slice_get};
+ghost use Rattle.swift_expressions.specs.Instructions.{KeepsRefusal};
+ghost use Rattle.swift_expressions.specs.States.{Becomes, left_to, next_variable, put, state_of};
+ghost use Rattle.swift_expressions.specs.Lowered.{yielding};
+ghost use Rattle.swift_lowering.specs.Blocks.{AddsTask, BeginsChild, EndsChild, IsNext, MakesTask, TakesResults, child_begun, child_count, counted_in, open_results, with_child_count};
+ghost use Rattle.swift_lowering.specs.Returning.{leaves_early};
 ghost use Rattle.swift_lowering.specs.EndsInside.{EndsCancelled};
+ghost use Rattle.swift_lowering.specs.Statements.{result_given, result_set};
 
 use crate::closure::{ClosureBody, MadeClosure, lone_value};
+use crate::returns::leaves_early;
 use swift_expressions::{
-    Binding, Instruction, Kind, Lowering, NONE, Returns, Standing, Target, Typed, Value, Wait,
-    binding_at, count_down, count_up, declare, declare_as, expression, find, has_child, local_kind,
-    local_named, mark_partial, mark_used, priority_named, refuse_hidden, want, with_kind,
+    Binding, Instruction, Kind, Lowering, NONE, Returns, Setting, Standing, Target, Typed, Value,
+    Wait, binding_at, count_down, count_up, declare, declare_as, expression, find, has_child,
+    leave, local_kind, local_named, mark_partial, mark_used, priority_named, refuse_hidden, want,
+    with_kind,
 };
 use swift_syntax::{Into, Rule, Stmt, TaskForm};
 use swift_types::Priority;
@@ -46,7 +54,10 @@ pub(crate) fn child_body(stmt: Stmt, value: usize) -> ClosureBody {
 }
 
 // The priority that a token names; none where the token is 0.
-fn priority(lowering: &mut Lowering<'_>, token: usize) -> Option<Priority> {
+fn priority(lowering: &mut Lowering<'_>, token: usize) -> Option<Priority>
+    ensures state { Becomes lowering.new (state_of lowering.old) }
+    ensures refused { KeepsRefusal lowering.old lowering.new }
+{
     if token == 0 {
         None
     } else {
@@ -61,10 +72,11 @@ pub(crate) fn make_task(
     name: usize,
     form: TaskForm,
     made: MadeClosure,
-) {
-    if name == 0 {
-        lowering.refuse(Rule::TaskLeft, stmt.token);
-    }
+)
+    ensures makes { IsNone lowering.new.refused → MakesTask (state_of lowering.old) name form.is_detached (state_of lowering.new) }
+    ensures refused { KeepsRefusal lowering.old lowering.new }
+{
+    lowering.refuse_where(name == 0, Rule::TaskLeft, stmt.token);
     let variable = lowering.variable(name, false);
     let urgency = priority(lowering, form.priority);
     lowering.put(Instruction::Make(variable, form.is_detached, made.callee, urgency));
@@ -80,12 +92,18 @@ pub(crate) fn make_task(
 }
 
 /// The group in scope with the name of a token; refuses another name.
-pub(crate) fn group_named(lowering: &mut Lowering<'_>, token: usize) -> Option<(usize, Binding)> {
+pub(crate) fn group_named(lowering: &mut Lowering<'_>, token: usize) -> Option<(usize, Binding)>
+    ensures found { IfSome result (λ r. slice_get lowering.old.scope.items r.0 ≡ Some r.1) }
+    ensures unknown { IfNone result (IsSome lowering.new.refused) }
+    ensures state { Becomes lowering.new (state_of lowering.old) }
+    ensures refused { KeepsRefusal lowering.old lowering.new }
+{
     let Some(place) = find(lowering, token) else {
         lowering.refuse(Rule::UnknownName, token);
         return None;
     };
     let Some(found) = binding_at(lowering, place) else {
+        lowering.refuse(Rule::UnknownName, token);
         return None;
     };
     if found.standing != Standing::Group {
@@ -95,6 +113,30 @@ pub(crate) fn group_named(lowering: &mut Lowering<'_>, token: usize) -> Option<(
     Some((place, found))
 }
 
+// Refuses a child that gives or throws what its group does not. Of a group of nothing the value of a child is let go.
+fn want_child(lowering: &mut Lowering<'_>, made: MadeClosure, group: Binding, token: usize)
+    ensures state { Becomes lowering.new (state_of lowering.old) }
+    ensures refused { KeepsRefusal lowering.old lowering.new }
+{
+    let is_given = group.kind == Kind::Void || made.kind == group.kind;
+    lowering.refuse_where(!is_given, Rule::WrongType, token);
+    let is_thrown = !made.is_throwing || group.is_throwing;
+    lowering.refuse_where(!is_thrown, Rule::Try, token);
+}
+
+// A child that may be left out may be missing from its group, of which no result was taken so far; any other is counted.
+fn count_in(lowering: &mut Lowering<'_>, is_only: bool, place: usize, group: Binding, token: usize)
+    ensures state { Becomes lowering.new (counted_in is_only place group (state_of lowering.old)) }
+    ensures refused { KeepsRefusal lowering.old lowering.new }
+{
+    if is_only {
+        lowering.refuse_where(group.is_used, Rule::NotYet, token);
+        mark_partial(lowering, place);
+    } else {
+        count_up(lowering, group.count);
+    }
+}
+
 /// Adds a child to a group.
 pub(crate) fn add_task(
     lowering: &mut Lowering<'_>,
@@ -102,26 +144,33 @@ pub(crate) fn add_task(
     is_only: bool,
     form: TaskForm,
     made: MadeClosure,
-) {
+)
+    ensures adds { IsNone lowering.new.refused → AddsTask (state_of lowering.old) is_only (state_of lowering.new) }
+    ensures refused { KeepsRefusal lowering.old lowering.new }
+{
     let Some((place, group)) = group_named(lowering, stmt.token) else {
         return;
     };
-    if made.kind != group.kind {
-        lowering.refuse(Rule::WrongType, stmt.token);
-    }
-    if made.is_throwing && !group.is_throwing {
-        lowering.refuse(Rule::Try, stmt.token);
-    }
+    want_child(lowering, made, group, stmt.token);
     // In Swift it has no effect: a child has its owner's.
     priority(lowering, form.priority);
     lowering.put(Instruction::Add(group.variable, is_only, made.callee, None));
-    if is_only {
-        if group.is_used {
-            lowering.refuse(Rule::NotYet, stmt.token);
-        }
-        mark_partial(lowering, place);
+    count_in(lowering, is_only, place, group, stmt.token);
+}
+
+// A variable that says whether the child of an `async let` is left, where its scope may be left before that is awaited; else the child's.
+fn count_child(lowering: &mut Lowering<'_>, is_left_early: bool, variable: usize) -> usize
+    ensures state { Becomes lowering.new (with_child_count is_left_early (state_of lowering.old)) }
+    ensures place { IsNone lowering.new.refused → result ≡ child_count is_left_early variable (state_of lowering.old) }
+    ensures refused { KeepsRefusal lowering.old lowering.new }
+{
+    if is_left_early {
+        let count = lowering.temporary();
+        let one = lowering.number(1);
+        lowering.put(Instruction::Let(count, one));
+        count
     } else {
-        count_up(lowering, group.count);
+        variable
     }
 }
 
@@ -131,15 +180,13 @@ pub(crate) fn begin_child(
     lowering: &mut Lowering<'_>,
     stmt: Stmt,
     made: MadeClosure,
-    is_left_early: bool,
-) -> (usize, usize) {
+) -> (usize, usize)
+    ensures begins { IsNone lowering.new.refused → BeginsChild (state_of lowering.old) stmt.token (leaves_early (state_of lowering.old) stmt.next) result.0 result.1 (state_of lowering.new) }
+    ensures refused { KeepsRefusal lowering.old lowering.new }
+{
+    let is_left_early = leaves_early(lowering, stmt.next);
     let variable = lowering.variable(stmt.token, false);
-    let mut count = variable;
-    if is_left_early {
-        count = lowering.temporary();
-        let one = lowering.number(1);
-        lowering.put(Instruction::Let(count, one));
-    }
+    let count = count_child(lowering, is_left_early, variable);
     lowering.put(Instruction::Group(variable));
     lowering.put(Instruction::Add(variable, false, made.callee, None));
     declare_as(
@@ -163,26 +210,48 @@ fn is_awaited(lowering: &Lowering<'_>, variable: usize) -> bool {
         .any(|b| b.variable == variable && b.is_used)
 }
 
-/// Ends the group of an `async let`: what is left of it is cancelled and waited for.
-pub(crate) fn end_child(lowering: &mut Lowering<'_>, variable: usize, count: usize)
-    ensures cancelled { IsNone lowering.new.refused → EndsCancelled lowering.new.code variable }
+// The turn ends here, where that is so.
+fn yield_where(lowering: &mut Lowering<'_>, yields: bool)
+    ensures state { Becomes lowering.new (yielding yields (state_of lowering.old)) }
+    ensures refused { KeepsRefusal lowering.old lowering.new }
 {
-    // A child that nobody has awaited is waited for here, and may begin before it is cancelled.
-    if count != variable {
+    if yields {
+        lowering.put(Instruction::Yield);
+    }
+}
+
+// A child that nobody has awaited is waited for at the end of its scope, and may begin before it is cancelled.
+fn begin_unawaited(lowering: &mut Lowering<'_>, is_left: bool, variable: usize, count: usize)
+    ensures state { Becomes lowering.new (child_begun is_left variable count (state_of lowering.old)) }
+    ensures refused { KeepsRefusal lowering.old lowering.new }
+{
+    if count == variable {
+        yield_where(lowering, is_left);
+    } else {
         let test = has_child(lowering, count);
         lowering.put(Instruction::If(test));
         lowering.put(Instruction::Yield);
         lowering.put(Instruction::End);
-    } else if !is_awaited(lowering, variable) {
-        lowering.put(Instruction::Yield);
     }
+}
+
+/// Ends the group of an `async let`: what is left of it is cancelled and waited for.
+pub(crate) fn end_child(lowering: &mut Lowering<'_>, variable: usize, count: usize)
+    ensures cancelled { IsNone lowering.new.refused → EndsCancelled lowering.new.code variable }
+    ensures ends { IsNone lowering.new.refused → EndsChild (state_of lowering.old) variable count (state_of lowering.new) }
+    ensures refused { KeepsRefusal lowering.old lowering.new }
+{
+    let is_left = !is_awaited(lowering, variable);
+    begin_unawaited(lowering, is_left, variable, count);
     lowering.put(Instruction::Cancel(variable));
     lowering.put(Instruction::End);
     lowering.setting.groups = lowering.setting.groups.saturating_sub(1);
 }
 
 /// A variable for what a closure gives, where that goes somewhere; else `NONE`.
-pub(crate) fn begin_result(lowering: &mut Lowering<'_>, into: Into) -> usize {
+pub(crate) fn begin_result(lowering: &mut Lowering<'_>, into: Into) -> usize
+    ensures refused { KeepsRefusal lowering.old lowering.new }
+{
     if let Into::Nothing = into {
         return NONE;
     }
@@ -193,7 +262,9 @@ pub(crate) fn begin_result(lowering: &mut Lowering<'_>, into: Into) -> usize {
 }
 
 /// Begins a closure that stands in its unit: what returns from it goes to a variable.
-pub(crate) fn enter_closure(lowering: &mut Lowering<'_>, variable: usize) {
+pub(crate) fn enter_closure(lowering: &mut Lowering<'_>, variable: usize)
+    ensures refused { KeepsRefusal lowering.old lowering.new }
+{
     let blocks = lowering.setting.blocks.saturating_add(1);
     lowering.setting.returns = Returns::Closure(variable, blocks);
     lowering.setting.result = None;
@@ -202,13 +273,40 @@ pub(crate) fn enter_closure(lowering: &mut Lowering<'_>, variable: usize) {
 }
 
 /// Gives a closure's value to where it goes.
-pub(crate) fn give_result(lowering: &mut Lowering<'_>, found: Typed) {
+pub(crate) fn give_result(lowering: &mut Lowering<'_>, found: Typed)
+    ensures state { Becomes lowering.new (result_given lowering.old.setting.returns found (state_of lowering.old)) }
+    ensures refused { KeepsRefusal lowering.old lowering.new }
+{
     if let Returns::Closure(variable, _) = lowering.setting.returns {
-        if variable != NONE && found.kind != Kind::Void {
-            lowering.put(Instruction::Set(variable, found.value));
-        }
+        set_result(lowering, variable, found);
         lowering.setting.result = Some(found.kind);
     }
+}
+
+// A value goes to a closure's variable, where it has one.
+fn set_result(lowering: &mut Lowering<'_>, variable: usize, found: Typed)
+    ensures state { Becomes lowering.new (result_set variable found.kind found.value (state_of lowering.old)) }
+    ensures refused { KeepsRefusal lowering.old lowering.new }
+{
+    match found.kind {
+        Kind::Void => {}
+        Kind::Int | Kind::Bool | Kind::Urgency => {
+            if variable != NONE {
+                lowering.put(Instruction::Set(variable, found.value));
+            }
+        }
+    }
+}
+
+/// A closure that stands in its unit ends, with the names from a place on. What held around it holds again.
+pub(crate) fn end_closed(lowering: &mut Lowering<'_>, outer: Setting, start: usize)
+    ensures state { Becomes lowering.new (left_to start (put Instruction.End (state_of lowering.old))) }
+    ensures refused { KeepsRefusal lowering.old lowering.new }
+{
+    lowering.setting.is_throwing = outer.is_throwing;
+    lowering.setting.is_async = outer.is_async;
+    lowering.put(Instruction::End);
+    leave(lowering, start);
 }
 
 /// What a closure gave.
@@ -217,7 +315,9 @@ pub(crate) fn result_of(
     variable: usize,
     kind: Option<Kind>,
     token: usize,
-) -> Option<Typed> {
+) -> Option<Typed>
+    ensures refused { KeepsRefusal lowering.old lowering.new }
+{
     if variable == NONE {
         return None;
     }
@@ -236,7 +336,9 @@ pub(crate) fn begin_group(
     stmt: Stmt,
     kind: Kind,
     is_throwing: bool,
-) -> usize {
+) -> usize
+    ensures refused { KeepsRefusal lowering.old lowering.new }
+{
     let variable = lowering.variable(stmt.token, false);
     lowering.put(Instruction::Group(variable));
     let count = lowering.temporary();
@@ -255,7 +357,9 @@ pub(crate) fn begin_group(
 }
 
 /// Binds a task local.
-pub(crate) fn begin_bind(lowering: &mut Lowering<'_>, of: usize, name: usize, given: usize) {
+pub(crate) fn begin_bind(lowering: &mut Lowering<'_>, of: usize, name: usize, given: usize)
+    ensures refused { KeepsRefusal lowering.old lowering.new }
+{
     let found = expression(lowering, given);
     match local_named(lowering, of, name) {
         Some(local) => {
@@ -268,47 +372,69 @@ pub(crate) fn begin_bind(lowering: &mut Lowering<'_>, of: usize, name: usize, gi
     }
 }
 
+// Refuses a loop over the results of a group that may lack a child, or that is not covered.
+fn want_results(lowering: &mut Lowering<'_>, found: Binding, group: usize, is_tried: bool)
+    ensures state { Becomes lowering.new (state_of lowering.old) }
+    ensures refused { KeepsRefusal lowering.old lowering.new }
+{
+    let is_kept = !found.is_partial && lowering.setting.is_async;
+    lowering.refuse_where(!is_kept, Rule::NotYet, group);
+    lowering.setting.has_thrown = lowering.setting.has_thrown || is_tried;
+    let is_covered = !found.is_throwing || (is_tried && lowering.setting.is_throwing);
+    lowering.refuse_where(!is_covered, Rule::Try, group);
+}
+
+// A loop begins, while a group's count says that a child is left.
+fn open_results(lowering: &mut Lowering<'_>, found: Binding)
+    ensures state { Becomes lowering.new (open_results found (state_of lowering.old)) }
+    ensures refused { KeepsRefusal lowering.old lowering.new }
+{
+    let test = has_child(lowering, found.count);
+    lowering.put(Instruction::While(test));
+}
+
+// The next result of a group goes to a variable, with the name of a token or without one where that is 0. The place of the variable.
+fn next_result(lowering: &mut Lowering<'_>, found: Binding, name: usize) -> usize
+    ensures next { IsNone lowering.new.refused → IsNext (state_of lowering.old) found name (state_of lowering.new) }
+    ensures place { result ≡ next_variable (state_of lowering.old) }
+    ensures refused { KeepsRefusal lowering.old lowering.new }
+{
+    let variable = lowering.variable(name, false);
+    let target = Target::Declare(variable);
+    lowering.put(Instruction::Wait(target, Wait::Next(found.variable), NONE));
+    count_down(lowering, found.count);
+    variable
+}
+
 /// Begins a loop over the results of a group, with the name of each.
-pub(crate) fn begin_results(
-    lowering: &mut Lowering<'_>,
-    name: usize,
-    group: usize,
-    is_tried: bool,
-) {
+pub(crate) fn begin_results(lowering: &mut Lowering<'_>, name: usize, group: usize, is_tried: bool)
+    ensures takes { IsNone lowering.new.refused → TakesResults (state_of lowering.old) name (state_of lowering.new) }
+    ensures refused { KeepsRefusal lowering.old lowering.new }
+{
     let Some((place, found)) = group_named(lowering, group) else {
         return;
     };
-    if found.is_partial || !lowering.setting.is_async {
-        lowering.refuse(Rule::NotYet, group);
-    }
-    if is_tried {
-        lowering.setting.has_thrown = true;
-    }
-    if found.is_throwing {
-        if !is_tried || !lowering.setting.is_throwing {
-            lowering.refuse(Rule::Try, group);
-        }
-    }
+    want_results(lowering, found, group, is_tried);
     mark_used(lowering, place);
-    let test = has_child(lowering, found.count);
-    lowering.put(Instruction::While(test));
+    open_results(lowering, found);
     if found.kind == Kind::Void {
         lowering.put(Instruction::Wait(Target::Nothing, Wait::Next(found.variable), NONE));
         count_down(lowering, found.count);
         return;
     }
-    let is_named = !lowering.spells(name, "_");
-    let variable = lowering.variable(if is_named { name } else { 0 }, false);
-    let target = Target::Declare(variable);
-    lowering.put(Instruction::Wait(target, Wait::Next(found.variable), NONE));
-    count_down(lowering, found.count);
-    if is_named {
-        declare(lowering, name, variable, found.kind, false);
+    if lowering.spells(name, "_") {
+        next_result(lowering, found, 0);
+        return;
     }
+    let variable = next_result(lowering, found, name);
+    declare(lowering, name, variable, found.kind, false);
 }
 
 /// Refuses a group or a binding without `await`, or with `try` missing.
-pub(crate) fn want_cover(lowering: &mut Lowering<'_>, stmt: Stmt, is_throwing: bool) {
+pub(crate) fn want_cover(lowering: &mut Lowering<'_>, stmt: Stmt, is_throwing: bool)
+    ensures state { Becomes lowering.new (state_of lowering.old) }
+    ensures refused { KeepsRefusal lowering.old lowering.new }
+{
     if stmt.is_tried {
         lowering.setting.has_thrown = true;
     }

@@ -1,4 +1,6 @@
-use Rattle.std.proofs.Common.{◌+◌, ◌*◌}
+use Rattle.std.proofs.Common.{◌+◌, ◌-◌, ◌*◌, IsNone, length}
+use Rattle.swift_expressions.specs.States.{State, state_of}
+use Rattle.swift_lowering.specs.Blocks.{DoesAll}
 use Rattle.swift_lowering.proofs.statement.+statement.Given as goal
 
 abbrev pub decreases-closure : goal.decreases-closure
@@ -8,7 +10,10 @@ abbrev pub decreases-block : goal.decreases-block
 decreases-block l = l.depth * 8 + 1
 
 abbrev pub decreases-conditional : goal.decreases-conditional
-decreases-conditional l = l.depth * 8 + 2
+decreases-conditional l = l.depth * 8 + 3
+
+abbrev pub decreases-otherwise : goal.decreases-otherwise
+decreases-otherwise l = l.depth * 8 + 2
 
 abbrev pub decreases-repeated : goal.decreases-repeated
 decreases-repeated l = l.depth * 8 + 2
@@ -22,8 +27,11 @@ decreases-loop_for l = l.depth * 8 + 3
 abbrev pub decreases-closure_block : goal.decreases-closure_block
 decreases-closure_block l = l.depth * 8 + 2
 
-abbrev pub decreases-closed : goal.decreases-closed
-decreases-closed l = l.depth * 8 + 3
+abbrev pub decreases-grouped : goal.decreases-grouped
+decreases-grouped l = l.depth * 8 + 3
+
+abbrev pub decreases-bound : goal.decreases-bound
+decreases-bound l = l.depth * 8 + 3
 
 abbrev pub decreases-statement : goal.decreases-statement
 decreases-statement l = l.depth * 8 + 7
@@ -37,8 +45,11 @@ decreases-guarded l = l.depth * 8 + 2
 abbrev pub decreases-loop_results : goal.decreases-loop_results
 decreases-loop_results l = l.depth * 8 + 3
 
-abbrev pub decreases-tasked : goal.decreases-tasked
-decreases-tasked l = l.depth * 8 + 2
+abbrev pub decreases-task : goal.decreases-task
+decreases-task l = l.depth * 8 + 2
+
+abbrev pub decreases-group_child : goal.decreases-group_child
+decreases-group_child l = l.depth * 8 + 2
 
 abbrev pub decreases-child : goal.decreases-child
 decreases-child l = l.depth * 8 + 2
@@ -51,3 +62,14 @@ decreases-do_block l = l.depth * 8 + 1
 
 abbrev pub decreases-do_statements : goal.decreases-do_statements
 decreases-do_statements l = l.depth * 8
+
+-- what the other statements become is what all of them do
+abbrev pub invariant-statements-loop : goal.invariant-statements-loop
+invariant-statements-loop l =
+    record {
+      refused : IsNone l.lowering.refused → IsNone l.fn.lowering.refused;
+      does : IsNone l.lowering.refused → (t : State) → DoesAll (length l.fn.lowering.tree.now.value.stmts.items - l.counter) (state_of l.lowering) l.place t → DoesAll (length l.fn.lowering.tree.now.value.stmts.items) (state_of l.fn.lowering) l.first t;
+    }
+
+abbrev pub invariant-do_statements-loop : goal.invariant-do_statements-loop
+invariant-do_statements-loop l = IsNone l.lowering.refused → IsNone l.fn.lowering.refused

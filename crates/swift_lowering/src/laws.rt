@@ -1,0 +1,18 @@
+//! What holds of the definitions.
+
+ghost use Rattle.std.specs.Prelude.{ℕ, Some};
+ghost use Rattle.swift_types.specs.declared.operator.Operator.{Operator};
+ghost use Rattle.swift_syntax.specs.declared.tree.StmtForm.{StmtForm};
+ghost use Rattle.swift_expressions.specs.Lowered.{Grows};
+ghost use Rattle.swift_expressions.specs.States.{State};
+ghost use Rattle.swift_lowering.specs.Statements.{Assigns, DoesPlain, ReadsLate};
+
+/// A law: an assignment with an operator reads what it changes after its right side was computed, whatever that did. It does nothing.
+pub fn an_operator_reads_late()
+    ensures { (s u : State) (place : ℕ) (o : Operator) → Assigns s place u (Some o) → ReadsLate s place o u }
+{}
+
+/// A law: what a statement without a block becomes stands behind what was put before it, and that stays as it is. It does nothing.
+pub fn what_statements_put_stays()
+    ensures { (s t : State) (form : StmtForm) → DoesPlain s t form → Grows s t }
+{}
