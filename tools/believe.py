@@ -66,6 +66,8 @@ class Specs:
                 continue
             head = re.match(r"(?:  )?" + HEAD, bare) if re.match(r"(  )?[^\s}\])]", bare) else None
             is_inner = bare.startswith("  ") and part is not None and re.match(r"(pub )?(record|data)\b|.*\b(record|data)\b", part.lines[0])
+            # What `mutual` holds stands as deep as the fields of a record.
+            is_inner = is_inner and not re.match(r"  (?:pub )?(?:record|data)\b", bare)
             if head and not is_inner and (part is None or head[1] != part.name):
                 fresh = re.match(r"(?:  )?(?:pub|abbrev|unfoldable|opaque|data|record)\b", bare) or re.match(r"(?:  )?[^\s=]+\s*:", bare)
                 if fresh:

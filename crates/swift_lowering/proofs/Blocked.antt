@@ -1,5 +1,6 @@
 -- What statements with a block put, from what they call.
 use Rattle.std.proofs.Common.{Option, ◌≡◌, ◌<◌, ◌≤◌, ◌+◌, ◌-◌, ℕ, Bool, true, false, None, Some, length, IsTrue, arith, refl, ap, subst, ◌∙◌, ◌⊎◌, inl, inr, slice_get}
+use Rattle.std.proofs.lemmas.List.{length-take}
 use Rattle.swift_syntax.specs.declared.tree.Stmt.{Stmt}
 use Rattle.swift_syntax.specs.declared.tree.StmtForm.TheVariants as form
 use Rattle.swift_syntax.specs.declared.tree.TaskForm.{TaskForm}
@@ -172,3 +173,9 @@ makes_task_by e h = blocks.makes_task e h.1
 
 pub adds_task_by : {s u : State} {stmt : Stmt} {is_only : Bool} {what : TaskForm} → stmt.form ≡ form.AddTask is_only what → (t : State) × AddsTask t is_only u → Does s stmt u
 adds_task_by e h = blocks.adds_task e h.1
+
+-- no name of a block is in scope behind it
+pub names_end : {s t : State} {first : ℕ} → DoesBlock s first t → length t.scope ≤ length s.scope
+names_end {s} (blocks.whole {t = u} d e) =
+    let is = ap (λ (x : State). length x.scope) e ∙ length-take (length s.scope) u.scope in
+    omega (arith, is)

@@ -29,4 +29,4 @@ mod statement;
 mod tasks;
 
 pub use file::{Lowered, lower};
-pub use laws::{an_operator_reads_late, what_statements_put_stays};
+pub use laws::{an_operator_reads_late, names_end_with_their_block, what_statements_put_stays};
