@@ -283,10 +283,6 @@ module _ (old mid new : TakenView) (w : StaysWhole old mid) where
   lift_err (Ok ran) P h = tt
   lift_err (Err e) P h = record { ready = mid; whole = w; does = h }
 
--- nothing was done
-pub nothing_done : (r : TakenView) → r.state.chosen ≡ None → StaysWhole r r
-nothing_done r free = record { stays = stays_so r free; is_of = λ x. x }
-
 -- the visit goes on with the state of the same executor
 pub goes_run : (worker : ℕ) (task : TaskId) (jobs jobs' : List JobFacts) (old new : TakenView) → Afresh (RunsTurn worker task jobs jobs') old new → GoesOn old new
 goes_run worker task jobs jobs' old new a = (let g = ran_on worker task jobs jobs' a.ready new a.does in (g.0 ∙ a.whole.stays.goes_on.0, g.1))

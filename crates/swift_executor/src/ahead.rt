@@ -50,40 +50,6 @@ fn play_ahead<R: Wait>(
         .commit(rt, worker, book, seat, &mut held.is_orderly, jobs)
 }
 
-// Runs a turn of the job that comes first. Where there are several workers it is played before it begins, where it can be. None where no
-// job is ready.
-pub(crate) fn run_turn<R, G>(
-    rt: &R,
-    held: &mut TakenState,
-    executor: ExecId,
-    worker: u32,
-    workers: u32,
-    book: &BookLock,
-    cx: &mut Context<'_>,
-    jobs: &mut TicketedJobs,
-    gate: &G,
-) -> Result<Option<TaskId>, ExecFault>
-where
-    R: Wait,
-    G: Gate,
-    requires free { held.old.state.chosen ≡ None }
-    requires book { IsOfBook book.now held.old }
-    requires jobs { jobs.old.book ≡ book.now.id }
-    ensures runs { IfOk result (λ ran. IfSome ran (λ task. Afresh (RunsTurn worker task (map job_facts jobs.old.jobs) (map job_facts jobs.new.jobs)) held.old held.new)) }
-    ensures none { IfOk result (λ ran. IfNone ran (Afresh FindsNone held.old held.new)) }
-    ensures refused { IfErr result (λ fault. Afresh (IsRefused worker fault) held.old held.new) }
-    ensures jobs { KeepsJobs held.old.state.script jobs.old jobs.new }
-    ensures idle { IfOk result (λ ran. IfNone ran (jobs.new ≡ jobs.old)) }
-    ensures err { OnErr result (jobs.new ≡ jobs.old) }
-    ensures kept { Keeps cx.old cx.new }
-{
-    if workers > 1 {
-        turn_ahead(rt, held, executor, worker, book, cx, jobs, gate)
-    } else {
-        turn_one(rt, held, executor, worker, book, cx, jobs, gate)
-    }
-}
-
 // Tells that the job of a task was chosen.
 fn tell_chose<G: Gate>(gate: &G, executor: ExecId, worker: u32, task: TaskId) {
     gate.at(Moment::Chose {
@@ -103,7 +69,7 @@ fn tell_turned<G: Gate>(gate: &G, executor: ExecId, worker: u32, task: TaskId) {
 }
 
 // Runs a turn of the job that comes first, which is played before it begins where it can be. None where no job is ready.
-fn turn_ahead<R, G>(
+pub(crate) fn turn_ahead<R, G>(
     rt: &R,
     held: &mut TakenState,
     executor: ExecId,

@@ -13,7 +13,7 @@ pub enum Moment {
     Began(ExecId, u32),
     /// The jobs that were in the inbox are ready.
     Accepted(ExecId, u32),
-    /// The job of this task was chosen, and its turn has begun, or was refused. With several workers it may be journalled by then.
+    /// The job of this task was chosen, and its turn has begun, or was refused. It may be journalled by then.
     Chose {
         /// The executor.
         executor: ExecId,

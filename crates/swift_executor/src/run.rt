@@ -18,7 +18,7 @@ ghost use Rattle.swift_executor.specs.Seats.{HaveSeen, IsSeatFor, KeepsOrder, re
 ghost use Rattle.swift_executor.specs.State.{Chooses, ExecStateView, HasChosen, HasNone, IsBegun, LacksTask, PutsBack, refusal_to_begin};
 ghost use Rattle.swift_executor.specs.Visits.{BeginsIn, Fails, FindsNone, Finishes, HasBegun, HasRun, HasStayed, IsFree, IsNotBegun, IsNotEnded, IsRefused, Leaves, RunsTurn, Visits};
 
-use crate::ahead::run_turn;
+use crate::ahead::turn_ahead;
 use crate::desk::Desk;
 use crate::exec::Exec;
 use crate::fault::ExecFault;
@@ -304,10 +304,7 @@ impl Exec {
             return Ok(VisitOutcome::Nothing(self.leave(seat, held)));
         }
         let executor = self.inbox.site().executor();
-        let workers = self.workers;
-        match run_turn(
-            rt, &mut held, executor, worker, workers, book, cx, jobs, gate,
-        ) {
+        match turn_ahead(rt, &mut held, executor, worker, book, cx, jobs, gate) {
             Ok(Some(task)) => Ok(VisitOutcome::Turn(task, self.end_turn(seat, held))),
             Ok(None) => Ok(VisitOutcome::Nothing(self.leave(seat, held))),
             Err(fault) => {
@@ -319,8 +316,8 @@ impl Exec {
 
     /// Visits the executor (SE-0306): a worker takes its state, makes the jobs ready that are in the inbox, and runs a turn of the one that
     /// comes first (`ExecState::choose`), where a job is pending. The book is locked while that job is chosen and its turn begins, and
-    /// while it is journalled, and not while it is played. With several workers the turn is played before it begins, as one that begins as
-    /// expected; where it does, the book is locked once. The jobs that the turn makes come behind those that `jobs` has, with their
+    /// while it is journalled, and not while it is played. The turn is played before it begins, as one that begins as expected, where it
+    /// can be; where it begins so, the book is locked once. The jobs that the turn makes come behind those that `jobs` has, with their
     /// tickets; they are of an equal script and their bodies have not ended. `Busy` where another worker holds the executor.
     ///
     /// The book is the executor's own: it is of the same script, so no scripts are compared, and the seat in the state knows the turns
