@@ -1,8 +1,8 @@
 -- What the calls of a lock know of their seats before and after the steps.
-use Rattle.swift_shared_book.proofs.Prelude.{◌≡◌, ℕ, ◌==◌, ◌<◌, ◌≤◌, true, List, [], ◌∷◌, Option, Some, None, IsSome, IfSome, MatchBool, refl, sym, ap, ◌∙◌, subst, arith, nat_tests, Step, Allows, Final, Seen, at_map, LockKnown, MayLearn, MayUnlock, TableOf, known_in, IsWordFor, IsUnlocked, IsKeptBy, LockInvariant, SeatOf, Takes, Unlocks, CarriesFor}
+use Rattle.swift_shared_book.proofs.Prelude.{◌≡◌, ℕ, ◌==◌, ◌<◌, ◌≤◌, true, List, [], ◌∷◌, Option, Some, None, IsSome, IfSome, MatchBool, refl, sym, ap, ◌∙◌, subst, arith, nat_tests, Step, Allows, Final, Seen, at_map, LockKnown, MayLearn, MayUnlock, TableOf, known_in, IsWordFor, IsUnlocked, IsKeptBy, LockInvariant, SeatOf, Takes, Unlocks, Publishes, CarriesFor}
 use mathlib.Core.Option.{some, some-injective}
 use lib.ListN.{get_elem?}
-use Rattle.swift_shared_book.proofs.LockSteps.{Rule, unlocks}
+use Rattle.swift_shared_book.proofs.LockSteps.{Rule, publishes, unlocks}
 
 module _ {T I V : Type 0} (image_of : T → I) (holds : I → List V → Type 0) where
   some_of : (h : Option I) → IsSome h → (x : I) × (h ≡ Some x)
@@ -19,6 +19,15 @@ module _ {T I V : Type 0} (image_of : T → I) (holds : I → List V → Type 0)
       subst (λ o. IfSome o (λ taken. MayUnlock holds me.0.known taken (image_of value) (then me.0.known taken (image_of value)))) h.1 may in
       subst (λ (m : SeatOf T I V). Allows (Rule image_of holds) slots id m 0 (λ n. 0) (Unlocks image_of then st m)) (sym is)
       (unlocks image_of holds slots id (me.0, (0, Some value) ∷ []) then st h.0 value h.1 refl may')
+
+  -- the seat of a caller that holds, and goes on with another image
+  pub publishes_held : (slots id : ℕ) (me : SeatOf T I V) (then : V → I → I → V → Type 0) (st : Step (Option T)) (image : I) (named : Option I) → named ≡ Some image → IsSome me.0.held
+      → IfSome me.0.held (λ taken. MayUnlock holds me.0.known taken image (then me.0.known taken image))
+      → Allows (Rule image_of holds) slots id me 0 (λ n. n) (Publishes named then st me)
+  publishes_held slots id me then st image named is held may =
+      let h = some_of me.0.held held in
+      let may' : MayUnlock holds me.0.known h.0 image (then me.0.known h.0 image) = subst (λ o. IfSome o (λ taken. MayUnlock holds me.0.known taken image (then me.0.known taken image))) h.1 may in
+      subst (λ (o : Option I). Allows (Rule image_of holds) slots id me 0 (λ n. n) (Publishes o then st me)) (sym is) (publishes image_of holds slots id me then st h.0 image h.1 may')
 
   -- what a lock took where the word was 0
   pub locked_with : (fact : V → I → Type 0) (me new : SeatOf T I V) (n : ℕ) → MatchBool (n == 0) (Takes image_of fact me new) (new ≡ me) → n ≡ 0 → Takes image_of fact me new

@@ -1,5 +1,5 @@
 -- Each kind of step keeps the rule of a lock, and tells what it says.
-use Rattle.swift_shared_book.proofs.Prelude.{◌≡◌, ◌≢◌, ℕ, zero, suc, ◌==◌, ◌<◌, ◌≤◌, List, [], ◌∷◌, ◌++◌, set, Option, Some, None, IsSome, IfSome, MatchBool, false, refl, sym, ap, ◌∙◌, subst, ⊎_elim, arith, nat_tests, Step, Act, keeps, takes, gives, stepped, Valid, carried_after, Allows, Splits, Joins, put_back, at_set, at_snoc, at_map, at_longer, set_else, set_again, exchanged, LockKnown, MayLearn, MayUnlock, MaySplit, MayJoin, TableOf, known_in, IsWordFor, IsHolder, HolderHolds, IsUnlocked, IsKeptBy, LockInvariant, free, with_known, SeatOf, given, Takes, Locks, Unlocks}
+use Rattle.swift_shared_book.proofs.Prelude.{◌≡◌, ◌≢◌, ℕ, zero, suc, ◌==◌, ◌<◌, ◌≤◌, List, [], ◌∷◌, ◌++◌, set, Option, Some, None, IsSome, IfSome, MatchBool, false, refl, sym, ap, ◌∙◌, subst, ⊎_elim, arith, nat_tests, Step, Act, keeps, takes, gives, stepped, Valid, carried_after, Allows, Splits, Joins, put_back, at_set, at_snoc, at_map, at_longer, set_else, set_again, exchanged, LockKnown, MayLearn, MayUnlock, MaySplit, MayJoin, TableOf, known_in, IsWordFor, IsHolder, HolderHolds, IsUnlocked, IsKeptBy, LockInvariant, free, with_known, SeatOf, given, Takes, Locks, Unlocks, Publishes, Recalls}
 use mathlib.Core.Option.{none, some, some-injective, some-ne-none}
 use mathlib.Core.Logic.{dite}
 use native.Mathlib.Decide.{ℕ_discrete}
@@ -156,6 +156,43 @@ module _ {T I V : Type 0} (image_of : T → I) (holds : I → List V → Type 0)
               (subst (λ c. IfSome (given c) (λ y. then me.0.known taken (image_of y) m.0)) (sym in_hand) m.2),
         ),
       )
+
+  pub publishes : (slots id : ℕ) (me : SeatOf T I V) (then : V → I → I → V → Type 0) (st : Step (Option T)) (taken image : I) → me.0.held ≡ Some taken
+      → MayUnlock holds me.0.known taken image (then me.0.known taken image)
+      → Allows Rule slots id me 0 (λ n. n) (Publishes (Some image) then st me)
+  publishes slots id me then st taken image holding may s k len at below =
+      let mine : (k.holder ≡ Some id) × (taken ≡ k.image) = subst (IsHolder k.holder k.image id) holding (k.held id me.0 at) in
+      let known : get_elem? (known_in s.views) id ≡ some me.0.known = at_map (λ (v : LockKnown I V). v.known) s.views id me.0 at in
+      let m = may (known_in s.views) id (subst (λ x. holds x (known_in s.views)) (sym mine.1) k.kept) known in
+      let out : s.homes ≡ none ∷ [] = subst (λ h. IsKeptBy image_of holds h k.image s.homes) mine.0 k.home in
+      let w : LockKnown I V = record { known = m.0; held = Some image } in
+      let tells : IsHeldWord k.number = subst (λ h. IsWordFor h k.number) mine.0 k.tells in (
+        w,
+        keeps,
+        tt,
+        moved s k id w _ (Some id) image s.homes (subst IsHeldWord (sym (found_word s k)) tells) out (refl, refl)
+            (λ seat u apart there.
+            none_holds (Some id) image image seat u.held (other_holds k.image image seat id u.held apart (subst (λ h. IsHolder h k.image seat u.held) mine.0 (k.held seat u there))))
+            (w, set_at s.views id me.0 w at, refl)
+            m.1,
+        (m.0, refl, subst (λ h. IfSome h (λ x. then me.0.known x image m.0)) (sym holding) m.2),
+      )
+
+  pub recalls : (slots id : ℕ) (me : SeatOf T I V) (fact : V → I → Type 0) (st : Step (Option T)) → MayLearn holds me.0.known (fact me.0.known) → Allows Rule slots id me 0 (λ n. n) (Recalls fact st me)
+  recalls slots id me fact st may s k len at below =
+      let known : get_elem? (known_in s.views) id ≡ some me.0.known = at_map (λ (v : LockKnown I V). v.known) s.views id me.0 at in (
+        me.0,
+        keeps,
+        tt,
+        moved s k id me.0 _ k.holder k.image s.homes (subst (IsWordFor k.holder) (sym (found_word s k)) k.tells) k.home (k.held id me.0 at) (λ seat u apart there. k.held seat u there)
+            (subst (HolderHolds k.holder) (sym (set_again s.views id me.0 at)) k.holder_holds)
+            (subst (holds k.image) (sym (set_again (known_in s.views) id me.0.known known)) k.kept),
+        (refl, learned me.0.held (k.held id me.0 at) (may k.image (known_in s.views) id k.kept known)),
+      )
+    where
+      learned : (h : Option I) → IsHolder k.holder k.image id h → fact me.0.known k.image → IfSome h (fact me.0.known)
+      learned None is told = tt
+      learned (Some x) is told = subst (fact me.0.known) (sym is.1) told
 
   -- only the views change
   viewed : (s : TableOf T I V) (k : Rule s) (views : List (LockKnown I V)) → ((seat : ℕ) (u : LockKnown I V) → get_elem? views seat ≡ some u → IsHolder k.holder k.image seat u.held)

@@ -24,7 +24,7 @@ pub use Rattle.swift_script.specs.Scripts.{ScriptView, executor_start, root_coun
 pub use Rattle.swift_shared_book.specs.Calls.{AddedRootsKeep, AppliedTurnsKeep, BegunTurnsKeep, IsPlayed, before_of, facts_of}
 pub use Rattle.swift_shared_book.specs.LockRule.{HolderHolds, IsHolder, IsKeptBy, IsUnlocked, IsWordFor, LockInvariant, TableOf, known_in}
 pub use Rattle.swift_shared_book.specs.LockSeat.{BadgeView, LockSeatView, MayJoin, MayLearn, MaySplit, MayUnlock}
-pub use Rattle.swift_shared_book.specs.LockStepsInside.{CarriesFor, Locks, SeatOf, Takes, Unlocks, free, given, with_known}
+pub use Rattle.swift_shared_book.specs.LockStepsInside.{CarriesFor, Locks, Publishes, Recalls, SeatOf, Takes, Unlocks, free, given, with_known}
 pub use Rattle.swift_shared_book.specs.Shared.{BeginsTicket, BookLockView, BookSeatView, HasPlayed, HasTicket, IsInRun, OpenSeatView, RunsAtSeat, TicketedJobsView, after_turn, facts_in, is_there, newest, seat_of, tickets_view, view_in, with_ticket}
 pub use Rattle.swift_shared_book.specs.SharedInside.{HasTicketsOf, IsOneAtMost, oldest_first}
 pub use Rattle.swift_shared_book.specs.StepsInside.{BeginsNamed, CommitsHanded, CommitsNamed, KnowsRoot, MayGiveBack, ahead_in, knowing_record}

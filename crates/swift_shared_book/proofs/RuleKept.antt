@@ -23,6 +23,11 @@ pub unlocks : (held : Option BookImage) (known : Known) (given : BookImage) (ask
 unlocks None known given asked may = tt
 unlocks (Some taken) known given asked may = λ all seat holds at. (let g = gives known taken given may.0 may.2 all seat holds at in (g.0, g.1, subst (asked taken.facts) (sym g.2) may.1))
 
+-- what is told of what a lock's seat took is told of the book
+pub told : (held : Option BookImage) (w : BookKnown) (asked : BookFacts → BookKnown → Type 0) → IfSome held (λ taken. asked taken.facts w) → IfSome (facts_in held) (λ taken. asked taken w)
+told None w asked is = tt
+told (Some taken) w asked is = is
+
 -- the book is as it was
 pub stays : (held : Option BookFacts) (v : BookKnown) (facts : BookFacts) → held ≡ Some facts → MayGiveBack v held facts (λ _ w. w ≡ v)
 stays held v facts is = subst (λ (h : Option BookFacts). MayGiveBack v h facts (λ _ w. w ≡ v)) (sym is) (v, refl, book_stays v facts)

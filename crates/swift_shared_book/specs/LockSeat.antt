@@ -37,6 +37,10 @@ module _ {I V : Type 0} where
   abbrev pub free_seat : LockSeatView I V → V → LockSeatView I V
   free_seat s v = record { lock = s.lock; known = v; held = None }
 
+  -- the seat holds something of this image, and knows v
+  abbrev pub holding : LockSeatView I V → V → I → LockSeatView I V
+  holding s v image = record { lock = s.lock; known = v; held = Some image }
+
   -- the seat knows v, and holds as before
   abbrev pub with_known : LockSeatView I V → V → LockSeatView I V
   with_known s v = record s { known = v }

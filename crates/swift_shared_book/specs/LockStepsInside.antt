@@ -36,6 +36,16 @@ module _ {T I V : Type 0} (image_of : T → I) where
   Unlocks then s v n w =
       (known : V) × (w ≡ (free known, rest v.1)) × IfSome v.0.held (λ taken. IfSome (given v.1) (λ value. then v.0.known taken (image_of value) known))
 
+module _ {T I V : Type 0} where
+  -- the seat still holds, something of this image now, and knows something of what it took and of that
+  abbrev pub Publishes : Option I → (V → I → I → V → Type 0) → Step (Option T) → SeatOf T I V → ℕ → SeatOf T I V → Type 0
+  Publishes image then s v n w =
+      IfSome image (λ given. (known : V) × (w ≡ (record { known = known; held = Some given }, v.1)) × IfSome v.0.held (λ taken. then v.0.known taken given known))
+
+  -- the seat is as before, and where it holds, it learns a fact of what it took
+  abbrev pub Recalls : (V → I → Type 0) → Step (Option T) → SeatOf T I V → ℕ → SeatOf T I V → Type 0
+  Recalls fact s v n w = (w ≡ v) × IfSome v.0.held (fact v.0.known)
+
 -- Between calls a seat that holds has the empty slot, and any other has nothing.
 abbrev pub CarriesFor : {T I : Type 0} → Option I → List (ℕ × Option T) → Type 0
 CarriesFor None carried = carried ≡ []

@@ -9,11 +9,17 @@ use Rattle.swift_history.specs.Orderly.{has_last_root}
 use Rattle.swift_course.specs.Views.{BookFacts, BookKnown, fresh}
 use Rattle.swift_course.specs.Steps.{MayGive}
 use Rattle.swift_shared_book.specs.Commits.{ahead_of}
-use Rattle.swift_shared_book.specs.Shared.{BeginsTicket, after_turn}
+use Rattle.swift_tasks.specs.Books.{BookView}
+use Rattle.swift_shared_book.specs.Calls.{facts_of}
+use Rattle.swift_shared_book.specs.Shared.{BeginsTicket, BookLockView, OpenSeatView, after_turn}
 
 -- A seat that knows v and has taken a book may give back this one, and knows then what is asked for.
 abbrev pub MayGiveBack : BookKnown → Option BookFacts → BookFacts → (BookFacts → BookKnown → Type 0) → Type 0
 MayGiveBack v held given asked = IfSome held (λ taken. (w : BookKnown) × asked taken w × MayGive v taken given w)
+
+-- this book is kept by the lock's holder, which has taken just this one
+abbrev pub IsKept : BookLockView → BookView → OpenSeatView → BookView → Type 0
+IsKept l given s kept = (s.lock ≡ l.id) × (kept ≡ given) × (s.taken ≡ Some (facts_of given))
 
 -- the seat knows one root more, and the ticket of its job comes first
 abbrev pub KnowsRoot : BookKnown → BookFacts → BookKnown → Type 0

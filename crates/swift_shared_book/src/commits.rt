@@ -7,18 +7,20 @@ ghost use Rattle.swift_interpreter.specs.TurnStates.{exit_view};
 ghost use Rattle.swift_turn.specs.Body.{IsRunning};
 ghost use Rattle.swift_journal.specs.Records.{RecordView};
 ghost use Rattle.swift_history.specs.Jobs.{job_facts};
-ghost use Rattle.swift_course.specs.Seats.{gathered};
+ghost use Rattle.swift_course.specs.Seats.{gathered, some_left, some_parted};
 ghost use Rattle.swift_tasks.specs.Books.{IsJobOf};
 ghost use Rattle.swift_shared_book.specs.Calls.{facts_of};
 ghost use Rattle.swift_shared_book.specs.Commits.{CommitsTo, HasPlayedAhead, PlaceAfter, SameUnlessApplied};
 ghost use Rattle.swift_shared_book.specs.Shared.{IsAsTaken, IsInRun, newest, seat_of, tickets_view};
 ghost use Rattle.swift_shared_book.specs.SharedInside.{HasTicketsOf};
-ghost use Rattle.swift_shared_book.specs.StepsInside.{BeginsNamed, CommitsHanded, CommitsNamed, MayGiveBack, ahead_in};
+ghost use Rattle.swift_shared_book.specs.StepsInside.{BeginsNamed, CommitsHanded, CommitsNamed, IsKept, MayGiveBack, ahead_in};
 
 use crate::calls::jobs_from;
 use crate::jobs::{TicketedJobs, turn};
 use crate::opened::{OpenBook, OpenSeat};
-use crate::rule::{BookBegins, BookCommits, NamesBegun, NamesCommit};
+use crate::rule::{
+    BookBegins, BookCommits, BookRule, Finds, NamesBegun, NamesCommit, NamesCount, PartsTickets,
+};
 use crate::seat::BookSeat;
 use crate::shared::BookLock;
 use crate::shelf::Shelf;
@@ -42,88 +44,130 @@ pub enum Committed {
 }
 
 impl BookLock {
-    // Gives the book back, in which the turn of the job in this place has begun, that was played before.
-    fn give_ahead<K: NamesBegun>(
+    // Goes on with the book, in which the turn of the job in this place has begun, that was played before.
+    fn keep_ahead<K: NamesBegun>(
         &self,
-        seat: &mut BookSeat,
         given: OpenBook,
         place: &Option<Job<Body>>,
         journal: &Journal,
         env: Env,
-    )
+    ) -> OpenBook
         requires name { (K.job ≡ ahead_in (newest journal.now) place.now) × (K.env ≡ Some env) }
         requires lock { given.seat.lock ≡ self.now.id }
         requires gives { MayGiveBack given.seat.knows given.seat.taken (facts_of given.book.value) (BeginsNamed (ahead_in (newest journal.now) place.now) (Some env) given.seat.knows) }
-        ensures lock { (seat.new.lock ≡ self.now.id) × (seat.new.here ≡ true) }
-        ensures begun { IfSome given.seat.taken (λ taken. BeginsNamed (ahead_in (newest journal.now) place.now) (Some env) given.seat.knows taken seat.new.knows) }
+        ensures kept { IsKept self.now given.book.value result.seat result.book.value }
+        ensures begun { IfSome given.seat.taken (λ taken. BeginsNamed (ahead_in (newest journal.now) place.now) (Some env) given.seat.knows taken result.seat.knows) }
     {
         let _turns = journal.len();
         let _there = place.is_some();
         let _env = env;
         let OpenBook {
             book,
-            seat: OpenSeat { seat: mut giving },
+            seat: OpenSeat { seat: mut holding },
         } = given;
-        self.lock
-            .unlock::<BookBegins<K>>(&mut giving, Shelf { book });
-        seat.put(giving);
+        let shelf = Shelf { book };
+        self.lock.publish::<BookBegins<K>>(&mut holding, &shelf);
+        OpenBook {
+            book: shelf.into_book(),
+            seat: OpenSeat { seat: holding },
+        }
     }
 
-    // Gives the book back, in which the turn of a job has begun and was applied that made these jobs. `was` is the place of the job before.
-    fn give_both<K: NamesCommit>(
+    // Goes on with the book, in which the turn of a job has begun and was applied that made these jobs. `was` is the place of the job
+    // before.
+    fn keep_both<K: NamesCommit>(
         &self,
-        seat: &mut BookSeat,
         given: OpenBook,
         was: &Snapshot<Option<Job<Body>>>,
         journal: &Journal,
         made: &[Job<Body>],
-    )
+    ) -> OpenBook
         requires name { (K.job ≡ ahead_in (newest journal.now) was.now.value) × (K.written ≡ newest journal.now) × (K.made ≡ map job_facts made.now) }
         requires lock { given.seat.lock ≡ self.now.id }
         requires gives { MayGiveBack given.seat.knows given.seat.taken (facts_of given.book.value) (CommitsNamed (ahead_in (newest journal.now) was.now.value) (newest journal.now) (map job_facts made.now) given.seat.knows) }
-        ensures lock { (seat.new.lock ≡ self.now.id) × (seat.new.here ≡ true) }
-        ensures both { IfSome given.seat.taken (λ taken. CommitsNamed (ahead_in (newest journal.now) was.now.value) (newest journal.now) (map job_facts made.now) given.seat.knows taken seat.new.knows) }
+        ensures kept { IsKept self.now given.book.value result.seat result.book.value }
+        ensures both { IfSome given.seat.taken (λ taken. CommitsNamed (ahead_in (newest journal.now) was.now.value) (newest journal.now) (map job_facts made.now) given.seat.knows taken result.seat.knows) }
     {
         let _was = was;
         let _turns = journal.len();
         let _made = made.len();
         let OpenBook {
             book,
-            seat: OpenSeat { seat: mut giving },
+            seat: OpenSeat { seat: mut holding },
         } = given;
-        self.lock
-            .unlock::<BookCommits<K>>(&mut giving, Shelf { book });
-        seat.put(giving);
+        let shelf = Shelf { book };
+        self.lock.publish::<BookCommits<K>>(&mut holding, &shelf);
+        OpenBook {
+            book: shelf.into_book(),
+            seat: OpenSeat { seat: holding },
+        }
     }
 
-    // The same, and the tickets of those jobs come behind those of another seat.
-    fn give_commit(
+    // The first tickets of a seat that has taken the book, in a seat of their own.
+    fn part_open<K: NamesCount>(&self, kept: OpenBook, count: usize) -> (OpenBook, BookSeat)
+        requires name { K.count ≡ count }
+        requires lock { kept.seat.lock ≡ self.now.id }
+        ensures left { (result.0.book.value ≡ kept.book.value) × (result.0.seat ≡ record kept.seat { knows = some_left count kept.seat.knows }) }
+        ensures new { result.1 ≡ seat_of self.now (some_parted count kept.seat.knows) }
+    {
+        let _count = count;
+        let OpenBook {
+            book,
+            seat: OpenSeat { seat: mut holding },
+        } = kept;
+        let parted = holding.split::<PartsTickets<K>, BookRule>(&self.lock);
+        let left = OpenBook {
+            book,
+            seat: OpenSeat { seat: holding },
+        };
+        (left, BookSeat::of(parted))
+    }
+
+    // As `keep_both`, and the tickets of those jobs come behind those of another seat.
+    fn keep_commit(
         &self,
-        seat: &mut BookSeat,
         given: OpenBook,
         was: &Snapshot<Option<Job<Body>>>,
         journal: &Journal,
         made: &[Job<Body>],
         tickets: &mut BookSeat,
-    )
+    ) -> OpenBook
         requires lock { given.seat.lock ≡ self.now.id }
         requires gives { MayGiveBack given.seat.knows given.seat.taken (facts_of given.book.value) (CommitsNamed (ahead_in (newest journal.now) was.now.value) (newest journal.now) (map job_facts made.now) given.seat.knows) }
         requires taken { IsSome given.seat.taken }
         requires job { IsSome (ahead_in (newest journal.now) was.now.value) }
         requires tickets { (tickets.old.lock ≡ self.now.id) × (tickets.old.here ≡ true) }
-        ensures lock { (seat.new.lock ≡ self.now.id) × (seat.new.here ≡ true) }
-        ensures both { IfSome given.seat.taken (λ taken. CommitsHanded (ahead_in (newest journal.now) was.now.value) (newest journal.now) given.seat.knows taken seat.new.knows) }
+        ensures kept { IsKept self.now given.book.value result.seat result.book.value }
+        ensures both { IfSome given.seat.taken (λ taken. CommitsHanded (ahead_in (newest journal.now) was.now.value) (newest journal.now) given.seat.knows taken result.seat.knows) }
         ensures tickets { tickets.new ≡ seat_of self.now (gathered (tickets_view given.seat.knows.script made.now) tickets.old.knows) }
     {
-        self.give_both::<Brand>(seat, given, was, journal, made);
-        let parted = self.part(seat, made.len());
+        let kept = self.keep_both::<Brand>(given, was, journal, made);
+        let (left, parted) = self.part_open::<Brand>(kept, made.len());
         self.append(tickets, parted);
+        left
     }
 
-    // Commits a turn, as `commit` does, to a list of jobs and a seat that has their tickets.
-    fn commit_taken(
+    // The run has come to a book that is kept as it was taken.
+    fn recall(&self, kept: OpenBook) -> OpenBook
+        requires lock { kept.seat.lock ≡ self.now.id }
+        requires same { kept.seat.taken ≡ Some (facts_of kept.book.value) }
+        ensures same { (result.book.value ≡ kept.book.value) × (result.seat ≡ kept.seat) }
+        ensures run { IsInRun kept.seat.knows (facts_of kept.book.value) }
+    {
+        let OpenBook {
+            book,
+            seat: OpenSeat { seat: mut holding },
+        } = kept;
+        self.lock.recall::<Finds>(&mut holding);
+        OpenBook {
+            book,
+            seat: OpenSeat { seat: holding },
+        }
+    }
+
+    // Commits a turn, as `commit_kept` does, to a list of jobs and a seat that has their tickets.
+    fn commit_open(
         &self,
-        seat: &mut BookSeat,
         mut taken: OpenBook,
         env: Env,
         place: &mut Option<Job<Body>>,
@@ -132,41 +176,80 @@ impl BookLock {
         effects: &[Effect],
         jobs: &mut Vec<Job<Body>>,
         tickets: &mut BookSeat,
-    ) -> Committed
+    ) -> (Committed, OpenBook)
         requires untouched { IsAsTaken self.now taken.seat taken.book.value }
         requires run { IsInRun taken.seat.knows (facts_of taken.book.value) }
         requires tickets { (tickets.old.lock ≡ self.now.id) × HasTicketsOf jobs.old.items tickets.old }
         requires job { IsSomeAnd place.old (λ j. IsRunning j.body × (j.body.script ≡ self.now.script)) }
         requires played { IsSomeAnd place.old (λ j. (r : RecordView) × (newest journal.now ≡ Some r) × (r.exit ≡ exit_view exit.now) × (r.effects ≡ effect_views effects.now) × (r.env ≡ env) × HasPlayedAhead self.now.script taken.seat.knows j r) }
-        ensures done { IsSomeAnd place.old (λ j. IfSome (newest journal.now) (λ r. CommitsTo taken.book.value j r (map job_facts jobs.old.items) (map job_facts jobs.new.items) taken.seat.knows seat.new.knows result)) }
-        ensures seat { (seat.new.lock ≡ self.now.id) × (seat.new.here ≡ true) }
-        ensures place { PlaceAfter place.old place.new result }
+        ensures done { IsSomeAnd place.old (λ j. IfSome (newest journal.now) (λ r. CommitsTo taken.book.value j r (map job_facts jobs.old.items) (map job_facts jobs.new.items) taken.seat.knows result.1.seat.knows result.0)) }
+        ensures untouched { IsAsTaken self.now result.1.seat result.1.book.value }
+        ensures place { PlaceAfter place.old place.new result.0 }
         ensures bodies { AllByRecursion (IsJobOf self.now.script) jobs.old.items → AllByRecursion (IsJobOf self.now.script) jobs.new.items }
         ensures tickets { (tickets.new.lock ≡ self.now.id) × HasTicketsOf jobs.new.items tickets.new }
-        ensures same { SameUnlessApplied jobs.old.items jobs.new.items result }
+        ensures same { SameUnlessApplied jobs.old.items jobs.new.items result.0 }
     {
         let was = Snapshot::of(place);
         let Some(job) = &*place else { unreachable!() };
         let Ok(given) = taken.book.begin_known(job) else {
-            self.leave(seat, taken);
-            return Committed::Refused;
+            return (Committed::Refused, taken);
         };
         if given != env {
-            self.give_ahead::<Brand>(seat, taken, place, journal, given);
-            return Committed::Begun(given);
+            let begun = self.keep_ahead::<Brand>(taken, place, journal, given);
+            return (Committed::Begun(given), begun);
         }
         let before = jobs.len();
         match taken.book.apply_in(place, exit, effects, jobs) {
             Ok(()) => {
                 let made = jobs_from(jobs, before);
-                self.give_commit(seat, taken, &was, journal, made, tickets);
-                Committed::Applied
+                let kept = self.keep_commit(taken, &was, journal, made, tickets);
+                (Committed::Applied, kept)
             }
             Err(_) => {
-                self.give_ahead::<Brand>(seat, taken, place, journal, given);
-                Committed::Begun(given)
+                let begun = self.keep_ahead::<Brand>(taken, place, journal, given);
+                (Committed::Begun(given), begun)
             }
         }
+    }
+
+    /// Commits a turn in a book that was taken, as `commit` does, and keeps the book, which is then as if it were given back and taken
+    /// again at once (our own). So a thread commits several turns by one lock: to take it from another processor costs more than a turn's
+    /// begin and end do.
+    pub fn commit_kept(
+        &self,
+        taken: OpenBook,
+        env: Env,
+        place: &mut Option<Job<Body>>,
+        journal: &Journal,
+        exit: &Exit,
+        effects: &[Effect],
+        jobs: &mut TicketedJobs,
+    ) -> (Committed, OpenBook)
+        requires untouched { IsAsTaken self.now taken.seat taken.book.value }
+        requires run { IsInRun taken.seat.knows (facts_of taken.book.value) }
+        requires jobs { jobs.old.book ≡ self.now.id }
+        requires job { IsSomeAnd place.old (λ j. IsRunning j.body × (j.body.script ≡ self.now.script)) }
+        requires played { IsSomeAnd place.old (λ j. (r : RecordView) × (newest journal.now ≡ Some r) × (r.exit ≡ exit_view exit.now) × (r.effects ≡ effect_views effects.now) × (r.env ≡ env) × HasPlayedAhead self.now.script taken.seat.knows j r) }
+        ensures done { IsSomeAnd place.old (λ j. IfSome (newest journal.now) (λ r. CommitsTo taken.book.value j r (map job_facts jobs.old.jobs) (map job_facts jobs.new.jobs) taken.seat.knows result.1.seat.knows result.0)) }
+        ensures untouched { IsAsTaken self.now result.1.seat result.1.book.value }
+        ensures run { IsInRun result.1.seat.knows (facts_of result.1.book.value) }
+        ensures place { PlaceAfter place.old place.new result.0 }
+        ensures bodies { AllByRecursion (IsJobOf self.now.script) jobs.old.jobs → AllByRecursion (IsJobOf self.now.script) jobs.new.jobs }
+        ensures lock { jobs.new.book ≡ jobs.old.book }
+        ensures same { SameUnlessApplied jobs.old.jobs jobs.new.jobs result.0 }
+    {
+        turn(&mut jobs.jobs, &mut jobs.is_reversed, false);
+        let (committed, kept) = self.commit_open(
+            taken,
+            env,
+            place,
+            journal,
+            exit,
+            effects,
+            &mut jobs.jobs,
+            &mut jobs.seat,
+        );
+        (committed, self.recall(kept))
     }
 
     /// Begins the turn of the job in a place, which was played before in this environment, and applies it, in a book that was taken, and
@@ -202,17 +285,8 @@ impl BookLock {
         ensures lock { jobs.new.book ≡ jobs.old.book }
         ensures same { SameUnlessApplied jobs.old jobs.new result }
     {
-        turn(&mut jobs.jobs, &mut jobs.is_reversed, false);
-        self.commit_taken(
-            seat,
-            taken,
-            env,
-            place,
-            journal,
-            exit,
-            effects,
-            &mut jobs.jobs,
-            &mut jobs.seat,
-        )
+        let (committed, kept) = self.commit_kept(taken, env, place, journal, exit, effects, jobs);
+        self.leave(seat, kept);
+        committed
     }
 }

@@ -11,7 +11,7 @@
 //! sleep too. That no wake is lost is not proved, and no clause can say it: it rests on these four sentences.
 
 ghost use Rattle.std.specs.Prelude.{◌≡◌, Some, None, [], ◌∷◌, IfSome, IfNone, IsSome, IfOk, IfErr};
-ghost use Rattle.swift_shared_book.specs.LockSeat.{IsSeatOf, MayLearn, MayUnlock, free_seat, held_by, new_seat};
+ghost use Rattle.swift_shared_book.specs.LockSeat.{IsSeatOf, MayLearn, MayUnlock, free_seat, held_by, holding, new_seat};
 
 // A seat where nothing names what is kept.
 mod badge;
@@ -28,7 +28,7 @@ mod seat;
 // What a seat knows, in proofs alone.
 mod view;
 
-use crate::lock::rule::{Locks, TheRule, Unlocks};
+use crate::lock::rule::{Locks, NamesImage, Publishes, Recalls, TheRule, Unlocks};
 use crate::lock::seat::LockToken;
 pub use atomic_table::{Join, Split};
 use atomic_table::{Refused, Table};
@@ -37,7 +37,7 @@ pub use rule::{Lesson, LockRule, UnlockOutcome};
 pub use seat::LockSeat;
 use std::alloc::{AllocError, Global};
 use std::hint;
-use std::marker::Model;
+use std::marker::{Brand, Model};
 use std::snapshot::Snapshot;
 use std::sync::Wait;
 pub use view::LockKnown;
@@ -258,6 +258,48 @@ impl<T: Locked, V, P: LockRule<T::Image, V>> Lock<T, V, P> {
         if found == AWAITED {
             shared.wake_one(WORD);
         }
+    }
+
+    // Puts the image of a value, which K names, in the place of what the seat took: one load, by which nothing changes but what the seat
+    // knows.
+    fn publish_named<K: NamesImage<T::Image>, O: UnlockOutcome<T::Image, V>>(
+        &self,
+        seat: &mut LockSeat<T, V>,
+        value: &T,
+    )
+        requires name { K.image ≡ Some (T.image value.now) }
+        requires same_lock { IsSeatOf self.now seat.old }
+        requires holds { IsSome seat.old.held }
+        requires rule { IfSome seat.old.held (λ taken. MayUnlock P.holds seat.old.known taken (T.image value.now) (O.then seat.old.known taken (T.image value.now))) }
+        ensures seat { seat.new ≡ holding seat.old seat.new.known (T.image value.now) }
+        ensures then { IfSome seat.old.held (λ taken. O.then seat.old.known taken (T.image value.now) seat.new.known) }
+    {
+        let _value = value;
+        let shared = &self.table.shared;
+        let _found = shared.load::<Publishes<K, O>>(&mut seat.token, WORD);
+    }
+
+    /// Makes this value what the seat took, as if it were given back and taken again at once: one load. The rule has to allow it as for
+    /// `unlock`, and the seat, which still holds, then knows what the outcome says. So a thread makes several steps by one lock.
+    pub fn publish<O: UnlockOutcome<T::Image, V>>(&self, seat: &mut LockSeat<T, V>, value: &T)
+        requires same_lock { IsSeatOf self.now seat.old }
+        requires holds { IsSome seat.old.held }
+        requires rule { IfSome seat.old.held (λ taken. MayUnlock P.holds seat.old.known taken (T.image value.now) (O.then seat.old.known taken (T.image value.now))) }
+        ensures seat { seat.new ≡ holding seat.old seat.new.known (T.image value.now) }
+        ensures then { IfSome seat.old.held (λ taken. O.then seat.old.known taken (T.image value.now) seat.new.known) }
+    {
+        self.publish_named::<Brand, O>(seat, value);
+    }
+
+    /// The rule holds of what a seat took for as long as it holds: the seat learns what the lesson says of that. One load.
+    pub fn recall<L: Lesson<T::Image, V>>(&self, seat: &mut LockSeat<T, V>)
+        requires same_lock { IsSeatOf self.now seat.old }
+        requires rule { MayLearn P.holds seat.old.known (L.fact seat.old.known) }
+        ensures same { seat.new ≡ seat.old }
+        ensures fact { IfSome seat.old.held (L.fact seat.old.known) }
+    {
+        let shared = &self.table.shared;
+        let _found = shared.load::<Recalls<L>>(&mut seat.token, WORD);
     }
 
     /// Gives the lock up: what it keeps, where no seat holds. What a seat still holds stays with whoever has it.

@@ -1,13 +1,13 @@
 //! The rule of a lock, and what each kind of step tells its seat.
 
-ghost use Rattle.std.specs.Prelude.{List};
+ghost use Rattle.std.specs.Prelude.{List, Option, None};
 ghost use Rattle.swift_shared_book.specs.LockRule.{LockInvariant};
 ghost use Rattle.swift_shared_book.specs.LockStepsInside as steps;
 
 use crate::lock::Locked;
 use crate::lock::view::LockKnown;
 use atomic_table::{Join, Play, Split, TableRule};
-use std::marker::PhantomData;
+use std::marker::{Brand, PhantomData};
 use std::snapshot::Snapshot;
 
 /// The rule of a lock, by its user: a fact about the image of what the lock keeps, and about what all its seats know. It
@@ -62,6 +62,36 @@ pub struct Unlocks<O> {
 impl<T: Locked, V, O: UnlockOutcome<T::Image, V>> Play<Option<T>, LockKnown<T::Image, V>>
     for Unlocks<O> {
     ghost then = { steps.Unlocks T.image O.then };
+}
+
+/// Names the image that a seat holds from now on, in proofs alone.
+pub trait NamesImage<I> {
+    ghost image: { Option I };
+}
+
+impl<I> NamesImage<I> for Brand {
+    ghost image = { None };
+}
+
+/// The seat that holds puts another image in the place of what it took.
+pub struct Publishes<K, O> {
+    of: PhantomData<(K, O)>,
+}
+
+impl<T: Locked, V, K: NamesImage<T::Image>, O: UnlockOutcome<T::Image, V>> Play<
+    Option<T>,
+    LockKnown<T::Image, V>,
+> for Publishes<K, O> {
+    ghost then = { steps.Publishes K.image O.then };
+}
+
+/// A seat that holds learns of what it took.
+pub struct Recalls<L> {
+    of: PhantomData<L>,
+}
+
+impl<T: Locked, V, L: Lesson<T::Image, V>> Play<Option<T>, LockKnown<T::Image, V>> for Recalls<L> {
+    ghost then = { steps.Recalls L.fact };
 }
 
 /// How what a seat knows is parted between two, and put together again.

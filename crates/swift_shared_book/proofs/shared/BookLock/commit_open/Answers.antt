@@ -3,10 +3,10 @@ use Rattle.swift_shared_book.specs.Commits.{CommitsTurn}
 use Rattle.swift_shared_book.proofs.Committing.{begins_placed, commits_placed, committed_placed}
 use Rattle.swift_shared_book.proofs.RuleKept.{jobs_made, no_fewer, tickets_after}
 use Rattle.swift_shared_book.proofs.Shapes.{has_tickets}
-use Rattle.swift_shared_book.proofs.shared.BookLock.commit_taken.Goals as goal
+use Rattle.swift_shared_book.proofs.shared.BookLock.commit_open.Goals as goal
 
-pub give_ahead-requires-clause-gives : goal.give_ahead-requires-clause-gives
-give_ahead-requires-clause-gives c =
+pub keep_ahead-begun-requires-clause-gives : goal.keep_ahead-begun-requires-clause-gives
+keep_ahead-begun-requires-clause-gives c =
     let s = c.args.taken.seat in
     let b0 = c.args.taken.book.value in
     let b = c.deref_mut.result.now in
@@ -43,8 +43,8 @@ jobs_from-made-requires c =
     let new : length after ≡ vec_len c.apply_in.new.jobs = search rules in
     omega (arith, few, old, new)
 
-pub give_commit-requires-clause-gives : goal.give_commit-requires-clause-gives
-give_commit-requires-clause-gives c =
+pub keep_commit-kept-requires-clause-gives : goal.keep_commit-kept-requires-clause-gives
+keep_commit-kept-requires-clause-gives c =
     let s = c.args.taken.seat in
     let b0 = c.args.taken.book.value in
     let b = c.deref_mut.result.now in
@@ -85,8 +85,8 @@ returns-in-Ok-apply_in-clause-done c =
     let before = c.args.jobs.now.items in
     let after = c.apply_in.new.jobs.items in
     let run = subst (λ (x : BookView). IsInRun s.knows (facts_of x)) same c.requires.run in
-    let done = committed_placed place c.in-Some.job s.knows c.args.self.now.script record_one effects exit c.args.env c.in-Ok.given s.taken b c.in-Some.is c.requires.played taken of_script c.in-Ok.ensures.refused c.in-Ok.ensures.env given_is b1 b2 before after (mid ∙ c.in-Ok.ensures.ok) c.in-Ok-apply_in.ensures.refused c.in-Ok-apply_in.ensures.ok c.in-Ok-apply_in.ensures.script c.of-was.result.value c.give_commit.new.seat.knows (map job_facts before) (map job_facts after) c.of-was.ensures run c.give_commit.ensures.both refl refl in
-    subst (λ (x : BookView). IsSomeAnd place (λ j. IfSome record_one (λ r. CommitsTurn x j r (map job_facts before) (map job_facts after) s.knows c.give_commit.new.seat.knows))) (sym same) done
+    let done = committed_placed place c.in-Some.job s.knows c.args.self.now.script record_one effects exit c.args.env c.in-Ok.given s.taken b c.in-Some.is c.requires.played taken of_script c.in-Ok.ensures.refused c.in-Ok.ensures.env given_is b1 b2 before after (mid ∙ c.in-Ok.ensures.ok) c.in-Ok-apply_in.ensures.refused c.in-Ok-apply_in.ensures.ok c.in-Ok-apply_in.ensures.script c.of-was.result.value c.keep_commit-kept.result.seat.knows (map job_facts before) (map job_facts after) c.of-was.ensures run c.keep_commit-kept.ensures.both refl refl in
+    subst (λ (x : BookView). IsSomeAnd place (λ j. IfSome record_one (λ r. CommitsTurn x j r (map job_facts before) (map job_facts after) s.knows c.keep_commit-kept.result.seat.knows))) (sym same) done
 
 pub returns-in-Ok-apply_in-clause-tickets : goal.returns-in-Ok-apply_in-clause-tickets
 returns-in-Ok-apply_in-clause-tickets c =
@@ -111,14 +111,14 @@ returns-in-Ok-apply_in-clause-tickets c =
     let made : c.jobs_from-made.result.now ≡ drop (length before) after = c.jobs_from-made.ensures ∙ ap (λ (n : ℕ). drop n after) count in
     let script = s.knows.script in
     let old = c.requires.tickets.1.1 in (
-      ap (λ (x : BookSeatView). x.lock) c.give_commit.ensures.tickets,
-      has_tickets c.give_commit.new.tickets c.args.self.now (tickets_view script c.jobs_from-made.result.now) c.args.tickets.now.knows script old c.jobs_from-made.result.now before after false c.give_commit.ensures.tickets refl
+      ap (λ (x : BookSeatView). x.lock) c.keep_commit-kept.ensures.tickets,
+      has_tickets c.keep_commit-kept.new.tickets c.args.self.now (tickets_view script c.jobs_from-made.result.now) c.args.tickets.now.knows script old c.jobs_from-made.result.now before after false c.keep_commit-kept.ensures.tickets refl
           c.requires.tickets.1.2
           (ap (λ (l : List (JobView BodyView)). gathered (tickets_view script l) (tickets_view old before)) made ∙ tickets_after script old before after m.0 m.1) refl,
     )
 
-pub give_ahead-requires-in-Err-clause-gives : goal.give_ahead-requires-in-Err-clause-gives
-give_ahead-requires-in-Err-clause-gives c =
+pub keep_ahead-begun-requires-in-Err-clause-gives : goal.keep_ahead-begun-requires-in-Err-clause-gives
+keep_ahead-begun-requires-in-Err-clause-gives c =
     let s = c.args.taken.seat in
     let b0 = c.args.taken.book.value in
     let b = c.deref_mut.result.now in

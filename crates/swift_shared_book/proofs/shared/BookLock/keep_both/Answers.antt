@@ -1,9 +1,9 @@
 use Rattle.swift_shared_book.proofs.Prelude.{sym, subst, List, Option, JobFacts, RecordView, facts_of, newest, MayGiveBack, OpenBook, CommitsNamed, ahead_in}
 use Rattle.swift_shared_book.proofs.RuleKept.{unlocks}
-use Rattle.swift_shared_book.proofs.shared.BookLock.give_both.Goals as goal
+use Rattle.swift_shared_book.proofs.shared.BookLock.keep_both.Goals as goal
 
-pub unlock-requires-clause-rule : goal.unlock-requires-clause-rule
-unlock-requires-clause-rule g c =
+pub publish-requires-clause-rule : goal.publish-requires-clause-rule
+publish-requires-clause-rule g c =
     let s = c.given.inside.0.1.0.seat in
     let b = c.args.given in
     let named = g.K.NamesCommit in
