@@ -22,6 +22,7 @@ fn play_ahead<R: Wait>(
     rt: &R,
     held: &mut TakenState,
     worker: u32,
+    most: usize,
     book: &BookLock,
     cx: &mut Context<'_>,
     jobs: &mut TicketedJobs,
@@ -37,17 +38,9 @@ fn play_ahead<R: Wait>(
     if !held.state.goes_ahead() {
         return Ahead::Not;
     }
-    let room = held.state.last_room();
-    let Some(task) = held.state.choose_ahead() else {
-        return Ahead::Not;
-    };
-    held.state.assume(worker, task, room);
-    let Ok(()) = held.state.play(cx) else {
-        return Ahead::Not;
-    };
     let seat = &mut held.seat;
     held.state
-        .commit(rt, worker, book, seat, &mut held.is_orderly, jobs)
+        .run_many(rt, worker, book, seat, &mut held.is_orderly, cx, jobs, most)
 }
 
 // Tells that the job of a task was chosen.
@@ -74,6 +67,7 @@ pub(crate) fn turn_ahead<R, G>(
     held: &mut TakenState,
     executor: ExecId,
     worker: u32,
+    most: usize,
     book: &BookLock,
     cx: &mut Context<'_>,
     jobs: &mut TicketedJobs,
@@ -93,7 +87,7 @@ where
     ensures err { OnErr result (jobs.new ≡ jobs.old) }
     ensures kept { Keeps cx.old cx.new }
 {
-    match play_ahead(rt, held, worker, book, cx, jobs) {
+    match play_ahead(rt, held, worker, most, book, cx, jobs) {
         Ahead::Applied(task) => {
             tell_chose(gate, executor, worker, task);
             tell_turned(gate, executor, worker, task);

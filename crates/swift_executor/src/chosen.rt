@@ -129,3 +129,37 @@ pub fn fill(place: &mut Option<Job<Body>>, job: Job<Body>)
         Some(_before) => unreachable!(),
     }
 }
+
+/// A turn that was played and journalled, and that the book has not taken yet; of `fields` it has only the rows that the turn has set.
+pub struct Aside {
+    pub chosen: Chosen,
+    pub played: PlayedTurn,
+}
+
+impl Drop for Aside {
+    fn drop(self) {
+        let Aside { chosen, played } = self;
+        let Chosen {
+            job,
+            arrival: _,
+            stage: _,
+        } = chosen;
+        match job {
+            Some(job) => {
+                let (_task, _number, _resume, body) = job.spend();
+                drop(body);
+            }
+            None => {}
+        }
+        drop(played);
+    }
+}
+
+impl Aside {
+    pub fn none(alloc: Global) -> Aside {
+        Aside {
+            chosen: Chosen::none(),
+            played: PlayedTurn::new(alloc, Vec::new(alloc)),
+        }
+    }
+}

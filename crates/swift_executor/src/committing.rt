@@ -27,6 +27,8 @@ use crate::ready::ReadyJobs;
 use crate::state::ExecState;
 use crate::turns::prepare;
 use std::alloc::Global;
+use futures::task::Context;
+use std::mem;
 use std::sync::Wait;
 use swift_history::laws::{invariants_stay, lawful_grows};
 use swift_job::Job;
@@ -41,6 +43,9 @@ use swift_types::{Env, TaskId};
 // So many turns begin before they are played once one was played ahead in vain: where tasks are made, wait or are cancelled all the time, no
 // more than one turn in so many is played twice.
 const PAUSES: u32 = 8;
+
+// So many turns at most are played before the book is locked for them.
+pub(crate) const BATCH: usize = 8;
 
 /// What came of a turn that was played before it has begun (our own).
 #[derive(Clone, Copy)]
@@ -270,5 +275,145 @@ impl ExecState {
                 Ahead::Not
             }
         }
+    }
+
+    // Sets a turn aside that was played and journalled, or takes it back.
+    fn swap_aside(&mut self, at: usize) {
+        let aside = &mut self.asides[at];
+        mem::swap(&mut self.chosen, &mut aside.chosen);
+        mem::swap(&mut self.played.frame, &mut aside.played.frame);
+        mem::swap(&mut self.played.effects, &mut aside.played.effects);
+        mem::swap(&mut self.played.exit, &mut aside.played.exit);
+        self.played.fields.swap_saved(&mut aside.played.fields);
+    }
+
+    // Turns that were set aside, from this place on, are played in vain: their jobs are ready again.
+    fn give_up_asides(&mut self, from: usize, many: usize) {
+        let mut at = many;
+        while at > from {
+            at -= 1;
+            self.swap_aside(at);
+            self.journal.retract();
+            self.put_back();
+            self.played.fields.put_back();
+        }
+    }
+
+    pub(crate) fn take_done(&mut self) -> u32 {
+        let done = self.done;
+        self.done = 0;
+        done
+    }
+
+    // Plays up to so many turns ahead, of different tasks, and then commits them one after the other by one lock of the book.
+    pub(crate) fn run_many<R: Wait>(
+        &mut self,
+        rt: &R,
+        worker: u32,
+        book: &BookLock,
+        seat: &mut BookSeat,
+        is_orderly: &mut bool,
+        cx: &mut Context<'_>,
+        jobs: &mut TicketedJobs,
+        most: usize,
+    ) -> Ahead {
+        let room = self.last_room();
+        let mut many: usize = 0;
+        let mut fold = None;
+        while many < most {
+            let Some(task) = self.choose_ahead() else {
+                break;
+            };
+            self.assume(worker, task, room);
+            let Ok(()) = self.play(cx) else {
+                break;
+            };
+            match prepare(
+                self.alloc,
+                &mut self.journal,
+                &mut self.checkpoint,
+                &self.chosen,
+                &self.played,
+            ) {
+                Ok(copy) => {
+                    self.swap_aside(many);
+                    many += 1;
+                    if copy.is_some() {
+                        fold = copy;
+                        break;
+                    }
+                }
+                Err(_) => {
+                    self.put_back();
+                    self.played.fields.put_back();
+                    break;
+                }
+            }
+        }
+        let mut last = Ahead::Not;
+        if many == 0 {
+            return last;
+        }
+        let mut taken = book.lock(rt, seat);
+        let mut at: usize = 0;
+        let mut ended = Committed::Applied;
+        while at < many {
+            let aside = &mut self.asides[at];
+            let task = task_of(&aside.chosen.job);
+            let ChosenStage::Played(_, env) = aside.chosen.stage else {
+                unreachable!()
+            };
+            if !are_current(&self.ready, &mut taken.book, task) {
+                ended = Committed::Refused;
+                break;
+            }
+            *is_orderly = still_orderly(*is_orderly, self.home.script(), &taken.book);
+            let (committed, kept) = book.commit_kept(
+                taken,
+                env,
+                &mut aside.chosen.job,
+                &self.journal,
+                &aside.played.exit,
+                &aside.played.effects,
+                jobs,
+            );
+            taken = kept;
+            ended = committed;
+            match ended {
+                Committed::Applied => {
+                    last = Ahead::Applied(task);
+                    aside.played.fields.keep();
+                    self.ready.forward(task);
+                    self.done += 1;
+                    at += 1;
+                }
+                Committed::Begun(_) => {
+                    last = Ahead::Begun(task);
+                    break;
+                }
+                Committed::Refused => break,
+            }
+        }
+        book.leave(seat, taken);
+        match ended {
+            Committed::Applied => {}
+            Committed::Begun(env) => {
+                self.give_up_asides(at + 1, many);
+                self.swap_aside(at);
+                self.journal.retract();
+                rewind(self.alloc, &mut self.chosen, &mut self.played, env);
+                self.played.fields.put_back();
+                self.pause();
+                self.done += 1;
+                return last;
+            }
+            Committed::Refused => {
+                self.give_up_asides(at, many);
+                self.pause();
+                return last;
+            }
+        }
+        settle(&mut self.journal, &mut self.checkpoint, fold);
+        last
     }
 }

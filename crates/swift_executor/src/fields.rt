@@ -12,6 +12,7 @@ ghost use Rattle.swift_executor.specs.PlayingInside.{MaySpare};
 use futures::task::Context;
 use std::alloc::{AllocError, Global};
 use std::marker::Model;
+use std::mem;
 use swift_interpreter::{Effect, Exit, Frame, SavedRows};
 use swift_turn::{Body, play_turn_from};
 use swift_types::{Env, Resume};
@@ -82,6 +83,16 @@ impl Fields {
         ensures { self.new ≡ record { before = self.old.after; after = self.old.after } }
     {
         self.saved.clear();
+    }
+
+    /// The rows that a turn has set go to another one that keeps none, and come back from there.
+    pub fn swap_saved(&mut self, other: &mut Fields) {
+        mem::swap(&mut self.saved, &mut other.saved);
+    }
+
+    /// They are as before the turn.
+    pub fn put_back(&mut self) {
+        self.saved.put_back(&mut self.rows);
     }
 
     /// As they were before the turn.

@@ -19,6 +19,7 @@ ghost use Rattle.swift_executor.specs.State.{Chooses, ExecStateView, HasChosen, 
 ghost use Rattle.swift_executor.specs.Visits.{BeginsIn, Fails, FindsNone, Finishes, HasBegun, HasRun, HasStayed, IsFree, IsNotBegun, IsNotEnded, IsRefused, Leaves, RunsTurn, Visits};
 
 use crate::ahead::turn_ahead;
+use crate::committing::BATCH;
 use crate::desk::Desk;
 use crate::exec::Exec;
 use crate::fault::ExecFault;
@@ -304,8 +305,20 @@ impl Exec {
             return Ok(VisitOutcome::Nothing(self.leave(seat, held)));
         }
         let executor = self.inbox.site().executor();
-        match turn_ahead(rt, &mut held, executor, worker, book, cx, jobs, gate) {
-            Ok(Some(task)) => Ok(VisitOutcome::Turn(task, self.end_turn(seat, held))),
+        let most = if self.workers > 1 { BATCH } else { 1 };
+        match turn_ahead(
+            rt, &mut held, executor, worker, most, book, cx, jobs, gate,
+        ) {
+            Ok(Some(task)) => {
+                let done = held.state.take_done();
+                let mut left = self.end_turn(seat, held);
+                for _ in 1..done {
+                    if let Begun::Run(_, resting) = self.word.begin(seat) {
+                        left = self.word.end(seat, resting);
+                    }
+                }
+                Ok(VisitOutcome::Turn(task, left))
+            }
             Ok(None) => Ok(VisitOutcome::Nothing(self.leave(seat, held))),
             Err(fault) => {
                 self.leave(seat, held);

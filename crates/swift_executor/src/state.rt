@@ -11,7 +11,7 @@ ghost use Rattle.swift_script.specs.Scripts.{executor_actors, executor_invariant
 ghost use Rattle.swift_executor.specs.Ready.{HasRoom, tasks_in, times};
 ghost use Rattle.swift_executor.specs.State.{ExecInvariant, chosen_count, fields_at, new_executor};
 
-use crate::chosen::{Chosen, PlayedTurn};
+use crate::chosen::{Aside, Chosen, PlayedTurn};
 use crate::fields::Fields;
 use crate::home::Home;
 use crate::ready::ReadyJobs;
@@ -47,6 +47,8 @@ pub struct ExecState {
     pub(crate) played: PlayedTurn,
     // How many turns are still to begin before they are played, after one that was played ahead in vain.
     pub(crate) pauses: u32,
+    pub(crate) asides: Vec<Aside>,
+    pub(crate) done: u32,
 }
 
 impl Model for ExecState {
@@ -79,6 +81,10 @@ impl ExecState {
         let fields = script.executor_start(alloc, executor)?;
         let start = script.executor_start(alloc, executor)?;
         let home = Home::new(alloc, script, executor)?;
+        let mut asides = Vec::with_capacity(alloc, 16)?;
+        for _ in 0..16 {
+            asides.push_reserved(Aside::none(alloc));
+        }
         let ready = ReadyJobs::with_room(alloc, room)?;
         Ok(ExecState {
             alloc,
@@ -89,6 +95,8 @@ impl ExecState {
             checkpoint: Checkpoint::new(alloc, start),
             played: PlayedTurn::new(alloc, fields),
             pauses: 0,
+            asides,
+            done: 0,
         })
     }
 
@@ -163,6 +171,8 @@ impl ExecState {
             checkpoint,
             played,
             pauses: _,
+            asides: _,
+            done: _,
         } = self;
         match job {
             None => (ready.into_jobs(), journal, played.into_fields(), checkpoint),
