@@ -3,6 +3,7 @@
 ghost use Rattle.std.specs.Prelude.{◌≤◌, All, IfOk, length};
 ghost use Rattle.swift_syntax.specs.Places.{IsBlamedIn, IsTokenOf};
 ghost use Rattle.swift_translation.specs.MethodPlaces.{IsPlaceIn};
+ghost use Rattle.swift_translation.specs.ScriptTextsInside.{IsScriptOf};
 ghost use Rattle.swift_translation.specs.Translations.{IfPlaced, IfRefused, IfScript};
 
 use crate::places::{MethodPlace, places};
@@ -44,6 +45,7 @@ fn written(
     ensures script { IfOk result (IfScript (λ s. length s ≤ BYTES)) }
     ensures placed { IfOk result (IfPlaced (IsPlaceIn text.now)) }
     ensures blamed { IfOk result (IfRefused (IsBlamedIn text.now)) }
+    ensures text { IfOk result (IfScript (IsScriptOf text.now tokens.now tree.now.value code.now)) }
 {
     let source = Source::new(alloc, text, tokens, tree, code);
     let (script, breach) = script(&source);
