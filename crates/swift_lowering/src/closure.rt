@@ -291,7 +291,7 @@ pub(crate) fn begin_unit(lowering: &mut Lowering<'_>, token: usize) -> OpenUnit
     OpenUnit { unit, skip }
 }
 
-/// A unit that a closure becomes ends here, before a token.
+/// A unit that a closure becomes ends here, with a token.
 pub(crate) fn end_unit(lowering: &mut Lowering<'_>, begun: OpenUnit, end: usize)
     ensures refused { KeepsRefusal lowering.old lowering.new }
 {
@@ -371,7 +371,7 @@ pub(crate) fn end_closure(
 {
     let kind = lowering.setting.result.unwrap_or(Kind::Void);
     let is_throwing = lowering.setting.has_thrown;
-    end_unit(lowering, closure.begun, body.to);
+    end_unit(lowering, closure.begun, body.to.saturating_sub(1));
     leave(lowering, closure.boundary);
     lowering.setting = closure.outer;
     MadeClosure {
