@@ -13,6 +13,7 @@ pub mod Counting
 pub mod ChosenJob
 pub mod StateKept
 pub mod TurnKept
+pub mod TurnsAside
 pub mod Turned
 pub mod Ended
 pub mod Picked

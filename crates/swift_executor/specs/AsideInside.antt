@@ -12,10 +12,12 @@ use Rattle.swift_executor.specs.FieldsInside.{FieldsAre}
 use Rattle.swift_executor.specs.PlayedAheadInside.{ChoosesAhead, PlaysAhead}
 use Rattle.swift_executor.specs.PlayingInside.{StageIsPlayed, WritesRecord}
 use Rattle.swift_executor.specs.Ready.{ReadyJob}
-use Rattle.swift_executor.specs.State.{BelongsTo, ChosenView, ExecStateView}
+use Rattle.swift_executor.specs.State.{BelongsTo, ChosenView, ExecInvariant, ExecStateView}
 use Rattle.swift_executor.specs.StateInside.{chosen_view}
 use Rattle.swift_executor.specs.declared.aside.Aside.{Aside}
+use Rattle.swift_executor.specs.declared.chosen.ChosenStage.{ChosenStage}
 use Rattle.swift_executor.specs.declared.chosen.PlayedTurn.{PlayedTurn}
+use Rattle.swift_journal.specs.Records.{RecordView}
 
 -- what is aside, as a turn that was played on fields that are so
 abbrev pub played_on : Aside → FieldsAre → PlayedTurn
@@ -53,18 +55,36 @@ pub record IsShuffled (old new : ExecStateView) : Type 0 where
   pub belongs : All (λ x. BelongsTo old.script old.executor x.job) new.ready.front
   pub same : new ≡ record old { ready = record old.ready { front = new.ready.front } }
 
--- By the levels that were given before a job was chosen in this state, its turn was played on this worker, and is aside; and then the
--- state was so.
+-- The turn is aside, of a state that was right; since then only jobs in front have become others.
+pub record WasAside (s : ExecStateView) (a : Aside) (now : ExecStateView) : Type 0 where
+  pub keeps : ExecInvariant s
+  pub is : IsAside s a
+  pub shuffled : IsShuffled (after_aside s a is) now
+
+-- No job was chosen. By the levels that were given before, one was chosen in this state, its turn was played on this worker, and is aside;
+-- and then the state was so.
 pub record PlaysAside (worker : ℕ) (s : ExecStateView) (a : Aside) (next : ExecStateView) : Type 0 where
+  pub free : s.chosen ≡ None
   pub task : TaskId
   pub picked : ExecStateView
   pub chooses : ChoosesAhead s picked task
   pub chosen : ChosenView
   pub played : ExecStateView
   pub plays : PlaysAhead picked worker chosen played
+  pub keeps : ExecInvariant played
   pub sets : SetsAside played next a
 
 -- So it was with each of these turns in turn, from the first on; and then only jobs in front were others.
 abbrev pub PlayAside : ℕ → ExecStateView → List Aside → ExecStateView → Type 0
 PlayAside worker s [] new = IsShuffled s new
 PlayAside worker s (a ∷ others) new = (next : ExecStateView) × PlaysAside worker s a next × PlayAside worker next others new
+
+-- no turn is aside there
+abbrev pub IsFree : Aside → Type 0
+IsFree a = a.chosen.job ≡ None
+
+-- the record of a turn that was played is written, the journal is not full, and no job of the task waits behind
+pub record IsWritten (behind : List (JobView BodyView)) (p : PlayedTurn) (stage : ChosenStage) (old new : List RecordView) (j : JobView BodyView) : Type 0 where
+  pub written : WritesRecord p stage j old new
+  pub few : length new < FOLD
+  pub alone : All (λ k. k.task ≢ j.task) behind
