@@ -14,6 +14,7 @@ pub mod ChosenJob
 pub mod StateKept
 pub mod TurnKept
 pub mod TurnsAside
+pub mod PlayedOn
 pub mod Turned
 pub mod Ended
 pub mod Picked
