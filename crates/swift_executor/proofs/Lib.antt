@@ -13,6 +13,8 @@ pub mod Counting
 pub mod ChosenJob
 pub mod StateKept
 pub mod TurnKept
+pub mod TurnsAside
+pub mod PlayedOn
 pub mod Turned
 pub mod Ended
 pub mod Picked

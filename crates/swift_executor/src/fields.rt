@@ -4,6 +4,7 @@ ghost use Rattle.std.specs.Prelude.{◌≡◌, ◌<◌, [], IfOk, OnErr, OnOk, g
 ghost use Rattle.futures.specs.Task.{Keeps};
 ghost use Rattle.script_code.specs.Seen.{rows_of};
 ghost use Rattle.swift_interpreter.specs.Frames.{effect_views, frame_view};
+ghost use Rattle.swift_interpreter.specs.Saved.{restored};
 ghost use Rattle.swift_interpreter.specs.TurnStates.{exit_view};
 ghost use Rattle.swift_script.specs.Scripts.{method_count};
 ghost use Rattle.swift_turn.specs.Body.{IfRunning, IsRunning, Polls, at_rest, entered, idle, left};
@@ -12,6 +13,7 @@ ghost use Rattle.swift_executor.specs.PlayingInside.{MaySpare};
 use futures::task::Context;
 use std::alloc::{AllocError, Global};
 use std::marker::Model;
+use std::mem;
 use swift_interpreter::{Effect, Exit, Frame, SavedRows};
 use swift_turn::{Body, play_turn_from};
 use swift_types::{Env, Resume};
@@ -82,6 +84,24 @@ impl Fields {
         ensures { self.new ≡ record { before = self.old.after; after = self.old.after } }
     {
         self.saved.clear();
+    }
+
+    /// They stay as the turn has left them. The rows that it has set go aside, as they were.
+    pub fn set_aside(&mut self, saved: &mut SavedRows)
+        ensures fields { self.new ≡ record { before = self.old.after; after = self.old.after } }
+        ensures back { restored saved.new self.old.after ≡ self.old.before }
+    {
+        mem::swap(&mut self.saved, saved);
+        self.keep();
+    }
+
+    /// The rows that a turn has set come back from aside, where all later turns were taken back. One of these that was played last is put
+    /// back first. In time by the rows that that one has set.
+    pub fn bring_back(&mut self, saved: &mut SavedRows)
+        ensures { self.new ≡ record { before = restored saved.old self.old.before; after = self.old.before } }
+    {
+        self.saved.put_back(&mut self.rows);
+        mem::swap(saved, &mut self.saved);
     }
 
     /// As they were before the turn.

@@ -25,6 +25,8 @@ mod playing;
 mod turns;
 // A turn that begins, and one that ends.
 mod ending;
+// A turn that waits for its book.
+mod aside;
 // A turn that is committed after it was played.
 mod committing;
 // A turn of a visit that is played before it has begun.

@@ -1,6 +1,6 @@
 //! The jobs that are ready.
 
-ghost use Rattle.std.specs.Prelude.{◌≡◌, ◌≢◌, ◌+◌, ◌<◌, ◌≤◌, ◌^◌, ◌↔◌, [], ◌∷◌, ◌++◌, All, IfOk, IfSome, IfNone, IsTrue, length, map, replicate, take, vec_capacity, vec_len, if◌then◌else◌, nat_lt};
+ghost use Rattle.std.specs.Prelude.{◌≡◌, ◌≢◌, ◌+◌, ◌<◌, ◌≤◌, ◌^◌, ◌↔◌, [], ◌∷◌, ◌++◌, All, IfOk, IfSome, IfNone, IsTrue, length, map, replicate, take, vec_capacity, vec_len, if◌then◌else◌, nat_lt, false};
 ghost use Rattle.std.specs.List.Sorted.{IsPermutation};
 ghost use Rattle.swift_types.specs.declared.id.TaskId.{TaskId};
 ghost use Rattle.swift_types.specs.declared.limits.TheConstants.{TASKS};
@@ -262,6 +262,13 @@ impl<B> ReadyJobs<B> {
         let _inside = self.queue.len();
         let job = self.behind.remove(place);
         self.queue.put(job, priority);
+    }
+
+    /// Whether a job of the task waits behind. In time by the jobs behind.
+    pub fn is_behind(&self, task: TaskId) -> bool
+        ensures { result ≡ false → All (λ j. j.task ≢ task) self.now.behind }
+    {
+        place_behind(&self.behind, task).is_some()
     }
 
     /// All jobs, in no order that means anything.
