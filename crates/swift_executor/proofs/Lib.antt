@@ -6,6 +6,7 @@ pub mod VisitsDone
 pub mod VisitSteps
 pub mod PlayedAhead
 pub mod Committed
+pub mod CommitsAside
 pub mod AccountKept
 pub mod Removed
 pub mod ReadyKept

@@ -11,14 +11,16 @@ ghost use Rattle.swift_ledger.specs.Levels.{AreLevels, HaveStayed};
 ghost use Rattle.swift_tasks.specs.Books.{BookView, IsJobOf};
 ghost use Rattle.swift_shared_book.specs.Calls.{facts_of};
 ghost use Rattle.swift_shared_book.specs.Commits.{CommitsTo, HasPlayedAhead, PlaceAfter, SameUnlessApplied};
-ghost use Rattle.swift_shared_book.specs.Shared.{IsInRun, IsSeatOf, newest};
+ghost use Rattle.swift_shared_book.specs.Shared.{IsAsTaken, IsInRun, IsSeatOf, newest};
+ghost use Rattle.swift_executor.specs.CommitAsideInside.{CommitsAside, LeavesAside, MayCommit};
 ghost use Rattle.swift_executor.specs.PlayedAheadInside.{ChoosesAhead, CommitsChosen, HasAhead, IsCurrent, SameUnlessRun, begun_as};
 ghost use Rattle.swift_executor.specs.AheadInside.{CommitsHere, RewindsJob, StageIs};
 ghost use Rattle.swift_executor.specs.PlayingInside.{CanGoBack, HasJob, StageIsPlayed};
 ghost use Rattle.swift_executor.specs.Ready.{AreAtMost};
 ghost use Rattle.swift_executor.specs.Seats.{HaveSeen};
-ghost use Rattle.swift_executor.specs.State.{HasChosen, IsPicked, IsPlayed};
+ghost use Rattle.swift_executor.specs.State.{ExecStateView, HasChosen, IsPicked, IsPlayed};
 
+use crate::aside::Aside;
 use crate::chosen::{Chosen, ChosenStage, PlayedTurn, fill, take_out};
 use crate::ending::still_orderly;
 use crate::pick::{is_known, takes_by_arrival};
@@ -27,12 +29,14 @@ use crate::ready::ReadyJobs;
 use crate::state::ExecState;
 use crate::turns::prepare;
 use std::alloc::Global;
+use std::snapshot::Snapshot;
 use std::sync::Wait;
 use swift_history::laws::{invariants_stay, lawful_grows};
+use swift_interpreter::{Effect, Exit};
 use swift_job::Job;
 use swift_journal::Journal;
 use swift_script::Script;
-use swift_shared_book::{BookLock, BookSeat, Committed, TicketedJobs};
+use swift_shared_book::{BookLock, BookSeat, Committed, OpenBook, TicketedJobs};
 use swift_tasks::Book;
 use swift_turn::Body;
 use swift_types::limits::MADE;
@@ -82,6 +86,51 @@ fn are_current(ready: &ReadyJobs<Body>, book: &mut Book, task: TaskId) -> bool
     is_known(book.levels(), task)
 }
 
+// Lets a book that was taken begin and take the turn of a job that was played, whose record is the newest of the journal as it was written,
+// where the levels by which it was chosen are current. The book is kept, as if it were given back and taken again at once.
+fn commit_open(
+    chosen: &mut Chosen,
+    ready: &ReadyJobs<Body>,
+    script: &Script,
+    exit: &Exit,
+    effects: &[Effect],
+    written: &Snapshot<Journal>,
+    is_orderly: &mut bool,
+    book: &BookLock,
+    mut taken: OpenBook,
+    jobs: &mut TicketedJobs,
+) -> (Committed, OpenBook)
+    requires untouched { IsAsTaken book.now taken.seat taken.book.value }
+    requires run { IsInRun taken.seat.knows (facts_of taken.book.value) }
+    requires script { book.now.script ≡ script.now }
+    requires jobs { jobs.old.book ≡ book.now.id }
+    requires job { HasJob chosen.old.job (λ j. IsRunning j.body × (j.body.script ≡ book.now.script)) }
+    requires plays { HasJob chosen.old.job (λ j. (r : RecordView) × (newest written.now.value ≡ Some r) × (r.exit ≡ exit_view exit.now) × (r.effects ≡ effect_views effects.now) × StageIs r.env chosen.old.stage × HasPlayedAhead book.now.script taken.seat.knows j r) }
+    requires stayed { (b : BookView) → HaveSeen b.log taken.seat.knows → (n : ℕ) (given : List ℕ) → HaveStayed b.log n → AreLevels b.log given → n ≤ ready.now.counted → AreAtMost given ready.now.levels }
+    ensures done { HasJob chosen.old.job (λ j. IfSome (newest written.now.value) (λ r. CommitsHere book.now ready.now.levels j r (map job_facts jobs.old.jobs) (map job_facts jobs.new.jobs) taken.seat.knows result.1.seat.knows is_orderly.old is_orderly.new result.0)) }
+    ensures untouched { IsAsTaken book.now result.1.seat result.1.book.value }
+    ensures run { IsInRun result.1.seat.knows (facts_of result.1.book.value) }
+    ensures place { PlaceAfter chosen.old.job chosen.new.job result.0 }
+    ensures rest { chosen.new ≡ record chosen.old { job = chosen.new.job } }
+    ensures bodies { AllByRecursion (IsJobOf book.now.script) jobs.old.jobs → AllByRecursion (IsJobOf book.now.script) jobs.new.jobs }
+    ensures lock { jobs.new.book ≡ jobs.old.book }
+    ensures same { SameUnlessApplied jobs.old jobs.new result.0 }
+{
+    let ChosenStage::Played(_, env) = chosen.stage else {
+        unreachable!()
+    };
+    let Some(job) = &chosen.job else {
+        unreachable!()
+    };
+    let task = job.task();
+    if !are_current(ready, &mut taken.book, task) {
+        return (Committed::Refused, taken);
+    }
+    *is_orderly = still_orderly(*is_orderly, script, &taken.book);
+    let place = &mut chosen.job;
+    book.commit_kept(taken, env, place, written, exit, effects, jobs)
+}
+
 // Locks the book, and lets it begin and take the turn of a job that was played, whose record is the newest of this journal, where the
 // levels by which it was chosen are current.
 fn commit_locked<R: Wait>(
@@ -110,28 +159,63 @@ fn commit_locked<R: Wait>(
     ensures lock { jobs.new.book ≡ jobs.old.book }
     ensures same { SameUnlessApplied jobs.old jobs.new result }
 {
-    let ChosenStage::Played(_, env) = chosen.stage else {
-        unreachable!()
-    };
-    let Some(job) = &chosen.job else {
-        unreachable!()
-    };
-    let task = job.task();
-    let mut taken = book.lock(rt, seat);
-    if !are_current(ready, &mut taken.book, task) {
-        book.leave(seat, taken);
-        return Committed::Refused;
-    }
-    *is_orderly = still_orderly(*is_orderly, script, &taken.book);
-    let place = &mut chosen.job;
-    book.commit(
-        seat,
-        taken,
-        env,
-        place,
-        journal,
+    let taken = book.lock(rt, seat);
+    let written = Snapshot::of(journal);
+    let (committed, kept) = commit_open(
+        chosen,
+        ready,
+        script,
         &played.exit,
         &played.effects,
+        &written,
+        is_orderly,
+        book,
+        taken,
+        jobs,
+    );
+    book.leave(seat, kept);
+    committed
+}
+
+// Commits a turn that is aside in a book that was taken by the executor's seat, as `ExecState::commit` does one that is not, and keeps the
+// book. The levels that were given have to be as they were when its job was chosen. Where it is applied, no turn is aside; where it has
+// begun in another environment, or has not begun, it is aside as before.
+pub(crate) fn commit_aside(
+    worker: u32,
+    aside: &mut Aside,
+    ready: &ReadyJobs<Body>,
+    script: &Script,
+    is_orderly: &mut bool,
+    book: &BookLock,
+    taken: OpenBook,
+    jobs: &mut TicketedJobs,
+) -> (Committed, OpenBook)
+    requires untouched { IsAsTaken book.now taken.seat taken.book.value }
+    requires run { IsInRun taken.seat.knows (facts_of taken.book.value) }
+    requires script { book.now.script ≡ script.now }
+    requires jobs { jobs.old.book ≡ book.now.id }
+    requires aside { (s : ExecStateView) × MayCommit worker book.now ready.now taken.seat.knows aside.old s }
+    ensures done { (s : ExecStateView) (m : MayCommit worker book.now ready.now taken.seat.knows aside.old s) → CommitsAside worker book.now (map job_facts jobs.old.jobs) (map job_facts jobs.new.jobs) taken.seat.knows result.1.seat.knows is_orderly.old is_orderly.new aside.old s m.is result.0 }
+    ensures aside { LeavesAside aside.old aside.new result.0 }
+    ensures untouched { IsAsTaken book.now result.1.seat result.1.book.value }
+    ensures run { IsInRun result.1.seat.knows (facts_of result.1.book.value) }
+    ensures bodies { AllByRecursion (IsJobOf book.now.script) jobs.old.jobs → AllByRecursion (IsJobOf book.now.script) jobs.new.jobs }
+    ensures lock { jobs.new.book ≡ jobs.old.book }
+    ensures same { SameUnlessApplied jobs.old jobs.new result.0 }
+{
+    let _worker = worker;
+    lawful_grows();
+    invariants_stay();
+    commit_open(
+        &mut aside.chosen,
+        ready,
+        script,
+        &aside.exit,
+        &aside.effects,
+        &aside.written,
+        is_orderly,
+        book,
+        taken,
         jobs,
     )
 }

@@ -49,16 +49,16 @@ impl BookLock {
         &self,
         given: OpenBook,
         place: &Option<Job<Body>>,
-        journal: &Journal,
+        written: &Snapshot<Journal>,
         env: Env,
     ) -> OpenBook
-        requires name { (K.job ≡ ahead_in (newest journal.now) place.now) × (K.env ≡ Some env) }
+        requires name { (K.job ≡ ahead_in (newest written.now.value) place.now) × (K.env ≡ Some env) }
         requires lock { given.seat.lock ≡ self.now.id }
-        requires gives { MayGiveBack given.seat.knows given.seat.taken (facts_of given.book.value) (BeginsNamed (ahead_in (newest journal.now) place.now) (Some env) given.seat.knows) }
+        requires gives { MayGiveBack given.seat.knows given.seat.taken (facts_of given.book.value) (BeginsNamed (ahead_in (newest written.now.value) place.now) (Some env) given.seat.knows) }
         ensures kept { IsKept self.now given.book.value result.seat result.book.value }
-        ensures begun { IfSome given.seat.taken (λ taken. BeginsNamed (ahead_in (newest journal.now) place.now) (Some env) given.seat.knows taken result.seat.knows) }
+        ensures begun { IfSome given.seat.taken (λ taken. BeginsNamed (ahead_in (newest written.now.value) place.now) (Some env) given.seat.knows taken result.seat.knows) }
     {
-        let _turns = journal.len();
+        let _written = written;
         let _there = place.is_some();
         let _env = env;
         let OpenBook {
@@ -79,17 +79,17 @@ impl BookLock {
         &self,
         given: OpenBook,
         was: &Snapshot<Option<Job<Body>>>,
-        journal: &Journal,
+        written: &Snapshot<Journal>,
         made: &[Job<Body>],
     ) -> OpenBook
-        requires name { (K.job ≡ ahead_in (newest journal.now) was.now.value) × (K.written ≡ newest journal.now) × (K.made ≡ map job_facts made.now) }
+        requires name { (K.job ≡ ahead_in (newest written.now.value) was.now.value) × (K.written ≡ newest written.now.value) × (K.made ≡ map job_facts made.now) }
         requires lock { given.seat.lock ≡ self.now.id }
-        requires gives { MayGiveBack given.seat.knows given.seat.taken (facts_of given.book.value) (CommitsNamed (ahead_in (newest journal.now) was.now.value) (newest journal.now) (map job_facts made.now) given.seat.knows) }
+        requires gives { MayGiveBack given.seat.knows given.seat.taken (facts_of given.book.value) (CommitsNamed (ahead_in (newest written.now.value) was.now.value) (newest written.now.value) (map job_facts made.now) given.seat.knows) }
         ensures kept { IsKept self.now given.book.value result.seat result.book.value }
-        ensures both { IfSome given.seat.taken (λ taken. CommitsNamed (ahead_in (newest journal.now) was.now.value) (newest journal.now) (map job_facts made.now) given.seat.knows taken result.seat.knows) }
+        ensures both { IfSome given.seat.taken (λ taken. CommitsNamed (ahead_in (newest written.now.value) was.now.value) (newest written.now.value) (map job_facts made.now) given.seat.knows taken result.seat.knows) }
     {
         let _was = was;
-        let _turns = journal.len();
+        let _written = written;
         let _made = made.len();
         let OpenBook {
             book,
@@ -128,20 +128,20 @@ impl BookLock {
         &self,
         given: OpenBook,
         was: &Snapshot<Option<Job<Body>>>,
-        journal: &Journal,
+        written: &Snapshot<Journal>,
         made: &[Job<Body>],
         tickets: &mut BookSeat,
     ) -> OpenBook
         requires lock { given.seat.lock ≡ self.now.id }
-        requires gives { MayGiveBack given.seat.knows given.seat.taken (facts_of given.book.value) (CommitsNamed (ahead_in (newest journal.now) was.now.value) (newest journal.now) (map job_facts made.now) given.seat.knows) }
+        requires gives { MayGiveBack given.seat.knows given.seat.taken (facts_of given.book.value) (CommitsNamed (ahead_in (newest written.now.value) was.now.value) (newest written.now.value) (map job_facts made.now) given.seat.knows) }
         requires taken { IsSome given.seat.taken }
-        requires job { IsSome (ahead_in (newest journal.now) was.now.value) }
+        requires job { IsSome (ahead_in (newest written.now.value) was.now.value) }
         requires tickets { (tickets.old.lock ≡ self.now.id) × (tickets.old.here ≡ true) }
         ensures kept { IsKept self.now given.book.value result.seat result.book.value }
-        ensures both { IfSome given.seat.taken (λ taken. CommitsHanded (ahead_in (newest journal.now) was.now.value) (newest journal.now) given.seat.knows taken result.seat.knows) }
+        ensures both { IfSome given.seat.taken (λ taken. CommitsHanded (ahead_in (newest written.now.value) was.now.value) (newest written.now.value) given.seat.knows taken result.seat.knows) }
         ensures tickets { tickets.new ≡ seat_of self.now (gathered (tickets_view given.seat.knows.script made.now) tickets.old.knows) }
     {
-        let kept = self.keep_both::<Brand>(given, was, journal, made);
+        let kept = self.keep_both::<Brand>(given, was, written, made);
         let (left, parted) = self.part_open::<Brand>(kept, made.len());
         self.append(tickets, parted);
         left
@@ -171,7 +171,7 @@ impl BookLock {
         mut taken: OpenBook,
         env: Env,
         place: &mut Option<Job<Body>>,
-        journal: &Journal,
+        written: &Snapshot<Journal>,
         exit: &Exit,
         effects: &[Effect],
         jobs: &mut Vec<Job<Body>>,
@@ -181,8 +181,8 @@ impl BookLock {
         requires run { IsInRun taken.seat.knows (facts_of taken.book.value) }
         requires tickets { (tickets.old.lock ≡ self.now.id) × HasTicketsOf jobs.old.items tickets.old }
         requires job { IsSomeAnd place.old (λ j. IsRunning j.body × (j.body.script ≡ self.now.script)) }
-        requires played { IsSomeAnd place.old (λ j. (r : RecordView) × (newest journal.now ≡ Some r) × (r.exit ≡ exit_view exit.now) × (r.effects ≡ effect_views effects.now) × (r.env ≡ env) × HasPlayedAhead self.now.script taken.seat.knows j r) }
-        ensures done { IsSomeAnd place.old (λ j. IfSome (newest journal.now) (λ r. CommitsTo taken.book.value j r (map job_facts jobs.old.items) (map job_facts jobs.new.items) taken.seat.knows result.1.seat.knows result.0)) }
+        requires played { IsSomeAnd place.old (λ j. (r : RecordView) × (newest written.now.value ≡ Some r) × (r.exit ≡ exit_view exit.now) × (r.effects ≡ effect_views effects.now) × (r.env ≡ env) × HasPlayedAhead self.now.script taken.seat.knows j r) }
+        ensures done { IsSomeAnd place.old (λ j. IfSome (newest written.now.value) (λ r. CommitsTo taken.book.value j r (map job_facts jobs.old.items) (map job_facts jobs.new.items) taken.seat.knows result.1.seat.knows result.0)) }
         ensures untouched { IsAsTaken self.now result.1.seat result.1.book.value }
         ensures place { PlaceAfter place.old place.new result.0 }
         ensures bodies { AllByRecursion (IsJobOf self.now.script) jobs.old.items → AllByRecursion (IsJobOf self.now.script) jobs.new.items }
@@ -195,18 +195,18 @@ impl BookLock {
             return (Committed::Refused, taken);
         };
         if given != env {
-            let begun = self.keep_ahead::<Brand>(taken, place, journal, given);
+            let begun = self.keep_ahead::<Brand>(taken, place, written, given);
             return (Committed::Begun(given), begun);
         }
         let before = jobs.len();
         match taken.book.apply_in(place, exit, effects, jobs) {
             Ok(()) => {
                 let made = jobs_from(jobs, before);
-                let kept = self.keep_commit(taken, &was, journal, made, tickets);
+                let kept = self.keep_commit(taken, &was, written, made, tickets);
                 (Committed::Applied, kept)
             }
             Err(_) => {
-                let begun = self.keep_ahead::<Brand>(taken, place, journal, given);
+                let begun = self.keep_ahead::<Brand>(taken, place, written, given);
                 (Committed::Begun(given), begun)
             }
         }
@@ -214,13 +214,14 @@ impl BookLock {
 
     /// Commits a turn in a book that was taken, as `commit` does, and keeps the book, which is then as if it were given back and taken
     /// again at once (our own). So a thread commits several turns by one lock: to take it from another processor costs more than a turn's
-    /// begin and end do.
+    /// begin and end do. `written` is the journal as it was with the record of the turn as its newest; later turns may have been written to
+    /// it since.
     pub fn commit_kept(
         &self,
         taken: OpenBook,
         env: Env,
         place: &mut Option<Job<Body>>,
-        journal: &Journal,
+        written: &Snapshot<Journal>,
         exit: &Exit,
         effects: &[Effect],
         jobs: &mut TicketedJobs,
@@ -229,8 +230,8 @@ impl BookLock {
         requires run { IsInRun taken.seat.knows (facts_of taken.book.value) }
         requires jobs { jobs.old.book ≡ self.now.id }
         requires job { IsSomeAnd place.old (λ j. IsRunning j.body × (j.body.script ≡ self.now.script)) }
-        requires played { IsSomeAnd place.old (λ j. (r : RecordView) × (newest journal.now ≡ Some r) × (r.exit ≡ exit_view exit.now) × (r.effects ≡ effect_views effects.now) × (r.env ≡ env) × HasPlayedAhead self.now.script taken.seat.knows j r) }
-        ensures done { IsSomeAnd place.old (λ j. IfSome (newest journal.now) (λ r. CommitsTo taken.book.value j r (map job_facts jobs.old.jobs) (map job_facts jobs.new.jobs) taken.seat.knows result.1.seat.knows result.0)) }
+        requires played { IsSomeAnd place.old (λ j. (r : RecordView) × (newest written.now.value ≡ Some r) × (r.exit ≡ exit_view exit.now) × (r.effects ≡ effect_views effects.now) × (r.env ≡ env) × HasPlayedAhead self.now.script taken.seat.knows j r) }
+        ensures done { IsSomeAnd place.old (λ j. IfSome (newest written.now.value) (λ r. CommitsTo taken.book.value j r (map job_facts jobs.old.jobs) (map job_facts jobs.new.jobs) taken.seat.knows result.1.seat.knows result.0)) }
         ensures untouched { IsAsTaken self.now result.1.seat result.1.book.value }
         ensures run { IsInRun result.1.seat.knows (facts_of result.1.book.value) }
         ensures place { PlaceAfter place.old place.new result.0 }
@@ -243,7 +244,7 @@ impl BookLock {
             taken,
             env,
             place,
-            journal,
+            written,
             exit,
             effects,
             &mut jobs.jobs,
@@ -285,7 +286,8 @@ impl BookLock {
         ensures lock { jobs.new.book ≡ jobs.old.book }
         ensures same { SameUnlessApplied jobs.old jobs.new result }
     {
-        let (committed, kept) = self.commit_kept(taken, env, place, journal, exit, effects, jobs);
+        let written = Snapshot::of(journal);
+        let (committed, kept) = self.commit_kept(taken, env, place, &written, exit, effects, jobs);
         self.leave(seat, kept);
         committed
     }

@@ -9,7 +9,7 @@ publish-requires-clause-rule g c =
     let named = g.K.NamesBegun in
     let may =
     subst (λ (o : Option JobFacts). MayGiveBack b.seat.knows b.seat.taken (facts_of b.book.value) (BeginsNamed o named.env b.seat.knows)) (sym c.requires.name.0)
-    (subst (λ (o : Option Env). MayGiveBack b.seat.knows b.seat.taken (facts_of b.book.value) (BeginsNamed (ahead_in (newest c.args.journal.now) c.args.place.now) o b.seat.knows)) (sym c.requires.name.1) c.requires.gives)
+    (subst (λ (o : Option Env). MayGiveBack b.seat.knows b.seat.taken (facts_of b.book.value) (BeginsNamed (ahead_in (newest c.args.written.now.value) c.args.place.now) o b.seat.knows)) (sym c.requires.name.1) c.requires.gives)
     in
     unlocks s.held s.known _ (BeginsNamed named.job named.env s.known.view)
     (subst (λ (o : OpenBook). MayGiveBack o.seat.knows o.seat.taken (facts_of o.book.value) (BeginsNamed named.job named.env o.seat.knows)) (sym c.given.view_is) may)

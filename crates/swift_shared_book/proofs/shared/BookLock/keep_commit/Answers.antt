@@ -8,6 +8,6 @@ returns-clause-tickets c =
     let made = c.args.made.now in
     let parted : c.part_open-left.result.1.knows ≡ tickets_view b.seat.knows.script made =
     ap (λ (s : BookSeatView). s.knows) c.part_open-left.ensures.new
-    ∙ parted_committed b.seat.taken (newest c.args.journal.now) c.args.was.now.value made b.seat.knows c.keep_both-kept.result.seat.knows c.requires.taken c.requires.job c.keep_both-kept.ensures.both
+    ∙ parted_committed b.seat.taken (newest c.args.written.now.value) c.args.was.now.value made b.seat.knows c.keep_both-kept.result.seat.knows c.requires.taken c.requires.job c.keep_both-kept.ensures.both
     in
     c.append.ensures ∙ ap (λ (x : BookKnown). seat_of c.args.self.now (gathered x c.args.tickets.now.knows)) parted
