@@ -1,5 +1,5 @@
 -- What closures, groups and `do` put, from what is called.
-use Rattle.std.proofs.Common.{◌≡◌, ◌<◌, ◌≤◌, ◌+◌, ◌-◌, ℕ, Bool, true, false, Option, None, Some, length, ℤ, pos, arith, refl, sym, ap, subst, ◌∙◌, ◌⊎◌, inl, inr, slice_get}
+use Rattle.std.proofs.Common.{◌≡◌, ◌<◌, ◌≤◌, ◌+◌, ◌-◌, ℕ, Bool, true, false, Option, None, Some, length, ℤ, pos, arith, refl, sym, ap, subst, ◌∙◌, slice_get}
 use Rattle.swift_syntax.specs.declared.tree.ExprForm.TheVariants as expr
 use Rattle.swift_syntax.specs.declared.tree.Into.{Into}
 use Rattle.swift_syntax.specs.declared.tree.Receiver.{Receiver}
@@ -24,8 +24,9 @@ use Rattle.swift_expressions.proofs.Stepped.{lowered_from}
 use Rattle.swift_lowering.specs.Blocks as blocks
 use Rattle.swift_lowering.specs.Blocks.{AttemptsAll, AttemptsBlock, BeginsChild, Does, DoesAll, DoesBlock, DoesClosed, Encloses, Says, SaysClosed, StartsChild, end_where}
 use Rattle.swift_lowering.specs.Catching.{Catches, GivesCaught, begin_at_zero, begin_or, caught_wait, is_lone_wait, open_caught, open_rest, with_flag}
+use Rattle.swift_lowering.specs.Alone.{IsLone}
 use Rattle.swift_lowering.specs.Closures as closures
-use Rattle.swift_lowering.specs.Closures.{Captures, CapturesAll, HandsOver, IsDirect, IsGiven, IsOfChild, OpensClosure, Receives, SaysOne, handed, in_closure, uncovered, with_setting}
+use Rattle.swift_lowering.specs.Closures.{Captures, CapturesAll, HandsOver, IsDirect, IsGiven, IsOfChild, OpensClosure, Receives, handed, in_closure, uncovered, with_setting}
 use Rattle.swift_lowering.specs.Groups.{BeginsBind, BeginsGroup, GivesClosed, entered, result_variable, with_result}
 use Rattle.swift_lowering.specs.Returning.{has_rest, leaves_early}
 use Rattle.swift_lowering.specs.Statements.{as_set, given_back, result_given}
@@ -84,10 +85,9 @@ child_started {t = t} {u = u} {stmt} {variable = variable} {count} {body} {calle
 pub says_all : {s u t : State} {body : ClosureBody} → body.value ≡ 0 → DoesAll (length s.tree.stmts.items) s body.first u → t ≡ u → Says s body t
 says_all {s} {body = body} is h e = blocks.statements is (subst (λ x. DoesAll (length s.tree.stmts.items) s body.first x) (sym e) h)
 
--- the one value of a block that has one
-pub one_of : {s : State} {first place : ℕ} → (place ≡ 0) ⊎ SaysOne s first place → (place ≡ 0 → ⊥) → SaysOne s first place
-one_of (inl e) other = absurd (other e)
-one_of (inr is) other = is
+-- a block says more than a value
+pub more_than_one : {s : State} {first place : ℕ} → place ≡ 0 → IsLone s first place → IsLone s first 0
+more_than_one {s} {first} e h = subst (λ x. IsLone s first x) e h
 
 -- the block of a group or a binding
 pub closed_by : {s r t : State} {first variable : ℕ} → (blocks : ℕ) × (r ≡ entered variable blocks s) → SaysClosed r first t → DoesClosed s first variable (as_set s t)

@@ -250,14 +250,14 @@ mutual
 
   says_grow : {s t : State} {body : ClosureBody} → Says s body t → Grows s t
   says_grow (blocks.statements is h) = all_grow h
-  says_grow (blocks.value_alone g) = to g.state (puts _ (lowers_grow g.lowers))
+  says_grow (blocks.value_alone other g) = to g.state (puts _ (lowers_grow g.lowers))
 
   closed_grows : {s t : State} {first variable : ℕ} → DoesClosed s first variable t → Grows s t
   closed_grows {s} (blocks.closed b h e) = to e (alike (on (alike (stays s) refl refl refl) (says_closed_grow h)) refl refl refl)
 
   says_closed_grow : {s t : State} {first : ℕ} → SaysClosed s first t → Grows s t
-  says_closed_grow (blocks.one_value {t = t} {found = found} is h e) = on (lowers_grow h) (to e (result_grows t.returns found t))
-  says_closed_grow (blocks.as_block h) = block_grows h
+  says_closed_grow (blocks.one_value {t = t} {found = found} is other h e) = on (lowers_grow h) (to e (result_grows t.returns found t))
+  says_closed_grow (blocks.as_block is h) = block_grows h
 
   block_grows : {s t : State} {first : ℕ} → DoesBlock s first t → Grows s t
   block_grows (blocks.whole h e) = to e (alike (all_grow h) refl refl refl)

@@ -4,5 +4,6 @@ pub mod Changes
 pub mod Enclosed
 pub mod Growing
 pub mod Grown
+pub mod OneValue
 pub mod Returning
 pub mod Stated

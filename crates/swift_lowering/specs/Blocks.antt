@@ -25,8 +25,9 @@ use Rattle.swift_expressions.specs.declared.code.Wait.TheVariants as waiting
 use Rattle.swift_expressions.specs.declared.scope.Binding.{Binding}
 use Rattle.swift_expressions.specs.declared.scope.Standing.TheVariants as standings
 use Rattle.swift_expressions.specs.declared.typed.Typed.{Typed}
+use Rattle.swift_lowering.specs.Alone.{IsLone}
 use Rattle.swift_lowering.specs.Catching.{Catches, GivesCaught, begin_at_zero, caught_wait, is_lone_wait, open_caught, open_rest, with_flag}
-use Rattle.swift_lowering.specs.Closures.{IsDirect, IsGiven, IsOfChild, IsOfTask, OpensClosure, SaysOne}
+use Rattle.swift_lowering.specs.Closures.{IsDirect, IsGiven, IsOfChild, IsOfTask, OpensClosure}
 use Rattle.swift_lowering.specs.Groups.{BeginsBind, BeginsGroup, GivesClosed, entered, result_variable, with_result}
 use Rattle.swift_lowering.specs.Returning.{has_rest, leaves_early, may_return}
 use Rattle.swift_lowering.specs.Statements.{DoesPlain, as_set, result_given}
@@ -238,7 +239,7 @@ mutual
   -- What the statements of a closure become, or its value where it says nothing else.
   pub data Says : State → ClosureBody → State → Type 0 where
     statements : {s t : State} {body : ClosureBody} → body.value ≡ 0 → DoesAll (length s.tree.stmts.items) s body.first t → Says s body t
-    value_alone : {s t : State} {body : ClosureBody} → IsGiven s body.value t → Says s body t
+    value_alone : {s t : State} {body : ClosureBody} → (body.value ≡ 0 → ⊥) → IsGiven s body.value t → Says s body t
 
   -- What the block of a group or a binding becomes, which gives its value to a variable.
   pub data DoesClosed : State → ℕ → ℕ → State → Type 0 where
@@ -246,8 +247,8 @@ mutual
 
   -- What it says: its statements, or its value where it says nothing else.
   pub data SaysClosed : State → ℕ → State → Type 0 where
-    one_value : {s t u : State} {first place : ℕ} {found : Typed} → SaysOne s first place → Lowers s place t found → u ≡ result_given t.returns found t → SaysClosed s first u
-    as_block : {s t : State} {first : ℕ} → DoesBlock s first t → SaysClosed s first t
+    one_value : {s t u : State} {first place : ℕ} {found : Typed} → IsLone s first place → (place ≡ 0 → ⊥) → Lowers s place t found → u ≡ result_given t.returns found t → SaysClosed s first u
+    as_block : {s t : State} {first : ℕ} → IsLone s first 0 → DoesBlock s first t → SaysClosed s first t
 
   -- What a block becomes: its names end with it.
   pub data DoesBlock : State → ℕ → State → Type 0 where

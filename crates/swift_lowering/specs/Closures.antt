@@ -1,17 +1,14 @@
 -- What a closure captures, and how it begins. (Our own.)
-use Rattle.std.specs.Prelude.{ℕ, ◌≡◌, ◌⊎◌, Bool, true, false, length, Some}
+use Rattle.std.specs.Prelude.{ℕ, ◌≡◌, Bool, true, false, length, Some}
 use Rattle.std.specs.List.{slice_get}
 use Rattle.swift_syntax.specs.Expressions.{after}
 use Rattle.swift_syntax.specs.declared.tree.ExprForm.{ExprForm}
 use Rattle.swift_syntax.specs.declared.tree.ExprForm.TheVariants as expr
-use Rattle.swift_syntax.specs.declared.tree.Into.{Into}
-use Rattle.swift_syntax.specs.declared.tree.Into.TheVariants as goes
 use Rattle.swift_syntax.specs.declared.tree.Receiver.{Receiver}
 use Rattle.swift_syntax.specs.declared.tree.Stmt.{Stmt}
-use Rattle.swift_syntax.specs.declared.tree.StmtForm.TheVariants as form
 use Rattle.swift_syntax.specs.declared.tree.TaskForm.{TaskForm}
 use Rattle.swift_expressions.specs.Lowered.{Hands, Lowers, no_operands}
-use Rattle.swift_expressions.specs.States.{Binds, IsDeclared, State, form_at, next_value, next_variable, put, stmt_at, with_operand, with_value}
+use Rattle.swift_expressions.specs.States.{Binds, IsDeclared, State, form_at, next_value, next_variable, put, with_operand, with_value}
 use Rattle.swift_expressions.specs.declared.code.Callee.{Callee}
 use Rattle.swift_expressions.specs.declared.code.Callee.TheVariants as callees
 use Rattle.swift_expressions.specs.declared.code.Instruction.TheVariants as instruction
@@ -24,6 +21,7 @@ use Rattle.swift_expressions.specs.declared.operands.Operands.{Operands}
 use Rattle.swift_expressions.specs.declared.scope.Binding.{Binding}
 use Rattle.swift_expressions.specs.declared.scope.Standing.TheVariants as standings
 use Rattle.swift_expressions.specs.declared.typed.Typed.{Typed}
+use Rattle.swift_lowering.specs.Alone.{IsLone}
 use Rattle.swift_lowering.specs.Catching.{begin_or}
 use Rattle.swift_lowering.specs.Statements.{given_back}
 use Rattle.swift_lowering.specs.Units.{BeginsUnit, in_unit}
@@ -102,27 +100,10 @@ pub record IsDirect (s : State) (place : ℕ) (t : State) (callee : Callee) : Ty
 abbrev pub with_setting : Setting → State → State
 with_setting o s = record s { unit = o.unit; actor = o.actor; boundary = o.boundary; is_closure = o.is_closure; is_expectation = o.is_expectation; is_awaited = o.is_awaited; fallback = o.fallback; returns = o.returns; groups = o.groups }
 
--- whether a value goes back, or is let go
-abbrev pub may_go_back : Into → Bool
-may_go_back goes.Nothing = true
-may_go_back goes.Return = true
-may_go_back (goes.Let name wanted) = false
-may_go_back (goes.Var name wanted) = false
-may_go_back (goes.Assign name) = false
-
--- The one value that a block says, if it is no more.
-pub record SaysOne (s : State) (first place : ℕ) : Type 0 where
-  pub stmt : Stmt
-  pub there : stmt_at s first ≡ Some stmt
-  pub alone : stmt.next ≡ 0
-  pub into : Into
-  pub is : stmt.form ≡ form.Value into place
-  pub goes_back : may_go_back into ≡ true
-
 -- What a task says: its statements, or its value where that is one alone.
 pub record IsOfTask (s : State) (stmt : Stmt) (what : TaskForm) (body : ClosureBody) : Type 0 where
   pub first : body.first ≡ what.body
-  pub value : (body.value ≡ 0) ⊎ SaysOne s what.body body.value
+  pub value : IsLone s what.body body.value
   pub from : body.from ≡ after stmt.token
   pub to : body.to ≡ stmt.end
   pub is_implicit : body.is_implicit ≡ false

@@ -8,6 +8,8 @@ pub mod Statements
 pub mod Units
 -- What a `do` catches.
 pub mod Catching
+-- What of a block is but a value.
+pub mod Alone
 -- What closures capture.
 pub mod Closures
 -- The blocks of groups and bindings.

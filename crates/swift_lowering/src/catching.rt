@@ -9,7 +9,7 @@ ghost use Rattle.swift_expressions.specs.States.{Becomes, next_value, put, form_
 ghost use Rattle.swift_lowering.specs.Catching.{Catches, HandsOn, Rewires, Tells, Tries, Wraps, begin_or, came_to, caught_wait, fault_sign, given_as_it_was, is_int, is_lone_wait, begin_at_zero, open_caught, open_rest, open_where, with_flag, tried_in, variable_for, with_variable_for, zero_freed};
 ghost use Rattle.swift_lowering.specs.Units.{with_instruction};
 
-use crate::closure::{begin_unit, end_unit, exchange};
+use crate::unit::{begin_unit, end_unit, exchange};
 use swift_expressions::{
     Fallback, Instruction, Kind, Lowering, NONE, Target, Typed, Value, Wait, count_down, count_up,
     expression, want_wait, with_kind,

@@ -1,21 +1,21 @@
 //! Closures, and the methods that they become.
 
-ghost use Rattle.std.specs.Prelude.{◌≡◌, ◌-◌, ◌⊎◌, ℕ, IfNone, IfSome, IsNone, IsTrue, length, slice_get};
+ghost use Rattle.std.specs.Prelude.{◌≡◌, ◌-◌, IfNone, IfSome, IsNone, length};
 ghost use Rattle.swift_expressions.specs.Instructions.{KeepsRefusal};
 ghost use Rattle.swift_expressions.specs.States.{Becomes, form_at, left_to, state_of};
-ghost use Rattle.swift_lowering.specs.Closures.{HandsOver, IsDirect, IsGiven, OpensClosure, SaysOne, covered_by, in_closure, uncovered, with_setting};
-ghost use Rattle.swift_lowering.specs.Statements.{IsSaid};
-ghost use Rattle.swift_lowering.specs.Units.{BeginsUnit, actor_if, method_if, unit_ended, with_bounds, with_instruction};
+ghost use Rattle.swift_lowering.specs.Closures.{HandsOver, IsDirect, IsGiven, OpensClosure, covered_by, in_closure, uncovered, with_setting};
+ghost use Rattle.swift_lowering.specs.Units.{unit_ended};
 
 use crate::assignment::given_back;
 use crate::capture::{capture_all, refuse_unknown};
 use crate::returns::exits;
+use crate::unit::{OpenUnit, begin_unit, end_unit};
 use swift_expressions::{
-    Callee, Fallback, Instruction, Kind, Lowering, NONE, Returns, Setting, Standing, UnitKind,
-    actor_of, call_operands, constant_named, expression, function_named, instance_named, is_hidden,
-    kind_of, leave, method_at, method_named, standing_at, want_arguments,
+    Callee, Fallback, Instruction, Kind, Lowering, NONE, Returns, Setting, Standing, actor_of,
+    call_operands, constant_named, expression, function_named, instance_named, is_hidden, kind_of,
+    leave, method_at, method_named, standing_at, want_arguments,
 };
-use swift_syntax::{Access, ExprForm, Into, MethodDecl, Receiver, Rule, StmtForm};
+use swift_syntax::{Access, ExprForm, MethodDecl, Receiver, Rule};
 
 /// What a closure says.
 #[derive(Clone, Copy)]
@@ -47,41 +47,6 @@ pub(crate) struct MadeClosure {
     pub kind: Kind,
     /// Whether it may throw.
     pub is_throwing: bool,
-}
-
-/// The value that is all that a block says, or 0.
-pub(crate) fn lone_value(lowering: &Lowering<'_>, first: usize) -> usize
-    ensures { (result ≡ 0) ⊎ SaysOne (state_of lowering.now) first result }
-{
-    match lowering.stmt(first) {
-        Some(stmt) => match stmt.form {
-            StmtForm::Value(Into::Nothing | Into::Return, value) => {
-                if stmt.next == 0 && !is_said(lowering, value) {
-                    value
-                } else {
-                    0
-                }
-            }
-            _ => 0,
-        },
-        None => 0,
-    }
-}
-
-/// Whether an expression is a call of `print`, `precondition` or `assert`.
-pub(crate) fn is_said(lowering: &Lowering<'_>, value: usize) -> bool
-    ensures said { IsTrue result → (receiver : Receiver) (first : ℕ) → form_at (state_of lowering.now) value ≡ ExprForm.Call receiver first → IsSaid (state_of lowering.now) value }
-{
-    let expr = lowering.expr(value);
-    match expr.form {
-        ExprForm::Call(Receiver::Nobody, _) => {
-            lowering.spells(expr.token, "print")
-                || lowering.spells(expr.token, "precondition")
-                || lowering.spells(expr.token, "assert")
-        }
-        ExprForm::TryOptional(_) => true,
-        _ => false,
-    }
 }
 
 // What an `await` or a `try` covers; any other expression is itself.
@@ -314,89 +279,6 @@ fn enter(lowering: &mut Lowering<'_>, unit: usize, boundary: usize, body: Closur
         loops: 0,
         groups: 0,
     };
-}
-
-/// A unit whose instructions stand among those of another one.
-#[derive(Clone, Copy)]
-pub(crate) struct OpenUnit {
-    /// Its place.
-    pub unit: usize,
-    // The place of the instruction that goes over it.
-    skip: usize,
-}
-
-// The actor of the unit that is lowered.
-fn own_actor(lowering: &Lowering<'_>) -> usize
-    ensures { result ≡ actor_if (slice_get lowering.now.code.units.items lowering.now.setting.unit) }
-{
-    match lowering.code.units.get(lowering.setting.unit) {
-        Some(outer) => outer.actor,
-        None => NONE,
-    }
-}
-
-// The token of its method's name.
-fn own_method(lowering: &Lowering<'_>) -> usize
-    ensures { result ≡ method_if (slice_get lowering.now.code.units.items lowering.now.setting.unit) }
-{
-    match lowering.code.units.get(lowering.setting.unit) {
-        Some(outer) => outer.method,
-        None => NONE,
-    }
-}
-
-/// A unit that a closure becomes begins here, at a token.
-pub(crate) fn begin_unit(lowering: &mut Lowering<'_>, token: usize) -> OpenUnit
-    ensures begins { IsNone lowering.new.refused → BeginsUnit (state_of lowering.old) token (state_of lowering.new) }
-    ensures unit { IsNone lowering.new.refused → result.unit ≡ length lowering.old.code.units.items }
-    ensures skip { IsNone lowering.new.refused → result.skip ≡ length lowering.old.code.instructions.items }
-    ensures refused { KeepsRefusal lowering.old lowering.new }
-{
-    let actor = own_actor(lowering);
-    let method = own_method(lowering);
-    let unit = lowering.unit(UnitKind::Closure, actor, method, token);
-    let skip = lowering.here();
-    lowering.put(Instruction::Skip(0));
-    OpenUnit { unit, skip }
-}
-
-/// A unit that a closure becomes ends here, with a token.
-pub(crate) fn end_unit(lowering: &mut Lowering<'_>, begun: OpenUnit, end: usize)
-    ensures state { Becomes lowering.new (unit_ended begun.unit begun.skip end (state_of lowering.old)) }
-    ensures refused { KeepsRefusal lowering.old lowering.new }
-{
-    let here = lowering.here();
-    bound(
-        lowering,
-        begun.unit,
-        begun.skip.saturating_add(1),
-        here,
-        end,
-    );
-    exchange(lowering, begun.skip, Instruction::Skip(here));
-}
-
-// A unit has its instructions from a place on, up to another one, and ends with a token.
-fn bound(lowering: &mut Lowering<'_>, unit: usize, from: usize, to: usize, end: usize)
-    ensures state { Becomes lowering.new (with_bounds unit from to end (state_of lowering.old)) }
-    ensures instructions { lowering.new.code.instructions ≡ lowering.old.code.instructions }
-    ensures refused { KeepsRefusal lowering.old lowering.new }
-{
-    if let Some(made) = lowering.code.units.get_mut(unit) {
-        made.from = from;
-        made.to = to;
-        made.end = end;
-    }
-}
-
-/// Puts another instruction in the place of one.
-pub(crate) fn exchange(lowering: &mut Lowering<'_>, place: usize, instruction: Instruction)
-    ensures state { Becomes lowering.new (with_instruction place instruction (state_of lowering.old)) }
-    ensures refused { KeepsRefusal lowering.old lowering.new }
-{
-    if let Some(found) = lowering.code.instructions.get_mut(place) {
-        *found = instruction;
-    }
 }
 
 /// A closure that is lowered, as a unit of its own.

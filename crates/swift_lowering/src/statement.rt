@@ -6,12 +6,13 @@ ghost use Rattle.swift_expressions.specs.States.{Becomes, state_of};
 ghost use Rattle.swift_lowering.specs.Groups.{GivesClosed};
 ghost use Rattle.swift_lowering.specs.Blocks.{AttemptsAll, AttemptsBlock, CountsOn, Does, DoesAll, DoesBlock, DoesClosed, DoesElse, Encloses, LoopsOver, Repeats, Says, SaysClosed, StartsChild, open_guard};
 
+use crate::alone::lone_value;
 use crate::assignment::{begin_given, give};
 use crate::catching::{
     begin_at_zero, begin_caught, caught_wait, lone_wait, open_caught, open_rest, set_flag,
 };
 use crate::closure::{
-    ClosureBody, MadeClosure, begin_closure, direct, end_closure, give_lone, lone_value, want_end,
+    ClosureBody, MadeClosure, begin_closure, direct, end_closure, give_lone, want_end,
 };
 use crate::effect::simple;
 use crate::looping::{

@@ -11,8 +11,9 @@ ghost use Rattle.swift_lowering.specs.Returning.{leaves_early};
 ghost use Rattle.swift_lowering.specs.EndsInside.{EndsCancelled};
 ghost use Rattle.swift_lowering.specs.Statements.{result_given, result_set};
 
+use crate::alone::lone_value;
 use crate::catching::begin_at_zero;
-use crate::closure::{ClosureBody, MadeClosure, lone_value};
+use crate::closure::{ClosureBody, MadeClosure};
 use crate::returns::leaves_early;
 use swift_expressions::{
     Binding, Instruction, Kind, Lowering, NONE, Returns, Setting, Standing, Target, Typed, Value,

@@ -2,7 +2,7 @@ use Rattle.std.proofs.Common.{◌≡◌, ◌∙◌, length, ap, sym, refl, arith
 use Rattle.swift_expressions.specs.States.{left_to, state_of}
 use Rattle.swift_lowering.specs.Blocks as blocks
 use Rattle.swift_lowering.proofs.Blocked.{all_begun, all_in_child, all_on, all_spent, all_unless, conditional_does, count_on_by, guarded_does, loop_over_by, other_does, repeats_by, results_do, while_again_does, while_value_does}
-use Rattle.swift_lowering.proofs.Enclosed.{attempts_begun, attempts_caught, attempts_on, attempts_spent, attempts_unless, binds_by, catches_one_by, catches_several_by, child_started, closed_by, enclosed, groups_by, one_of, says_all}
+use Rattle.swift_lowering.proofs.Enclosed.{attempts_begun, attempts_caught, attempts_on, attempts_spent, attempts_unless, binds_by, catches_one_by, catches_several_by, child_started, closed_by, enclosed, groups_by, more_than_one, says_all}
 use Rattle.swift_lowering.proofs.statement.+statement.Goals as goal
 
 pub block-returns-clause-block : goal.block-returns-clause-block
@@ -82,13 +82,13 @@ pub say-returns-then-body-eq0-clause-says : goal.say-returns-then-body-eq0-claus
 say-returns-then-body-eq0-clause-says t c = λ n2. says_all c.if-body-eq0.true (c.statements.ensures.does (c.want_end.ensures.refused n2)) (c.want_end.ensures.state n2)
 
 pub say-returns-else-body-eq0-clause-says : goal.say-returns-else-body-eq0-clause-says
-say-returns-else-body-eq0-clause-says t c = λ n. blocks.value_alone (c.give_lone.ensures.given n)
+say-returns-else-body-eq0-clause-says t c = λ n. blocks.value_alone c.if-body-eq0.false (c.give_lone.ensures.given n)
 
 pub say_closed-returns-then-lone-eq0-clause-says : goal.say_closed-returns-then-lone-eq0-clause-says
-say_closed-returns-then-lone-eq0-clause-says t c = λ n. blocks.as_block (c.block.ensures.block n)
+say_closed-returns-then-lone-eq0-clause-says t c = λ n. blocks.as_block (more_than_one c.if-lone-eq0.true c.lone_value-lone.ensures) (c.block.ensures.block n)
 
 pub say_closed-returns-clause-says : goal.say_closed-returns-clause-says
-say_closed-returns-clause-says t c = λ n2. blocks.one_value (one_of c.lone_value-lone.ensures c.if-lone-eq0.false) (c.expression-found.ensures.lowers (c.give_result.ensures.refused n2)) (c.give_result.ensures.state n2)
+say_closed-returns-clause-says t c = λ n2. blocks.one_value c.lone_value-lone.ensures c.if-lone-eq0.false (c.expression-found.ensures.lowers (c.give_result.ensures.refused n2)) (c.give_result.ensures.state n2)
 
 pub closure_block-returns-clause-closed : goal.closure_block-returns-clause-closed
 closure_block-returns-clause-closed t c = λ n2. closed_by (c.enter_closure.ensures.enters.0, c.enter_closure.ensures.enters.1 (c.say_closed.ensures.refused n2)) (c.say_closed.ensures.says n2)
