@@ -20,8 +20,8 @@ use Rattle.swift_expressions.specs.declared.scope.Standing.TheVariants as standi
 use Rattle.swift_expressions.specs.declared.typed.Typed.{Typed}
 use Rattle.swift_expressions.proofs.Stepped.{given_as}
 use Rattle.swift_lowering.specs.Blocks as blocks
-use Rattle.swift_lowering.specs.Blocks.{AddsTask, BeginsChild, Counts, CountsOn, Does, DoesAll, DoesBlock, DoesElse, EndsChild, Fixes, IsNext, LoopsOver, MakesTask, NamesCounter, Renames, Repeats, StartsChild, TakesResults, Tests, are_in_order, child_begun, child_count, close_while, counted_in, done_where, ends_group, in_groups, open_guard, open_results, open_while, range_test, rest_where, trapped_unless, with_child_count, with_while}
-use Rattle.swift_lowering.specs.Returning.{has_rest, leaves_early, may_return}
+use Rattle.swift_lowering.specs.Blocks.{AddsTask, AttemptsBlock, BeginsChild, Counts, CountsOn, Does, DoesAll, DoesBlock, DoesElse, EndsChild, Fixes, IsNext, LoopsOver, MakesTask, NamesCounter, Renames, Repeats, StartsChild, TakesResults, Tests, are_in_order, child_begun, child_count, close_while, counted_in, done_where, ends_group, in_groups, open_guard, open_results, open_while, range_test, rest_where, trapped_unless, with_child_count, with_while}
+use Rattle.swift_lowering.specs.Returning.{has_rest, may_return}
 
 -- what is put from one state is from another one that is the same
 pub tests_from : {s r t : State} {place v : ℕ} → r ≡ s → Tests r place t v → Tests s place t v
@@ -157,5 +157,10 @@ task_added callee place b {s} {is_only = is_only} at e p n = record { place = pl
 -- no name of a block is in scope behind it
 pub names_end : {s t : State} {first : ℕ} → DoesBlock s first t → length t.scope ≤ length s.scope
 names_end {s} (blocks.whole {t = u} d e) =
+    let is = ap (λ (x : State). length x.scope) e ∙ length-take (length s.scope) u.scope in
+    omega (arith, is)
+
+pub names_of_do_end : {s t : State} {flag token first : ℕ} → AttemptsBlock s flag token first t → length t.scope ≤ length s.scope
+names_of_do_end {s} (blocks.attempted {t = u} d e) =
     let is = ap (λ (x : State). length x.scope) e ∙ length-take (length s.scope) u.scope in
     omega (arith, is)

@@ -1,10 +1,10 @@
 -- What a `do` catches, from what is called.
-use Rattle.std.proofs.Common.{◌≡◌, ◌<◌, ◌≤◌, ◌+◌, ◌-◌, ℕ, Bool, true, false, Option, None, Some, length, ℤ, pos, arith, refl, sym, ap, subst, ◌∙◌, slice_get}
+use Rattle.std.proofs.Common.{◌≡◌, ◌<◌, ◌≤◌, ◌+◌, ◌-◌, ℕ, Bool, true, false, Some, length, pos, arith, refl, sym, ap, subst, ◌∙◌, slice_get}
 use Rattle.swift_syntax.specs.declared.tree.Assigning.{Assigning}
 use Rattle.swift_syntax.specs.declared.tree.Into.{Into}
 use Rattle.swift_syntax.specs.declared.tree.StmtForm.{StmtForm}
 use Rattle.swift_syntax.specs.declared.tree.StmtForm.TheVariants as form
-use Rattle.swift_expressions.specs.States.{Gives, IsDeclared, State, left_to, next_value, next_variable, put, stmt_at, with_fallback, with_operand, with_temporary, with_value}
+use Rattle.swift_expressions.specs.States.{Gives, IsDeclared, State, next_value, next_variable, put, with_fallback, with_operand, with_temporary, with_value}
 use Rattle.swift_expressions.specs.Lowered.{Lowers}
 use Rattle.swift_expressions.specs.declared.code.Instruction.TheVariants as instruction
 use Rattle.swift_expressions.specs.declared.code.Kind.{Kind}

@@ -1,18 +1,17 @@
 -- What closures, groups and `do` put, from what is called.
-use Rattle.std.proofs.Common.{◌≡◌, ◌<◌, ◌≤◌, ◌+◌, ◌-◌, ℕ, Bool, true, false, Option, None, Some, length, ℤ, pos, arith, refl, sym, ap, subst, ◌∙◌, slice_get}
+use Rattle.std.proofs.Common.{◌≡◌, ◌<◌, ◌≤◌, ◌+◌, ◌-◌, ℕ, Bool, true, false, None, Some, length, arith, refl, sym, ap, subst, ◌∙◌, slice_get}
 use Rattle.swift_syntax.specs.declared.tree.ExprForm.TheVariants as expr
 use Rattle.swift_syntax.specs.declared.tree.Into.{Into}
 use Rattle.swift_syntax.specs.declared.tree.Receiver.{Receiver}
 use Rattle.swift_syntax.specs.declared.tree.Stmt.{Stmt}
 use Rattle.swift_syntax.specs.declared.tree.StmtForm.TheVariants as form
 use Rattle.swift_syntax.specs.declared.tree.ValueType.{ValueType}
-use Rattle.swift_expressions.specs.States.{Binds, Gives, IsBegun, IsDeclared, State, form_at, left_to, next_value, next_variable, put, state_of, stmt_at}
+use Rattle.swift_expressions.specs.States.{Binds, IsBegun, IsDeclared, State, form_at, left_to, next_variable, put, state_of, stmt_at}
 use Rattle.swift_expressions.specs.Lowered.{Hands, Lowers, kind_in, no_operands}
 use Rattle.swift_expressions.specs.declared.code.Callee.{Callee}
 use Rattle.swift_expressions.specs.declared.code.Callee.TheVariants as callees
 use Rattle.swift_expressions.specs.declared.code.Instruction.TheVariants as instruction
 use Rattle.swift_expressions.specs.declared.code.Kind.{Kind}
-use Rattle.swift_expressions.specs.declared.code.TheConstants.{NONE}
 use Rattle.swift_expressions.specs.declared.code.UnitKind.TheVariants as unit_kinds
 use Rattle.swift_expressions.specs.declared.lowering.Lowering.{Lowering}
 use Rattle.swift_expressions.specs.declared.lowering.Setting.{Setting}
@@ -20,7 +19,6 @@ use Rattle.swift_expressions.specs.declared.operands.Operands.{Operands}
 use Rattle.swift_expressions.specs.declared.scope.Binding.{Binding}
 use Rattle.swift_expressions.specs.declared.scope.Standing.TheVariants as standings
 use Rattle.swift_expressions.specs.declared.typed.Typed.{Typed}
-use Rattle.swift_expressions.proofs.Stepped.{lowered_from}
 use Rattle.swift_lowering.specs.Blocks as blocks
 use Rattle.swift_lowering.specs.Blocks.{AttemptsAll, AttemptsBlock, BeginsChild, Does, DoesAll, DoesBlock, DoesClosed, Encloses, Says, SaysClosed, StartsChild, end_where}
 use Rattle.swift_lowering.specs.Catching.{Catches, GivesCaught, begin_at_zero, begin_or, caught_wait, is_lone_wait, open_caught, open_rest, with_flag}
@@ -29,7 +27,7 @@ use Rattle.swift_lowering.specs.Closures as closures
 use Rattle.swift_lowering.specs.Closures.{Captures, CapturesAll, HandsOver, IsDirect, IsGiven, IsOfChild, OpensClosure, Receives, handed, in_closure, uncovered, with_setting}
 use Rattle.swift_lowering.specs.Groups.{BeginsBind, BeginsGroup, GivesClosed, entered, result_variable, with_result}
 use Rattle.swift_lowering.specs.Returning.{has_rest, leaves_early}
-use Rattle.swift_lowering.specs.Statements.{as_set, given_back, result_given}
+use Rattle.swift_lowering.specs.Statements.{as_set, given_back}
 use Rattle.swift_lowering.specs.Units.{BeginsUnit, actor_if, in_unit, method_if, unit_ended}
 use Rattle.swift_lowering.specs.declared.closure.ClosureBody.{ClosureBody}
 use Rattle.swift_lowering.proofs.Blocked.{block_from}
@@ -95,14 +93,14 @@ closed_by {t = t} {first} e h = blocks.closed e.0 (subst (λ x. SaysClosed x fir
 
 -- a group
 pub groups_by : {s r t u v w x : State} {stmt : Stmt} {into : Into} {found : ValueType} {kind : Kind} {is_throwing : Bool} {body variable start : ℕ} → stmt.form ≡ form.Group into found is_throwing body → r ≡ s → t ≡ with_result into r → variable ≡ result_variable into r → kind ≡ kind_in found → BeginsGroup t stmt.token kind u → DoesClosed u body variable v → w ≡ left_to start (put instruction.End v) → start ≡ length s.scope → GivesClosed w into variable x → Does s stmt x
-groups_by {s} {r} {t} {u} {v} {w} {x} {stmt} {into} {body = body} {variable = variable} {start = start} e same result is of begins closed ends at gives =
+groups_by {s} {r} {t} {u} {v} {w} {x} {stmt} {into} {body = body} {variable = variable} {start = start} e same result is of begins block ends at gives =
     let var : variable ≡ result_variable into s = is ∙ ap (result_variable into) same in
-    blocks.groups e (result ∙ ap (with_result into) same) (subst (λ k. BeginsGroup t stmt.token k u) of begins) (subst (λ y. DoesClosed u body y v) var closed) (ends ∙ ap (λ y. left_to y (put instruction.End v)) at) (subst (λ y. GivesClosed w into y x) var gives)
+    blocks.groups e (result ∙ ap (with_result into) same) (subst (λ k. BeginsGroup t stmt.token k u) of begins) (subst (λ y. DoesClosed u body y v) var block) (ends ∙ ap (λ y. left_to y (put instruction.End v)) at) (subst (λ y. GivesClosed w into y x) var gives)
 
 -- a binding
 pub binds_by : {s t u v w x : State} {stmt : Stmt} {into : Into} {of given body variable start : ℕ} → stmt.form ≡ form.Bind into of given body → t ≡ with_result into s → variable ≡ result_variable into s → BeginsBind t given u → DoesClosed u body variable v → w ≡ left_to start (put instruction.End v) → start ≡ length s.scope → GivesClosed w into variable x → Does s stmt x
-binds_by {s} {u = u} {v} {w} {x} {into = into} {body = body} {variable} {start} e result var begins closed ends at gives =
-    blocks.binds e result begins (subst (λ y. DoesClosed u body y v) var closed) (ends ∙ ap (λ y. left_to y (put instruction.End v)) at) (subst (λ y. GivesClosed w into y x) var gives)
+binds_by {s} {u = u} {v} {w} {x} {into = into} {body = body} {variable} {start} e result var begins block ends at gives =
+    blocks.binds e result begins (subst (λ y. DoesClosed u body y v) var block) (ends ∙ ap (λ y. left_to y (put instruction.End v)) at) (subst (λ y. GivesClosed w into y x) var gives)
 
 -- what is handed over for a captured name
 pub captured_by : {s h t : State} {unit token last next : ℕ} {b : Binding} (place : ℕ) → slice_get s.scope place ≡ Some b → h ≡ handed b last s → next ≡ length s.operands → Receives h unit token b t → Captures s unit token last t next

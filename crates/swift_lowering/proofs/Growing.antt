@@ -1,12 +1,12 @@
 -- What was put stays, over statements with blocks.
-use Rattle.std.proofs.Common.{◌≡◌, ◌==◌, ◌<◌, ◌≤◌, ◌-◌, ℕ, ℤ, Bool, true, false, List, Option, None, Some, length, ◌++◌, arith, refl, sym, ap, subst, ◌∙◌, slice_set}
+use Rattle.std.proofs.Common.{◌≡◌, ◌==◌, ◌<◌, ◌≤◌, ◌-◌, ℕ, Bool, true, false, List, Option, None, Some, length, ◌++◌, arith, refl, ap, ◌∙◌, slice_set}
 use Rattle.std.proofs.lemmas.List.{set-append_right}
 use Rattle.swift_types.specs.declared.operator.Operator.TheVariants as operators
 use Rattle.swift_syntax.specs.declared.tree.Into.{Into}
 use Rattle.swift_syntax.specs.declared.tree.Into.TheVariants as goes
 use Rattle.swift_syntax.specs.declared.tree.Stmt.{Stmt}
 use Rattle.swift_syntax.specs.declared.tree.StmtForm.{StmtForm}
-use Rattle.swift_expressions.specs.Lowered.{Grows, Lowers, yielding}
+use Rattle.swift_expressions.specs.Lowered.{Grows, yielding}
 use Rattle.swift_expressions.specs.States.{State, next_variable}
 use Rattle.swift_expressions.specs.declared.code.Callee.{Callee}
 use Rattle.swift_expressions.specs.declared.code.Instruction.{Instruction}

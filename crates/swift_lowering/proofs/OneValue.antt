@@ -1,14 +1,10 @@
 -- The one value of a block, and which values are let go.
-use Rattle.std.proofs.Common.{◌≡◌, ◌⊎◌, ◌↔◌, ℕ, Bool, true, false, Option, None, Some, IsTrue, inl, inr, refl, sym, ap, subst, ◌∙◌}
+use Rattle.std.proofs.Common.{◌≡◌, ◌↔◌, ℕ, Bool, true, false, Option, None, Some, IsTrue, inl, inr, refl, sym, ap, subst, ◌∙◌}
 use Rattle.swift_syntax.specs.declared.tree.Expr.{Expr}
-use Rattle.swift_syntax.specs.declared.tree.ExprForm.TheVariants as expr
-use Rattle.swift_syntax.specs.declared.tree.Receiver.{Receiver}
-use Rattle.swift_syntax.specs.declared.tree.Receiver.TheVariants as receiver
 use Rattle.swift_syntax.specs.declared.tree.Stmt.{Stmt}
 use Rattle.swift_expressions.specs.States.{State, expr_at, form_at, stmt_at}
 use Rattle.swift_lowering.specs.Alone as values
 use Rattle.swift_lowering.specs.Alone.{IsLetGo, IsLone, IsSayingWord, calls_nobody, is_try_optional, value_of}
-use Rattle.swift_lowering.specs.Statements.{IsSaid}
 
 -- no statement stands there
 pub lone_of_none : {s : State} {first : ℕ} → stmt_at s first ≡ None → IsLone s first 0

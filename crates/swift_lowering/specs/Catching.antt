@@ -11,7 +11,7 @@ use Rattle.swift_syntax.specs.declared.tree.Stmt.{Stmt}
 use Rattle.swift_syntax.specs.declared.tree.StmtForm.{StmtForm}
 use Rattle.swift_syntax.specs.declared.tree.StmtForm.TheVariants as form
 use Rattle.swift_expressions.specs.Lowered.{Lowers, counted}
-use Rattle.swift_expressions.specs.States.{Gives, IsDeclared, State, form_at, next_value, next_variable, put, stmt_at, value_in, with_done, with_fallback, with_operand, with_temporary, with_value}
+use Rattle.swift_expressions.specs.States.{Gives, IsDeclared, State, form_at, next_value, next_variable, put, value_in, with_done, with_fallback, with_operand, with_temporary, with_value}
 use Rattle.swift_expressions.specs.declared.code.Instruction.TheVariants as instruction
 use Rattle.swift_expressions.specs.declared.code.Kind.{Kind}
 use Rattle.swift_expressions.specs.declared.code.Kind.TheVariants as kinds

@@ -5,9 +5,8 @@
 
 ghost use Rattle.std.specs.Prelude.{◌≡◌, ◌-◌, ℕ, IfNone, IfSome, IsNone, Some, length, slice_get, true, false};
 ghost use Rattle.swift_expressions.specs.Instructions.{KeepsRefusal};
-ghost use Rattle.swift_expressions.specs.States.{Becomes, next_value, put, form_at, next_variable, state_of, stmt_at, value_in, with_value};
-ghost use Rattle.swift_lowering.specs.Catching.{Catches, HandsOn, Rewires, Tells, Tries, Wraps, begin_or, came_to, caught_wait, fault_sign, given_as_it_was, is_int, is_lone_wait, begin_at_zero, open_caught, open_rest, open_where, with_flag, tried_in, variable_for, with_variable_for, zero_freed};
-ghost use Rattle.swift_lowering.specs.Units.{with_instruction};
+ghost use Rattle.swift_expressions.specs.States.{Becomes, form_at, next_value, next_variable, put, state_of, stmt_at, value_in, with_value};
+ghost use Rattle.swift_lowering.specs.Catching.{Catches, HandsOn, Rewires, Tells, Tries, Wraps, begin_at_zero, begin_or, came_to, caught_wait, fault_sign, given_as_it_was, is_int, is_lone_wait, open_caught, open_rest, open_where, tried_in, variable_for, with_flag, with_variable_for, zero_freed};
 
 use crate::unit::{begin_unit, end_unit, exchange};
 use swift_expressions::{

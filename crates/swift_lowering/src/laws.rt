@@ -6,7 +6,7 @@ ghost use Rattle.swift_syntax.specs.declared.tree.Stmt.{Stmt};
 ghost use Rattle.swift_syntax.specs.declared.tree.StmtForm.{StmtForm};
 ghost use Rattle.swift_expressions.specs.Lowered.{Grows};
 ghost use Rattle.swift_expressions.specs.States.{State};
-ghost use Rattle.swift_lowering.specs.Blocks.{Does, DoesBlock};
+ghost use Rattle.swift_lowering.specs.Blocks.{AttemptsBlock, Does, DoesBlock};
 ghost use Rattle.swift_lowering.specs.Statements.{Assigns, DoesPlain, ReadsLate};
 
 /// A law: an assignment with an operator reads what it changes after its right side was computed, whatever that did. It does nothing.
@@ -21,7 +21,8 @@ pub fn what_statements_put_stays()
     ensures any { (s t : State) (stmt : Stmt) → Does s stmt t → Grows s t }
 {}
 
-/// A law: the names of a block end with it, so that no more are in scope behind it than before. It does nothing.
+/// A law: the names of a block end with it, also with that of a `do`, so that no more are in scope behind it than before. It does nothing.
 pub fn names_end_with_their_block()
-    ensures { (s t : State) (first : ℕ) → DoesBlock s first t → length t.scope ≤ length s.scope }
+    ensures block { (s t : State) (first : ℕ) → DoesBlock s first t → length t.scope ≤ length s.scope }
+    ensures of_do { (s t : State) (flag token first : ℕ) → AttemptsBlock s flag token first t → length t.scope ≤ length s.scope }
 {}
