@@ -24,7 +24,7 @@ use Rattle.swift_lowering.specs.Blocks.{AttemptsAll, AttemptsBlock, BeginsChild,
 use Rattle.swift_lowering.specs.Catching.{Catches, GivesCaught, begin_at_zero, begin_or, caught_wait, is_lone_wait, open_caught, open_rest, with_flag}
 use Rattle.swift_lowering.specs.Alone.{IsLone}
 use Rattle.swift_lowering.specs.Closures as closures
-use Rattle.swift_lowering.specs.Closures.{Captures, CapturesAll, HandsOver, IsDirect, IsGiven, IsOfChild, OpensClosure, Receives, handed, in_closure, uncovered, with_setting}
+use Rattle.swift_lowering.specs.Closures.{Captures, CapturesAll, HandsOver, IsDirect, IsGiven, IsOfChild, OpensClosure, Receives, handed, in_closure, is_value, uncovered, with_setting}
 use Rattle.swift_lowering.specs.Groups.{BeginsBind, BeginsGroup, GivesClosed, entered, result_variable, with_result}
 use Rattle.swift_lowering.specs.Returning.{has_rest, leaves_early}
 use Rattle.swift_lowering.specs.Statements.{as_set, given_back}
@@ -103,8 +103,8 @@ binds_by {s} {u = u} {v} {w} {x} {into = into} {body = body} {variable} {start} 
     blocks.binds e result begins (subst (λ y. DoesClosed u body y v) var block) (ends ∙ ap (λ y. left_to y (put instruction.End v)) at) (subst (λ y. GivesClosed w into y x) var gives)
 
 -- what is handed over for a captured name
-pub captured_by : {s h t : State} {unit token last next : ℕ} {b : Binding} (place : ℕ) → slice_get s.scope place ≡ Some b → h ≡ handed b last s → next ≡ length s.operands → Receives h unit token b t → Captures s unit token last t next
-captured_by place there e is h = closures.captured place there e h is
+pub captured_by : {s h t : State} {unit token last next : ℕ} {b : Binding} (place : ℕ) → slice_get s.scope place ≡ Some b → is_value b.standing ≡ true → h ≡ handed b last s → next ≡ length s.operands → Receives h unit token b t → Captures s unit token last t next
+captured_by place there value e is h = closures.captured place there value e h is
 
 -- one name more
 pub captured_more : {s t u : State} {unit token first last next start : ℕ} → start ≡ begin_or first next → CapturesAll s unit t first last → Captures t unit token last u next → CapturesAll s unit u start next

@@ -56,7 +56,7 @@ receives_grow {s} r = on (on (alike (stays s) refl refl refl) (declares_grow r.d
 
 captures_grow : {s t : State} {unit token last next : ℕ} → Captures s unit token last t next → Grows s t
 captures_grow (closures.not_captured e n) = same e
-captures_grow {s} (closures.captured place at e r n) = on (to e (alike (reads _ (stays s)) refl refl refl)) (receives_grow r)
+captures_grow {s} (closures.captured place at is e r n) = on (to e (alike (reads _ (stays s)) refl refl refl)) (receives_grow r)
 
 all_captured : {s : State} {unit : ℕ} {t : State} {first last : ℕ} → CapturesAll s unit t first last → Grows s t
 all_captured closures.none_so_far = stays _

@@ -19,6 +19,7 @@ use Rattle.swift_expressions.specs.declared.lowering.Returns.TheVariants as retu
 use Rattle.swift_expressions.specs.declared.lowering.Setting.{Setting}
 use Rattle.swift_expressions.specs.declared.operands.Operands.{Operands}
 use Rattle.swift_expressions.specs.declared.scope.Binding.{Binding}
+use Rattle.swift_expressions.specs.declared.scope.Standing.{Standing}
 use Rattle.swift_expressions.specs.declared.scope.Standing.TheVariants as standings
 use Rattle.swift_expressions.specs.declared.typed.Typed.{Typed}
 use Rattle.swift_lowering.specs.Alone.{IsLone}
@@ -37,11 +38,19 @@ pub record Receives (s : State) (unit token : ℕ) (b : Binding) (t : State) : T
 abbrev pub handed : Binding → ℕ → State → State
 handed b last s = with_operand (record { value = next_value s; kind = b.kind }) last (with_value (value.Variable b.variable) s)
 
--- What a name in scope stands for is handed over, and is a parameter of the unit. Which names are captured, and which of those in scope each
--- is, is not said.
+-- whether what a name stands for is a value
+abbrev pub is_value : Standing → Bool
+is_value standings.Constant = true
+is_value standings.Variable = true
+is_value standings.Task = false
+is_value standings.Group = false
+is_value standings.Child = false
+
+-- What a name in scope stands for, a value, is handed over, and is a parameter of the unit. Which names are captured, and which of those in
+-- scope each is, is not said.
 pub data Captures (s : State) (unit token last : ℕ) (t : State) (next : ℕ) : Type 0 where
   not_captured : t ≡ s → next ≡ last → Captures s unit token last t next
-  captured : {b : Binding} {u : State} (place : ℕ) → slice_get s.scope place ≡ Some b → u ≡ handed b last s → Receives u unit token b t → next ≡ length s.operands → Captures s unit token last t next
+  captured : {b : Binding} {u : State} (place : ℕ) → slice_get s.scope place ≡ Some b → is_value b.standing ≡ true → u ≡ handed b last s → Receives u unit token b t → next ≡ length s.operands → Captures s unit token last t next
 
 -- What a closure captures: the operands from one place on to another one.
 pub data CapturesAll (s : State) (unit : ℕ) : State → ℕ → ℕ → Type 0 where

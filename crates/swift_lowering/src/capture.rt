@@ -1,9 +1,9 @@
 //! What closures capture.
 
-ghost use Rattle.std.specs.Prelude.{◌≡◌, ℕ, IsNone, length};
+ghost use Rattle.std.specs.Prelude.{◌≡◌, ℕ, IsNone, IsTrue, length, true};
 ghost use Rattle.swift_expressions.specs.Instructions.{KeepsRefusal};
 ghost use Rattle.swift_expressions.specs.States.{Becomes, state_of};
-ghost use Rattle.swift_lowering.specs.Closures.{Captures, CapturesAll, Receives, handed};
+ghost use Rattle.swift_lowering.specs.Closures.{Captures, CapturesAll, Receives, handed, is_value};
 ghost use Rattle.swift_lowering.specs.EndsInside.{IsHandedOver};
 
 use crate::catching::begin_or;
@@ -72,6 +72,17 @@ fn receive(lowering: &mut Lowering<'_>, unit: usize, token: usize, found: Bindin
     declare(lowering, token, variable, found.kind, false);
 }
 
+// Whether what a name stands for may be captured: a value, of a variable only where the closure's list has its name.
+fn may_be_handed(lowering: &Lowering<'_>, found: Binding, captures: usize, token: usize) -> bool
+    ensures { IsTrue result → is_value found.standing ≡ true }
+{
+    match found.standing {
+        Standing::Constant => true,
+        Standing::Variable => is_listed(lowering, captures, token),
+        Standing::Task | Standing::Group | Standing::Child => false,
+    }
+}
+
 // Captures what a name in scope stands for, as a parameter of the unit. The place of the last operand.
 fn capture(
     lowering: &mut Lowering<'_>,
@@ -89,18 +100,13 @@ fn capture(
     let Some(found) = binding_at(lowering, place) else {
         return last;
     };
-    let is_value = match found.standing {
-        Standing::Constant => true,
-        Standing::Variable => is_listed(lowering, captures, token),
-        Standing::Task | Standing::Group | Standing::Child => false,
-    };
-    if !is_value {
-        lowering.refuse(Rule::Captured, token);
-        return last;
+    if may_be_handed(lowering, found, captures, token) {
+        let operand = hand_over(lowering, found, last);
+        receive(lowering, unit, token, found);
+        return operand;
     }
-    let operand = hand_over(lowering, found, last);
-    receive(lowering, unit, token, found);
-    operand
+    lowering.refuse(Rule::Captured, token);
+    last
 }
 
 // What a name stands for is handed over, behind the operand at a place. The operand's place.
