@@ -23,8 +23,8 @@ method_if (Some u) = u.method
 abbrev pub in_unit : ℕ → State → State
 in_unit unit s = record s { unit = unit }
 
--- A unit that a closure becomes begins at a token, in the actor and the method around it, behind an instruction that goes over it: to where,
--- is known at its end.
+-- A unit that a closure becomes begins at a token, in the actor and the method around it, behind an instruction that goes over it. To
+-- where, is known at its end.
 pub record BeginsUnit (s : State) (token : ℕ) (t : State) : Type 0 where
   pub u : State
   pub begun : IsBegun s unit_kinds.Closure (actor_if (slice_get s.units s.unit)) (method_if (slice_get s.units s.unit)) token u

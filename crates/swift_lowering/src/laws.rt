@@ -14,8 +14,8 @@ pub fn an_operator_reads_late()
     ensures { (s u : State) (place : ℕ) (o : Operator) → Assigns s place u (Some o) → ReadsLate s place o u }
 {}
 
-/// A law: what a statement becomes, with all that its blocks and closures do, stands behind what was put before it, and that stays as it is.
-/// It does nothing.
+/// A law: what a statement becomes, with its blocks and closures, stands behind what was put before it, and that stays as it is. It does
+/// nothing.
 pub fn what_statements_put_stays()
     ensures plain { (s t : State) (form : StmtForm) → DoesPlain s t form → Grows s t }
     ensures any { (s t : State) (stmt : Stmt) → Does s stmt t → Grows s t }
