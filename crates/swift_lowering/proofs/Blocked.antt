@@ -3,7 +3,6 @@ use Rattle.std.proofs.Common.{Option, ◌≡◌, ◌<◌, ◌≤◌, ◌+◌, �
 use Rattle.std.proofs.lemmas.List.{length-take}
 use Rattle.swift_syntax.specs.declared.tree.Stmt.{Stmt}
 use Rattle.swift_syntax.specs.declared.tree.StmtForm.TheVariants as form
-use Rattle.swift_syntax.specs.declared.tree.TaskForm.{TaskForm}
 use Rattle.swift_syntax.specs.declared.tree.ValueType.{ValueType}
 use Rattle.swift_types.specs.declared.priority.Priority.{Priority}
 use Rattle.swift_syntax.specs.Expressions.{after}
@@ -21,8 +20,8 @@ use Rattle.swift_expressions.specs.declared.scope.Standing.TheVariants as standi
 use Rattle.swift_expressions.specs.declared.typed.Typed.{Typed}
 use Rattle.swift_expressions.proofs.Stepped.{given_as}
 use Rattle.swift_lowering.specs.Blocks as blocks
-use Rattle.swift_lowering.specs.Blocks.{AddsTask, BeginsChild, Counts, CountsOn, Does, DoesAll, DoesBlock, DoesElse, EndsChild, Fixes, IsNext, LoopsOver, MakesTask, NamesCounter, Renames, Repeats, TakesResults, Tests, are_in_order, child_begun, child_count, close_while, counted_in, done_where, ends_group, in_groups, open_guard, open_results, open_while, range_test, rest_where, trapped_unless, with_child_count, with_while}
-use Rattle.swift_lowering.specs.Returning.{has_rest, leaves_early, may_return}
+use Rattle.swift_lowering.specs.Blocks.{AddsTask, AttemptsBlock, BeginsChild, Counts, CountsOn, Does, DoesAll, DoesBlock, DoesElse, EndsChild, Fixes, IsNext, LoopsOver, MakesTask, NamesCounter, Renames, Repeats, StartsChild, TakesResults, Tests, are_in_order, child_begun, child_count, close_while, counted_in, done_where, ends_group, in_groups, open_guard, open_results, open_while, range_test, rest_where, trapped_unless, with_child_count, with_while}
+use Rattle.swift_lowering.specs.Returning.{has_rest, may_return}
 
 -- what is put from one state is from another one that is the same
 pub tests_from : {s r t : State} {place v : ℕ} → r ≡ s → Tests r place t v → Tests s place t v
@@ -119,11 +118,10 @@ results_named {s} {u = u} {t} place {b} {name} {variable} at opened is next bind
     blocks.with_name place at (next_from opened next) (subst (λ x. Binds u name standings.Constant x b.kind x t) var binds)
 
 -- the group of an `async let` begins
-pub child_begins : (callee : Callee) (kind : Kind) {s u a b c v : State} {token variable count groups : ℕ} {early is : Bool} → early ≡ is → IsDeclared s token false u → variable ≡ next_variable s → a ≡ with_child_count early u → count ≡ child_count early variable u → b ≡ put (instruction.Group variable) a → c ≡ put (instruction.Add variable false callee None) b → Binds c token standings.Child variable kind count v → groups ≡ after v.groups → BeginsChild s token is variable count (in_groups groups v)
-child_begins callee kind {s} {u} {v = v} {token} {variable} {count} {groups} e d at a n b c binds g = subst (λ x. BeginsChild s token x variable count (in_groups groups v)) e (record {
+pub child_begins : (callee : Callee) (kind : Kind) {s u a b c v : State} {token variable count groups : ℕ} {early is : Bool} → early ≡ is → IsDeclared s token false u → variable ≡ next_variable s → a ≡ with_child_count early u → count ≡ child_count early variable u → b ≡ put (instruction.Group variable) a → c ≡ put (instruction.Add variable false callee None) b → Binds c token standings.Child variable kind count v → groups ≡ after v.groups → BeginsChild s token is callee variable count (in_groups groups v)
+child_begins callee kind {s} {u} {v = v} {token} {variable} {count} {groups} e d at a n b c binds g = subst (λ x. BeginsChild s token x callee variable count (in_groups groups v)) e (record {
   u = u;
   v = v;
-  callee = callee;
   kind = kind;
   declared = d;
   is = at;
@@ -137,45 +135,32 @@ pub child_ended : (yields : Bool) {s b q r : State} {variable count groups : ℕ
 child_ended yields {r = r} {variable = variable} b q e g = record { yields = yields; state = ap (λ x. in_groups x r) g ∙ ap ends_group (e ∙ ap (put instruction.End) (q ∙ ap (put (instruction.Cancel variable)) b)) }
 
 -- an `async let`, and what follows it
-pub all_in_child : {n : ℕ} {s u v w : State} {p : ℕ} {stmt : Stmt} {wanted : Option ValueType} {given variable count : ℕ} → stmt_at s p ≡ Some stmt → stmt.form ≡ form.AsyncLet wanted given → (t : State) × BeginsChild t stmt.token (leaves_early t stmt.next) variable count u → DoesAll (length u.tree.stmts.items) u stmt.next v → EndsChild v variable count w → DoesAll n s p w
-all_in_child there is begins rest ends = blocks.child there is begins.1 rest ends
-
--- what a closure puts before is left aside
-pub child_behind : (stmt : Stmt) {t u : State} {variable count : ℕ} → BeginsChild t stmt.token (leaves_early t stmt.next) variable count u → (t : State) × BeginsChild t stmt.token (leaves_early t stmt.next) variable count u
-child_behind stmt {t} h = (t, h)
+pub all_in_child : {n : ℕ} {s u v w : State} {p : ℕ} {stmt : Stmt} {wanted : Option ValueType} {given variable count : ℕ} → stmt_at s p ≡ Some stmt → stmt.form ≡ form.AsyncLet wanted given → StartsChild s stmt given variable count u → DoesAll (length u.tree.stmts.items) u stmt.next v → EndsChild v variable count w → DoesAll n s p w
+all_in_child there is begins rest ends = blocks.child there is begins rest ends
 
 -- a task begins
-pub task_made : (callee : Callee) (priority : Option Priority) (kind : Kind) {s r u v t : State} {name variable : ℕ} {is_detached : Bool} → r ≡ s → IsDeclared r name false u → variable ≡ next_variable r → v ≡ put (instruction.Make variable is_detached callee priority) u → Binds v name standings.Task variable kind variable t → MakesTask s name is_detached t
+pub task_made : (callee : Callee) (priority : Option Priority) (kind : Kind) {s r u v t : State} {name variable : ℕ} {is_detached : Bool} → r ≡ s → IsDeclared r name false u → variable ≡ next_variable r → v ≡ put (instruction.Make variable is_detached callee priority) u → Binds v name standings.Task variable kind variable t → MakesTask s name is_detached callee t
 task_made callee priority kind {r = r} {u} {v} {t} {name} {variable} {is_detached} e d is p b =
     let begins : v ≡ put (instruction.Make (next_variable r) is_detached callee priority) u = p ∙ ap (λ x. put (instruction.Make x is_detached callee priority) u) is in
-    subst (λ x. MakesTask x name is_detached t) e (record {
+    subst (λ x. MakesTask x name is_detached callee t) e (record {
       u = u;
-      callee = callee;
       priority = priority;
       kind = kind;
       declared = d;
       binds = subst (λ x. Binds x name standings.Task (next_variable r) kind (next_variable r) t) begins (subst (λ x. Binds v name standings.Task x kind x t) is b);
     })
 
-pub task_behind : (name : ℕ) (is_detached : Bool) {t u : State} → MakesTask t name is_detached u → (t : State) × MakesTask t name is_detached u
-task_behind name is_detached {t} h = (t, h)
-
 -- a child of a group begins
-pub task_added : (callee : Callee) (place : ℕ) (b : Binding) {s r u t : State} {is_only : Bool} → slice_get s.scope place ≡ Some b → r ≡ s → u ≡ put (instruction.Add b.variable is_only callee None) r → t ≡ counted_in is_only place b u → AddsTask s is_only t
-task_added callee place b {s} {is_only = is_only} at e p n = record { place = place; b = b; there = at; callee = callee; state = n ∙ ap (counted_in is_only place b) (p ∙ ap (put (instruction.Add b.variable is_only callee None)) e) }
-
-pub added_behind : (is_only : Bool) {t u : State} → AddsTask t is_only u → (t : State) × AddsTask t is_only u
-added_behind is_only {t} h = (t, h)
-
--- statements that make tasks
-pub makes_task_by : {s u : State} {stmt : Stmt} {name : ℕ} {what : TaskForm} → stmt.form ≡ form.Task name what → (t : State) × MakesTask t name what.is_detached u → Does s stmt u
-makes_task_by e h = blocks.makes_task e h.1
-
-pub adds_task_by : {s u : State} {stmt : Stmt} {is_only : Bool} {what : TaskForm} → stmt.form ≡ form.AddTask is_only what → (t : State) × AddsTask t is_only u → Does s stmt u
-adds_task_by e h = blocks.adds_task e h.1
+pub task_added : (callee : Callee) (place : ℕ) (b : Binding) {s r u t : State} {is_only : Bool} → slice_get s.scope place ≡ Some b → r ≡ s → u ≡ put (instruction.Add b.variable is_only callee None) r → t ≡ counted_in is_only place b u → AddsTask s is_only callee t
+task_added callee place b {s} {is_only = is_only} at e p n = record { place = place; b = b; there = at; state = n ∙ ap (counted_in is_only place b) (p ∙ ap (put (instruction.Add b.variable is_only callee None)) e) }
 
 -- no name of a block is in scope behind it
 pub names_end : {s t : State} {first : ℕ} → DoesBlock s first t → length t.scope ≤ length s.scope
 names_end {s} (blocks.whole {t = u} d e) =
+    let is = ap (λ (x : State). length x.scope) e ∙ length-take (length s.scope) u.scope in
+    omega (arith, is)
+
+pub names_of_do_end : {s t : State} {flag token first : ℕ} → AttemptsBlock s flag token first t → length t.scope ≤ length s.scope
+names_of_do_end {s} (blocks.attempted {t = u} d e) =
     let is = ap (λ (x : State). length x.scope) e ∙ length-take (length s.scope) u.scope in
     omega (arith, is)

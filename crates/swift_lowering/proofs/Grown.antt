@@ -27,10 +27,10 @@ assigns_grow : {s u : State} {place : ℕ} {how : Option Operator} → Assigns s
 assigns_grow (statements.sets {t = t} d h e) = on (lowers_grow h) (to e (puts _ (stays t)))
 assigns_grow (statements.changes {t = t} d h e) = on (lowers_grow h) (to e (puts _ (reads _ (reads _ (stays t)))))
 
-binds_grow : (b : Binding) {s t : State} → t ≡ in_scope b s → Grows s t
+pub binds_grow : (b : Binding) {s t : State} → t ≡ in_scope b s → Grows s t
 binds_grow b {s} e = to e (alike (stays s) refl refl refl)
 
-declares_grow : {s t : State} {token : ℕ} {is_param : Bool} → IsDeclared s token is_param t → Grows s t
+pub declares_grow : {s t : State} {token : ℕ} {is_param : Bool} → IsDeclared s token is_param t → Grows s t
 declares_grow {s} d = to d.state (alike (stays s) refl refl refl)
 
 defines_grow : {s t : State} {name : ℕ} {found : Typed} {is_var : Bool} → Defines s name found is_var t → Grows s t
@@ -40,7 +40,7 @@ defines_grow (statements.anew {u = u} d e b) = on (declares_grow d) (on (to e (p
 returned_grows : (place : ℕ) (s : State) → Grows s (returned place s)
 returned_grows place s = puts _ (either (Grows s) (nat_lt 0 s.groups) (alike (stays s) refl refl refl) (stays s))
 
-set_grows : (variable : ℕ) (kind : Kind) (place : ℕ) (s : State) → Grows s (result_set variable kind place s)
+pub set_grows : (variable : ℕ) (kind : Kind) (place : ℕ) (s : State) → Grows s (result_set variable kind place s)
 set_grows variable kinds.Void place s = stays s
 set_grows variable kinds.Int place s = either (Grows s) (variable == NONE) (stays s) (puts _ (stays s))
 set_grows variable kinds.Bool place s = either (Grows s) (variable == NONE) (stays s) (puts _ (stays s))
@@ -54,7 +54,7 @@ ended_grows : (r : Returns) (s : State) → Grows s (ended_by r s)
 ended_grows returning.Unit s = returned_grows NONE s
 ended_grows (returning.Closure variable blocks) s = stays s
 
-gives_to_grow : {s t : State} {found : Typed} {into : Into} → GivesTo s found t into → Grows s t
+pub gives_to_grow : {s t : State} {found : Typed} {into : Into} → GivesTo s found t into → Grows s t
 gives_to_grow (statements.nothing e) = same e
 gives_to_grow (statements.constant d) = defines_grow d
 gives_to_grow (statements.variable d) = defines_grow d

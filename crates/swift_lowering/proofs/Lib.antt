@@ -1,5 +1,9 @@
 pub mod Blocked
+pub mod Caught
 pub mod Changes
+pub mod Enclosed
+pub mod Growing
 pub mod Grown
+pub mod OneValue
 pub mod Returning
 pub mod Stated

@@ -5,14 +5,15 @@ use Rattle.swift_types.specs.declared.operator.Operator.{Operator}
 use Rattle.swift_types.specs.declared.operator.Operator.TheVariants as operators
 use Rattle.swift_types.specs.declared.priority.Priority.{Priority}
 use Rattle.swift_syntax.specs.Expressions.{after}
+use Rattle.swift_syntax.specs.declared.tree.Into.{Into}
 use Rattle.swift_syntax.specs.declared.tree.Stmt.{Stmt}
-use Rattle.swift_syntax.specs.declared.tree.StmtForm.{StmtForm}
 use Rattle.swift_syntax.specs.declared.tree.StmtForm.TheVariants as form
 use Rattle.swift_syntax.specs.declared.tree.TaskForm.{TaskForm}
 use Rattle.swift_syntax.specs.declared.tree.ValueType.{ValueType}
-use Rattle.swift_expressions.specs.Lowered.{Lowers, child_test, counted, used, with_child_test, yielding}
+use Rattle.swift_expressions.specs.Lowered.{Lowers, child_test, counted, kind_in, used, with_child_test, yielding}
 use Rattle.swift_expressions.specs.States.{Binds, Gives, IsDeclared, State, bytes_at, left_to, named, next_value, next_variable, put, stmt_at, value_in, with_done, with_partial, with_temporary, with_value}
 use Rattle.swift_expressions.specs.declared.code.Callee.{Callee}
+use Rattle.swift_expressions.specs.declared.code.Callee.TheVariants as callees
 use Rattle.swift_expressions.specs.declared.code.Instruction.TheVariants as instruction
 use Rattle.swift_expressions.specs.declared.code.Kind.{Kind}
 use Rattle.swift_expressions.specs.declared.code.Kind.TheVariants as kinds
@@ -24,8 +25,14 @@ use Rattle.swift_expressions.specs.declared.code.Wait.TheVariants as waiting
 use Rattle.swift_expressions.specs.declared.scope.Binding.{Binding}
 use Rattle.swift_expressions.specs.declared.scope.Standing.TheVariants as standings
 use Rattle.swift_expressions.specs.declared.typed.Typed.{Typed}
+use Rattle.swift_lowering.specs.Alone.{IsLone}
+use Rattle.swift_lowering.specs.Catching.{Catches, GivesCaught, begin_at_zero, caught_wait, is_lone_wait, open_caught, open_rest, with_flag}
+use Rattle.swift_lowering.specs.Closures.{IsDirect, IsGiven, IsOfChild, IsOfTask, OpensClosure}
+use Rattle.swift_lowering.specs.Groups.{BeginsBind, BeginsGroup, GivesClosed, entered, result_variable, with_result}
 use Rattle.swift_lowering.specs.Returning.{has_rest, leaves_early, may_return}
-use Rattle.swift_lowering.specs.Statements.{DoesPlain}
+use Rattle.swift_lowering.specs.Statements.{DoesPlain, as_set, result_given}
+use Rattle.swift_lowering.specs.Units.{unit_ended}
+use Rattle.swift_lowering.specs.declared.closure.ClosureBody.{ClosureBody}
 
 -- A test of a statement is computed, and its value has this place.
 pub record Tests (s : State) (place : ℕ) (t : State) (value : ℕ) : Type 0 where
@@ -130,10 +137,9 @@ pub data TakesResults (s : State) (name : ℕ) (t : State) : Type 0 where
   without_name : {b : Binding} (place : ℕ) → slice_get s.scope place ≡ Some b → bytes_at s name ≡ codes "_" → IsNext (open_results b (used place s)) b 0 t → TakesResults s name t
   with_name : {b : Binding} {u : State} (place : ℕ) → slice_get s.scope place ≡ Some b → IsNext (open_results b (used place s)) b name u → Binds u name standings.Constant (next_variable s) b.kind (next_variable s) t → TakesResults s name t
 
--- A task begins, which its name stands for. What it runs, and how urgent it is, is not said.
-pub record MakesTask (s : State) (name : ℕ) (is_detached : Bool) (t : State) : Type 0 where
+-- A task begins, which its name stands for. How urgent it is, is not said.
+pub record MakesTask (s : State) (name : ℕ) (is_detached : Bool) (callee : Callee) (t : State) : Type 0 where
   pub u : State
-  pub callee : Callee
   pub priority : Option Priority
   pub kind : Kind
   pub declared : IsDeclared s name false u
@@ -144,20 +150,12 @@ abbrev pub counted_in : Bool → ℕ → Binding → State → State
 counted_in true place b s = with_partial place s
 counted_in false place b s = counted operators.Plus b.count s
 
--- A child of a group begins. What it runs, and which group that is, is not said.
-pub record AddsTask (s : State) (is_only : Bool) (t : State) : Type 0 where
+-- A child of a group begins. Which group that is, is not said.
+pub record AddsTask (s : State) (is_only : Bool) (callee : Callee) (t : State) : Type 0 where
   pub place : ℕ
   pub b : Binding
   pub there : slice_get s.scope place ≡ Some b
-  pub callee : Callee
   pub state : t ≡ counted_in is_only place b (put (instruction.Add b.variable is_only callee None) s)
-
--- whether what a statement puts is left aside here: groups, bindings, and what a `do` catches
-abbrev pub is_left_aside : StmtForm → Bool
-is_left_aside (form.Group into found is_throwing body) = true
-is_left_aside (form.Bind into of given body) = true
-is_left_aside (form.DoCatch body caught) = true
-is_left_aside _ = false
 
 -- a variable that says whether the child of an `async let` is left, where its scope may be left before that is awaited
 abbrev pub with_child_count : Bool → State → State
@@ -181,11 +179,10 @@ begins_group s = in_groups (after s.groups) s
 abbrev pub ends_group : State → State
 ends_group s = in_groups (s.groups - 1) s
 
--- The group of an `async let` begins, with its child, which its name stands for. What the child runs is not said.
-pub record BeginsChild (s : State) (token : ℕ) (is_left_early : Bool) (variable count : ℕ) (t : State) : Type 0 where
+-- The group of an `async let` begins, with its child, which its name stands for.
+pub record BeginsChild (s : State) (token : ℕ) (is_left_early : Bool) (callee : Callee) (variable count : ℕ) (t : State) : Type 0 where
   pub u : State
   pub v : State
-  pub callee : Callee
   pub kind : Kind
   pub declared : IsDeclared s token false u
   pub is : variable ≡ next_variable s
@@ -204,7 +201,7 @@ pub record EndsChild (s : State) (variable count : ℕ) (t : State) : Type 0 whe
   pub state : t ≡ ends_group (put instruction.End (put (instruction.Cancel variable) (child_begun yields variable count s)))
 
 mutual
-  -- What a statement becomes. What the closure of a task puts before that is left aside.
+  -- What a statement becomes.
   pub data Does : State → Stmt → State → Type 0 where
     plain : {s t : State} {stmt : Stmt} → DoesPlain s t stmt.form → Does s stmt t
     conditional : {s t u v w : State} {stmt : Stmt} {test held failed value : ℕ} → stmt.form ≡ form.If test held failed → Tests s test t value → DoesBlock (put (instruction.If value) t) held u → DoesElse u failed v → w ≡ put instruction.End v → Does s stmt w
@@ -214,18 +211,44 @@ mutual
     for_range : {s t u : State} {stmt : Stmt} {from to body counter : ℕ} {is_closed : Bool} → stmt.form ≡ form.For from to is_closed body → Counts s from to is_closed counter t → CountsOn t stmt.token counter body u → Does s stmt u
     for_results : {s t : State} {stmt : Stmt} {group body : ℕ} {is_tried : Bool} → stmt.form ≡ form.ForAwait group is_tried body → LoopsOver s stmt.token body t → Does s stmt t
     while_results : {s t : State} {stmt : Stmt} {group body : ℕ} {is_tried : Bool} → stmt.form ≡ form.WhileNext group is_tried body → LoopsOver s stmt.token body t → Does s stmt t
-    makes_task : {s t u : State} {stmt : Stmt} {name : ℕ} {what : TaskForm} → stmt.form ≡ form.Task name what → MakesTask t name what.is_detached u → Does s stmt u
-    adds_task : {s t u : State} {stmt : Stmt} {is_only : Bool} {what : TaskForm} → stmt.form ≡ form.AddTask is_only what → AddsTask t is_only u → Does s stmt u
-    left_aside : {s t : State} {stmt : Stmt} → is_left_aside stmt.form ≡ true → Does s stmt t
+    makes_task : {s t u : State} {stmt : Stmt} {name : ℕ} {what : TaskForm} {body : ClosureBody} {callee : Callee} → stmt.form ≡ form.Task name what → IsOfTask s stmt what body → Encloses s body t callee → MakesTask t name what.is_detached callee u → Does s stmt u
+    adds_task : {s t u : State} {stmt : Stmt} {is_only : Bool} {what : TaskForm} {body : ClosureBody} {callee : Callee} → stmt.form ≡ form.AddTask is_only what → IsOfTask s stmt what body → Encloses s body t callee → AddsTask t is_only callee u → Does s stmt u
+    catches_one : {s t u v w : State} {stmt one : Stmt} {body instead place : ℕ} {found : Typed} → stmt.form ≡ form.DoCatch body instead → stmt_at s body ≡ Some one → one.next ≡ 0 → caught_wait s one.form ≡ Some place → Catches s place stmt.token t found → DoesBlock t instead u → GivesCaught u found v one.form → w ≡ put instruction.End v → Does s stmt w
+    catches_several : {s t u v : State} {stmt : Stmt} {body instead : ℕ} → stmt.form ≡ form.DoCatch body instead → is_lone_wait s (stmt_at s body) ≡ false → AttemptsBlock (begin_at_zero s) (next_variable s) stmt.token body t → DoesBlock (open_caught (next_variable s) t) instead u → v ≡ put instruction.End u → Does s stmt v
+    groups : {s t u v w x : State} {stmt : Stmt} {into : Into} {found : ValueType} {is_throwing : Bool} {body : ℕ} → stmt.form ≡ form.Group into found is_throwing body → t ≡ with_result into s → BeginsGroup t stmt.token (kind_in found) u → DoesClosed u body (result_variable into s) v → w ≡ left_to (length s.scope) (put instruction.End v) → GivesClosed w into (result_variable into s) x → Does s stmt x
+    binds : {s t u v w x : State} {stmt : Stmt} {into : Into} {of given body : ℕ} → stmt.form ≡ form.Bind into of given body → t ≡ with_result into s → BeginsBind t given u → DoesClosed u body (result_variable into s) v → w ≡ left_to (length s.scope) (put instruction.End v) → GivesClosed w into (result_variable into s) x → Does s stmt x
 
   -- What the statements of a block become, from a place on, in order; at most so many are looked at. What follows one that may return is done
-  -- unless it has. What follows an `async let` stands in the group of its child; what the child's closure puts before that is left aside.
+  -- unless it has. What follows an `async let` stands in the group of its child.
   pub data DoesAll : ℕ → State → ℕ → State → Type 0 where
     spent : {s : State} {p : ℕ} → DoesAll zero s p s
     no_more : {n : ℕ} {s : State} {p : ℕ} → stmt_at s p ≡ None → DoesAll n s p s
     one_more : {m n : ℕ} {s t u : State} {p : ℕ} {stmt : Stmt} → n ≡ suc m → stmt_at s p ≡ Some stmt → Does s stmt t → has_rest t stmt ≡ false → DoesAll m t stmt.next u → DoesAll n s p u
     unless_returned : {n : ℕ} {s t u v w : State} {p : ℕ} {stmt : Stmt} → stmt_at s p ≡ Some stmt → Does s stmt t → has_rest t stmt ≡ true → u ≡ put instruction.Rest (with_done t) → DoesAll (length u.tree.stmts.items) u stmt.next v → w ≡ put instruction.End v → DoesAll n s p w
-    child : {n : ℕ} {s t u v w : State} {p : ℕ} {stmt : Stmt} {wanted : Option ValueType} {given variable count : ℕ} → stmt_at s p ≡ Some stmt → stmt.form ≡ form.AsyncLet wanted given → BeginsChild t stmt.token (leaves_early t stmt.next) variable count u → DoesAll (length u.tree.stmts.items) u stmt.next v → EndsChild v variable count w → DoesAll n s p w
+    child : {n : ℕ} {s u v w : State} {p : ℕ} {stmt : Stmt} {wanted : Option ValueType} {given variable count : ℕ} → stmt_at s p ≡ Some stmt → stmt.form ≡ form.AsyncLet wanted given → StartsChild s stmt given variable count u → DoesAll (length u.tree.stmts.items) u stmt.next v → EndsChild v variable count w → DoesAll n s p w
+
+  -- What the closure of an `async let` becomes, and then its child begins.
+  pub data StartsChild : State → Stmt → ℕ → ℕ → ℕ → State → Type 0 where
+    started : {s t u : State} {stmt : Stmt} {given variable count : ℕ} {body : ClosureBody} {callee : Callee} → IsOfChild stmt given body → Encloses s body t callee → BeginsChild t stmt.token (leaves_early t stmt.next) callee variable count u → StartsChild s stmt given variable count u
+
+  -- What a closure becomes, and what a task runs then: a method that is all that it calls, or a unit of its own.
+  pub data Encloses : State → ClosureBody → State → Callee → Type 0 where
+    hands_over : {s t : State} {body : ClosureBody} {callee : Callee} → IsDirect s body.value t callee → Encloses s body t callee
+    as_unit : {s t u v : State} {body : ClosureBody} {operand : ℕ} → OpensClosure s body operand t → Says t body u → v ≡ as_set s (left_to (length s.scope) (unit_ended (length s.units) (length s.instructions) (body.to - 1) u)) → Encloses s body v (callees.Unit (length s.units) operand)
+
+  -- What the statements of a closure become, or its value where it says nothing else.
+  pub data Says : State → ClosureBody → State → Type 0 where
+    statements : {s t : State} {body : ClosureBody} → body.value ≡ 0 → DoesAll (length s.tree.stmts.items) s body.first t → Says s body t
+    value_alone : {s t : State} {body : ClosureBody} → (body.value ≡ 0 → ⊥) → IsGiven s body.value t → Says s body t
+
+  -- What the block of a group or a binding becomes, which gives its value to a variable.
+  pub data DoesClosed : State → ℕ → ℕ → State → Type 0 where
+    closed : {s t u : State} {first variable : ℕ} (blocks : ℕ) → SaysClosed (entered variable blocks s) first t → u ≡ as_set s t → DoesClosed s first variable u
+
+  -- What it says: its statements, or its value where it says nothing else.
+  pub data SaysClosed : State → ℕ → State → Type 0 where
+    one_value : {s t u : State} {first place : ℕ} {found : Typed} → IsLone s first place → (place ≡ 0 → ⊥) → Lowers s place t found → u ≡ result_given t.returns found t → SaysClosed s first u
+    as_block : {s t : State} {first : ℕ} → IsLone s first 0 → DoesBlock s first t → SaysClosed s first t
 
   -- What a block becomes: its names end with it.
   pub data DoesBlock : State → ℕ → State → Type 0 where
@@ -247,3 +270,16 @@ mutual
   -- What is done for each result of a group.
   pub data LoopsOver : State → ℕ → ℕ → State → Type 0 where
     loop_over : {s t u v : State} {name body : ℕ} → TakesResults s name t → Repeats t body u → v ≡ left_to (length s.scope) (put instruction.End u) → LoopsOver s name body v
+
+  -- What the statements of a `do` become, from a place on, in order; at most so many are looked at. What follows a wait is done where no fault
+  -- of it was caught; a variable says that one was.
+  pub data AttemptsAll : ℕ → State → ℕ → ℕ → ℕ → State → Type 0 where
+    none_left : {s : State} {flag token p : ℕ} → AttemptsAll zero s flag token p s
+    at_end : {n : ℕ} {s : State} {flag token p : ℕ} → stmt_at s p ≡ None → AttemptsAll n s flag token p s
+    one_done : {m n : ℕ} {s t u : State} {flag token p : ℕ} {stmt : Stmt} → n ≡ suc m → stmt_at s p ≡ Some stmt → caught_wait s stmt.form ≡ None → Does s stmt t → has_rest t stmt ≡ false → AttemptsAll m t flag token stmt.next u → AttemptsAll n s flag token p u
+    rest_unless_returned : {n : ℕ} {s t u v w : State} {flag token p : ℕ} {stmt : Stmt} → stmt_at s p ≡ Some stmt → caught_wait s stmt.form ≡ None → Does s stmt t → has_rest t stmt ≡ true → u ≡ open_rest true t → AttemptsAll (length u.tree.stmts.items) u flag token stmt.next v → w ≡ put instruction.End v → AttemptsAll n s flag token p w
+    rest_unless_caught : {n : ℕ} {s t u q v w : State} {flag token p place : ℕ} {stmt : Stmt} {found : Typed} → stmt_at s p ≡ Some stmt → caught_wait s stmt.form ≡ Some place → Catches s place token t found → GivesCaught (with_flag flag t) found u stmt.form → q ≡ open_rest (has_rest u stmt) u → AttemptsAll (length q.tree.stmts.items) q flag token stmt.next v → w ≡ put instruction.End (end_where (has_rest u stmt) v) → AttemptsAll n s flag token p w
+
+  -- What the block of a `do` becomes: its names end with it.
+  pub data AttemptsBlock : State → ℕ → ℕ → ℕ → State → Type 0 where
+    attempted : {s t u : State} {flag token first : ℕ} → AttemptsAll (length s.tree.stmts.items) s flag token first t → u ≡ left_to (length s.scope) t → AttemptsBlock s flag token first u

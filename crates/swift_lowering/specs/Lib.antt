@@ -4,6 +4,16 @@ pub mod Assignments
 pub mod EndsInside
 -- What statements without a block become.
 pub mod Statements
+-- Units among the instructions of others.
+pub mod Units
+-- What a `do` catches.
+pub mod Catching
+-- What of a block is but a value.
+pub mod Alone
+-- What closures capture.
+pub mod Closures
+-- The blocks of groups and bindings.
+pub mod Groups
 -- Which statements may return.
 pub mod Returning
 -- What statements with a block become.

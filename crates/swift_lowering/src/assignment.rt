@@ -4,11 +4,12 @@ ghost use Rattle.std.specs.Prelude.{◌≡◌, ℤ, IfNone, IfSome, IsNone, IsSo
 ghost use Rattle.swift_expressions.specs.Instructions.{IsPlaced, KeepsRefusal, Puts};
 ghost use Rattle.swift_lowering.specs.Assignments.{operator_of, read_of, set_of};
 ghost use Rattle.swift_expressions.specs.States.{Becomes, next_value, put, state_of, with_value};
+ghost use Rattle.swift_lowering.specs.Catching.{GivesCaught};
 ghost use Rattle.swift_lowering.specs.EndsInside.{EndsInAssignment, EndsInChange, EndsInSet};
 ghost use Rattle.swift_lowering.specs.Statements.{Assigns, Defines, GivesTo, IsNamed, changed, ended_by, given_back, given_by, returned, thrown, toggled};
 ghost use Rattle.swift_lowering.specs.declared.assignment.Destination.{Destination};
 
-use crate::catching::{Held, begin_held};
+use crate::catching::begin_came;
 use crate::tasks::give_result;
 use swift_expressions::{
     Binding, Instruction, Kind, Lowering, NONE, Returns, Standing, Typed, Value, declare,
@@ -303,8 +304,8 @@ fn give_unit(lowering: &mut Lowering<'_>, value: usize)
     lowering.put(Instruction::Return(value));
 }
 
-// Where a value is that is returned; nothing has no place.
-fn given_back(found: Typed) -> usize
+/// Where a value is that is returned; nothing has no place.
+pub(crate) fn given_back(found: Typed) -> usize
     ensures { result ≡ given_back found.kind found.value }
 {
     match found.kind {
@@ -421,27 +422,16 @@ pub(crate) fn throw(lowering: &mut Lowering<'_>, place: usize)
     lowering.put(Instruction::Throw(value));
 }
 
-/// Gives what came in a `do` to where it goes.
-pub(crate) fn end_caught(lowering: &mut Lowering<'_>, held: Option<Held>)
+/// The beginning of what is done where what came in a `do` was given to where its statement gives it.
+pub(crate) fn begin_given(lowering: &mut Lowering<'_>, found: Typed, stmt: Stmt)
+    ensures gives { IsNone lowering.new.refused → GivesCaught (state_of lowering.old) found (state_of lowering.new) stmt.form }
     ensures refused { KeepsRefusal lowering.old lowering.new }
 {
-    begin_given(lowering, held);
-    if held.is_some() {
-        lowering.put(Instruction::End);
-    }
-}
-
-/// The beginning of what is done where what came in a `do` was given to where it goes.
-pub(crate) fn begin_given(lowering: &mut Lowering<'_>, held: Option<Held>)
-    ensures refused { KeepsRefusal lowering.old lowering.new }
-{
-    let Some(held) = held else {
-        return;
-    };
-    begin_held(lowering, held);
-    match held.stmt.form {
-        StmtForm::Assign(_, is_own, _) => set(lowering, held.stmt.token, is_own, held.found),
-        StmtForm::Value(into, _) => give(lowering, into, held.found, held.stmt),
-        _ => {}
+    begin_came(lowering, found);
+    match stmt.form {
+        StmtForm::Assign(_, is_own, _) => set(lowering, stmt.token, is_own, found),
+        StmtForm::Value(into, _) => give(lowering, into, found, stmt),
+        // No other statement waits for what is caught.
+        _ => lowering.refuse(Rule::NotYet, stmt.token),
     }
 }

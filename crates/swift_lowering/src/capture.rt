@@ -1,14 +1,16 @@
 //! What closures capture.
 
-ghost use Rattle.std.specs.Prelude.{◌≡◌, IsNone};
+ghost use Rattle.std.specs.Prelude.{◌≡◌, ℕ, IsNone, IsTrue, length, true};
 ghost use Rattle.swift_expressions.specs.Instructions.{KeepsRefusal};
 ghost use Rattle.swift_expressions.specs.States.{Becomes, state_of};
+ghost use Rattle.swift_lowering.specs.Closures.{Captures, CapturesAll, Receives, handed, is_value};
 ghost use Rattle.swift_lowering.specs.EndsInside.{IsHandedOver};
 
+use crate::catching::begin_or;
 use crate::closure::ClosureBody;
 use swift_expressions::{
-    Binding, Lowering, NONE, Standing, Typed, Value, constant_named, declare, instance_named,
-    refuse_hidden, standing_at,
+    Binding, Lowering, NONE, Standing, Typed, Value, binding_at, constant_named, declare, find,
+    instance_named, refuse_hidden, standing_at,
 };
 use swift_syntax::{Rule, Sign, TokenKind};
 
@@ -60,6 +62,7 @@ fn is_captured(lowering: &Lowering<'_>, from: usize, token: usize) -> bool {
 // A parameter of the unit, for which the name stands from here on.
 fn receive(lowering: &mut Lowering<'_>, unit: usize, token: usize, found: Binding)
     ensures handed_over { IsNone lowering.new.refused → IsHandedOver lowering.old lowering.new unit token }
+    ensures receives { IsNone lowering.new.refused → Receives (state_of lowering.old) unit token found (state_of lowering.new) }
     ensures refused { KeepsRefusal lowering.old lowering.new }
 {
     let outer = lowering.setting.unit;
@@ -67,6 +70,17 @@ fn receive(lowering: &mut Lowering<'_>, unit: usize, token: usize, found: Bindin
     let variable = lowering.variable(found.token, true);
     lowering.setting.unit = outer;
     declare(lowering, token, variable, found.kind, false);
+}
+
+// Whether what a name stands for may be captured: a value, of a variable only where the closure's list has its name.
+fn may_be_handed(lowering: &Lowering<'_>, found: Binding, captures: usize, token: usize) -> bool
+    ensures { IsTrue result → is_value found.standing ≡ true }
+{
+    match found.standing {
+        Standing::Constant => true,
+        Standing::Variable => is_listed(lowering, captures, token),
+        Standing::Task | Standing::Group | Standing::Child => false,
+    }
 }
 
 // Captures what a name in scope stands for, as a parameter of the unit. The place of the last operand.
@@ -77,28 +91,33 @@ fn capture(
     token: usize,
     last: usize,
 ) -> usize
+    ensures captures { IsNone lowering.new.refused → Captures (state_of lowering.old) unit token last (state_of lowering.new) result }
     ensures refused { KeepsRefusal lowering.old lowering.new }
 {
-    let Some(found) = standing_at(lowering, token) else {
+    let Some(place) = find(lowering, token) else {
         return last;
     };
-    let is_value = match found.standing {
-        Standing::Constant => true,
-        Standing::Variable => is_listed(lowering, captures, token),
-        Standing::Task | Standing::Group | Standing::Child => false,
-    };
-    if !is_value {
-        lowering.refuse(Rule::Captured, token);
+    let Some(found) = binding_at(lowering, place) else {
         return last;
+    };
+    if may_be_handed(lowering, found, captures, token) {
+        let operand = hand_over(lowering, found, last);
+        receive(lowering, unit, token, found);
+        return operand;
     }
+    lowering.refuse(Rule::Captured, token);
+    last
+}
+
+// What a name stands for is handed over, behind the operand at a place. The operand's place.
+fn hand_over(lowering: &mut Lowering<'_>, found: Binding, last: usize) -> usize
+    ensures state { Becomes lowering.new (handed found last (state_of lowering.old)) }
+    ensures place { IsNone lowering.new.refused → result ≡ length lowering.old.code.operands.items }
+    ensures refused { KeepsRefusal lowering.old lowering.new }
+{
     let value = lowering.value(Value::Variable(found.variable));
-    let given = Typed {
-        value,
-        kind: found.kind,
-    };
-    let operand = lowering.operand(given, last);
-    receive(lowering, unit, token, found);
-    operand
+    let kind = found.kind;
+    lowering.operand(Typed { value, kind }, last)
 }
 
 // Refuses a name that is not global, or that means a member here.
@@ -132,6 +151,7 @@ pub(crate) fn refuse_unknown(lowering: &mut Lowering<'_>, captures: usize)
 
 /// Captures what the names in a closure stand for. The place of the first operand, or `NONE`.
 pub(crate) fn capture_all(lowering: &mut Lowering<'_>, unit: usize, body: ClosureBody) -> usize
+    ensures captures { IsNone lowering.new.refused → (last : ℕ) × CapturesAll (state_of lowering.old) unit (state_of lowering.new) result last }
     ensures refused { KeepsRefusal lowering.old lowering.new }
 {
     let from = lowering.scope.len();
@@ -142,9 +162,7 @@ pub(crate) fn capture_all(lowering: &mut Lowering<'_>, unit: usize, body: Closur
             continue;
         }
         let next = capture(lowering, unit, body.captures, token, last);
-        if first == NONE {
-            first = next;
-        }
+        first = begin_or(first, next);
         last = next;
     }
     first

@@ -1,18 +1,21 @@
 //! Closures, and the methods that they become.
 
-ghost use Rattle.std.specs.Prelude.{◌≡◌, ℕ, IsTrue};
+ghost use Rattle.std.specs.Prelude.{◌≡◌, ◌-◌, IfNone, IfSome, IsNone, length};
 ghost use Rattle.swift_expressions.specs.Instructions.{KeepsRefusal};
-ghost use Rattle.swift_expressions.specs.States.{Becomes, form_at, state_of};
-ghost use Rattle.swift_lowering.specs.Statements.{IsSaid};
+ghost use Rattle.swift_expressions.specs.States.{Becomes, form_at, left_to, state_of};
+ghost use Rattle.swift_lowering.specs.Closures.{HandsOver, IsDirect, IsGiven, OpensClosure, covered_by, in_closure, uncovered, with_setting};
+ghost use Rattle.swift_lowering.specs.Units.{unit_ended};
 
+use crate::assignment::given_back;
 use crate::capture::{capture_all, refuse_unknown};
 use crate::returns::exits;
+use crate::unit::{OpenUnit, begin_unit, end_unit};
 use swift_expressions::{
-    Callee, Instruction, Kind, Lowering, NONE, Setting, Standing, UnitKind, actor_of,
+    Callee, Fallback, Instruction, Kind, Lowering, NONE, Returns, Setting, Standing, actor_of,
     call_operands, constant_named, expression, function_named, instance_named, is_hidden, kind_of,
-    leave, method_at, method_named, setting_of, standing_at, want_arguments,
+    leave, method_at, method_named, standing_at, want_arguments,
 };
-use swift_syntax::{Access, ExprForm, Into, MethodDecl, Receiver, Rule, StmtForm};
+use swift_syntax::{Access, ExprForm, MethodDecl, Receiver, Rule};
 
 /// What a closure says.
 #[derive(Clone, Copy)]
@@ -46,41 +49,28 @@ pub(crate) struct MadeClosure {
     pub is_throwing: bool,
 }
 
-/// The value that is all that a block says, or 0.
-pub(crate) fn lone_value(lowering: &Lowering<'_>, first: usize) -> usize {
-    match lowering.tree.stmt(first) {
-        Some(stmt) => match stmt.form {
-            StmtForm::Value(Into::Nothing | Into::Return, value) => {
-                if stmt.next == 0 && !is_said(lowering, value) {
-                    value
-                } else {
-                    0
-                }
-            }
-            _ => 0,
-        },
-        None => 0,
-    }
-}
-
-/// Whether an expression is a call of `print`, `precondition` or `assert`.
-pub(crate) fn is_said(lowering: &Lowering<'_>, value: usize) -> bool
-    ensures said { IsTrue result → (receiver : Receiver) (first : ℕ) → form_at (state_of lowering.now) value ≡ ExprForm.Call receiver first → IsSaid (state_of lowering.now) value }
+// What an `await` or a `try` covers; any other expression is itself.
+fn covered_by(lowering: &Lowering<'_>, place: usize) -> usize
+    ensures { result ≡ covered_by place (form_at (state_of lowering.now) place) }
 {
-    let expr = lowering.expr(value);
-    match expr.form {
-        ExprForm::Call(Receiver::Nobody, _) => {
-            lowering.spells(expr.token, "print")
-                || lowering.spells(expr.token, "precondition")
-                || lowering.spells(expr.token, "assert")
-        }
-        ExprForm::TryOptional(_) => true,
-        _ => false,
+    match lowering.expr(place).form {
+        ExprForm::Await(inner) => inner,
+        ExprForm::Try(inner) => inner,
+        _ => place,
     }
 }
 
-// An expression without the `await` and `try` before it, and which of them stand there.
-fn uncovered(lowering: &Lowering<'_>, place: usize) -> (usize, bool, bool) {
+// An expression without the `await` and `try` before it, of which there are at most three.
+fn uncovered(lowering: &Lowering<'_>, place: usize) -> usize
+    ensures { result ≡ uncovered (state_of lowering.now) place }
+{
+    let once = covered_by(lowering, place);
+    let twice = covered_by(lowering, once);
+    covered_by(lowering, twice)
+}
+
+// Whether an `await` stands before an expression, and whether a `try` does.
+fn covers(lowering: &Lowering<'_>, place: usize) -> (bool, bool) {
     let mut inner = place;
     let mut is_awaited = false;
     let mut is_tried = false;
@@ -97,7 +87,7 @@ fn uncovered(lowering: &Lowering<'_>, place: usize) -> (usize, bool, bool) {
             _ => {}
         }
     }
-    (inner, is_awaited, is_tried)
+    (is_awaited, is_tried)
 }
 
 // Whether an argument is the same wherever it is computed.
@@ -158,8 +148,10 @@ struct InstanceCall {
 }
 
 // The function that is all that a closure calls, with values that are the same wherever they are computed.
-fn called_function(lowering: &Lowering<'_>, place: usize) -> Option<InstanceCall> {
-    let expr = lowering.tree.expr(place);
+fn called_function(lowering: &Lowering<'_>, place: usize) -> Option<InstanceCall>
+    ensures { IfSome result (λ call. form_at (state_of lowering.now) place ≡ ExprForm.Call Receiver.Nobody call.first) }
+{
+    let expr = lowering.expr(place);
     let ExprForm::Call(Receiver::Nobody, first) = expr.form else {
         return None;
     };
@@ -185,12 +177,14 @@ fn called_function(lowering: &Lowering<'_>, place: usize) -> Option<InstanceCall
 }
 
 // What a closure calls, if that is all that it does.
-fn called(lowering: &Lowering<'_>, place: usize) -> Option<InstanceCall> {
+fn called(lowering: &Lowering<'_>, place: usize) -> Option<InstanceCall>
+    ensures { IfSome result (λ call. (receiver : Receiver) × (form_at (state_of lowering.now) place ≡ ExprForm.Call receiver call.first)) }
+{
     if let Some(call) = called_function(lowering, place) {
         return Some(call);
     }
     let instance = called_instance(lowering, place)?;
-    let expr = lowering.tree.expr(place);
+    let expr = lowering.expr(place);
     let ExprForm::Call(_, first) = expr.form else {
         return None;
     };
@@ -209,11 +203,16 @@ fn called(lowering: &Lowering<'_>, place: usize) -> Option<InstanceCall> {
 /// A closure that only calls a method of an instance is that method; one that only calls a function that is `async` is that function, which
 /// runs outside of actors as the closure does.
 pub(crate) fn direct(lowering: &mut Lowering<'_>, body: ClosureBody) -> Option<MadeClosure>
+    ensures direct { IfSome result (λ made. IsNone lowering.new.refused → IsDirect (state_of lowering.old) body.value (state_of lowering.new) made.callee) }
+    ensures other { IfNone result (Becomes lowering.new (state_of lowering.old)) }
     ensures refused { KeepsRefusal lowering.old lowering.new }
 {
     refuse_unknown(lowering, body.captures);
-    let (place, is_awaited, is_tried) = uncovered(lowering, body.value);
-    let call = called(lowering, place)?;
+    let place = uncovered(lowering, body.value);
+    let (is_awaited, is_tried) = covers(lowering, body.value);
+    let Some(call) = called(lowering, place) else {
+        return None;
+    };
     if body.is_among_others && call.instance != NONE {
         return None;
     }
@@ -226,6 +225,7 @@ pub(crate) fn direct(lowering: &mut Lowering<'_>, body: ClosureBody) -> Option<M
 
 // What is called as what a task runs.
 fn hand_over(lowering: &mut Lowering<'_>, call: InstanceCall, is_tried: bool) -> MadeClosure
+    ensures hands { IsNone lowering.new.refused → HandsOver (state_of lowering.old) call.first (state_of lowering.new) result.callee }
     ensures refused { KeepsRefusal lowering.old lowering.new }
 {
     let InstanceCall {
@@ -245,9 +245,8 @@ fn hand_over(lowering: &mut Lowering<'_>, call: InstanceCall, is_tried: bool) ->
         given,
         token,
     );
-    if declared.access == Access::Private {
-        lowering.refuse(Rule::Private, token);
-    }
+    let is_private = declared.access == Access::Private;
+    lowering.refuse_where(is_private, Rule::Private, token);
     MadeClosure {
         callee: Callee::Method(instance, method, given.first),
         kind: kind_of(declared.result),
@@ -255,64 +254,40 @@ fn hand_over(lowering: &mut Lowering<'_>, call: InstanceCall, is_tried: bool) ->
     }
 }
 
-// How a closure begins, in which what was captured stands from a place of the scope on.
-fn closure_setting(unit: usize, boundary: usize, body: ClosureBody) -> Setting {
-    let mut setting = setting_of(unit, NONE);
-    setting.boundary = boundary;
-    setting.block_start = boundary;
-    setting.is_async = true;
-    setting.is_throwing = body.may_throw;
-    setting.is_closure = true;
-    setting.is_awaited = body.is_implicit;
-    setting.is_tried = body.is_implicit;
-    setting
-}
-
-/// A unit whose instructions stand among those of another one.
-#[derive(Clone, Copy)]
-pub(crate) struct OpenUnit {
-    /// Its place.
-    pub unit: usize,
-    // The place of the instruction that goes over it.
-    skip: usize,
-}
-
-/// A unit that a closure becomes begins here, at a token.
-pub(crate) fn begin_unit(lowering: &mut Lowering<'_>, token: usize) -> OpenUnit
+// A closure begins, in which what was captured stands from a place of the scope on.
+fn enter(lowering: &mut Lowering<'_>, unit: usize, boundary: usize, body: ClosureBody)
+    ensures state { Becomes lowering.new (in_closure unit boundary body.is_implicit (state_of lowering.old)) }
     ensures refused { KeepsRefusal lowering.old lowering.new }
 {
-    let (actor, method) = match lowering.code.units.get(lowering.setting.unit) {
-        Some(outer) => (outer.actor, outer.method),
-        None => (NONE, NONE),
+    lowering.setting = Setting {
+        unit,
+        actor: NONE,
+        boundary,
+        is_async: true,
+        is_throwing: body.may_throw,
+        catching: NONE,
+        is_closure: true,
+        is_expectation: false,
+        is_awaited: body.is_implicit,
+        is_tried: body.is_implicit,
+        fallback: Fallback::None,
+        result: None,
+        returns: Returns::Unit,
+        has_thrown: false,
+        block_start: boundary,
+        blocks: 0,
+        loops: 0,
+        groups: 0,
     };
-    let unit = lowering.unit(UnitKind::Closure, actor, method, token);
-    let skip = lowering.here();
-    lowering.put(Instruction::Skip(0));
-    OpenUnit { unit, skip }
-}
-
-/// A unit that a closure becomes ends here, with a token.
-pub(crate) fn end_unit(lowering: &mut Lowering<'_>, begun: OpenUnit, end: usize)
-    ensures refused { KeepsRefusal lowering.old lowering.new }
-{
-    let here = lowering.here();
-    if let Some(made) = lowering.code.units.get_mut(begun.unit) {
-        made.from = begun.skip.saturating_add(1);
-        made.to = here;
-        made.end = end;
-    }
-    if let Some(instruction) = lowering.code.instructions.get_mut(begun.skip) {
-        *instruction = Instruction::Skip(here);
-    }
 }
 
 /// A closure that is lowered, as a unit of its own.
 #[derive(Clone, Copy)]
 pub(crate) struct OpenClosure {
-    // Its unit.
-    begun: OpenUnit,
-    // The first of the operands that it captures, or `NONE`.
-    operand: usize,
+    /// Its unit.
+    pub begun: OpenUnit,
+    /// The first of the operands that it captures, or `NONE`.
+    pub operand: usize,
     // What holds around it.
     outer: Setting,
     // How many names are in scope around it.
@@ -321,13 +296,17 @@ pub(crate) struct OpenClosure {
 
 /// A closure begins here, as a unit with what it captures.
 pub(crate) fn begin_closure(lowering: &mut Lowering<'_>, body: ClosureBody) -> OpenClosure
+    ensures opens { IsNone lowering.new.refused → OpensClosure (state_of lowering.old) body result.operand (state_of lowering.new) }
+    ensures unit { IsNone lowering.new.refused → result.begun.unit ≡ length lowering.old.code.units.items }
+    ensures skip { IsNone lowering.new.refused → result.begun.skip ≡ length lowering.old.code.instructions.items }
+    ensures around { (result.outer ≡ lowering.old.setting) × (result.boundary ≡ length lowering.old.scope.items) }
     ensures refused { KeepsRefusal lowering.old lowering.new }
 {
     let outer = lowering.setting;
     let boundary = lowering.scope.len();
     let begun = begin_unit(lowering, body.from);
     let operand = capture_all(lowering, begun.unit, body);
-    lowering.setting = closure_setting(begun.unit, boundary, body);
+    enter(lowering, begun.unit, boundary, body);
     OpenClosure {
         begun,
         operand,
@@ -338,16 +317,12 @@ pub(crate) fn begin_closure(lowering: &mut Lowering<'_>, body: ClosureBody) -> O
 
 /// A value that is all that a closure says is what it gives.
 pub(crate) fn give_lone(lowering: &mut Lowering<'_>, value: usize)
+    ensures given { IsNone lowering.new.refused → IsGiven (state_of lowering.old) value (state_of lowering.new) }
     ensures refused { KeepsRefusal lowering.old lowering.new }
 {
     let found = expression(lowering, value);
     lowering.setting.result = Some(found.kind);
-    let value = if found.kind == Kind::Void {
-        NONE
-    } else {
-        found.value
-    };
-    lowering.put(Instruction::Return(value));
+    lowering.put(Instruction::Return(given_back(found)));
 }
 
 /// Refuses a closure with a value that may end without one.
@@ -367,6 +342,8 @@ pub(crate) fn end_closure(
     closure: OpenClosure,
     body: ClosureBody,
 ) -> MadeClosure
+    ensures state { Becomes lowering.new (with_setting closure.outer (left_to closure.boundary (unit_ended closure.begun.unit closure.begun.skip (body.to - 1) (state_of lowering.old)))) }
+    ensures callee { result.callee ≡ Callee.Unit closure.begun.unit closure.operand }
     ensures refused { KeepsRefusal lowering.old lowering.new }
 {
     let kind = lowering.setting.result.unwrap_or(Kind::Void);

@@ -5,8 +5,8 @@ ghost use Rattle.swift_expressions.specs.Instructions.{KeepsRefusal};
 ghost use Rattle.swift_expressions.specs.States.{form_at, state_of};
 ghost use Rattle.swift_lowering.specs.Statements.{DoesPlain, LetsGo, is_let_go};
 
+use crate::alone::is_said;
 use crate::assignment::{assign, give, give_nothing, throw, toggle};
-use crate::closure::is_said;
 use crate::print::{print, require};
 use swift_expressions::{Fallback, Lowering, expression, want_wait};
 use swift_syntax::{ExprForm, Into, Rule, Stmt, StmtForm};

@@ -3,8 +3,8 @@
 ghost use Rattle.std.specs.Prelude.{All, IfSome};
 ghost use Rattle.swift_syntax.specs.Places.{IsBlamedIn, IsTokenOf};
 
+use crate::alone::lone_value;
 use crate::checks::{check_globals, check_members, check_starts, check_whole};
-use crate::closure::lone_value;
 use crate::returns::exits;
 use crate::statement::body_statements;
 use std::alloc::Global;

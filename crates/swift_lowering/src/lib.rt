@@ -1,6 +1,8 @@
 //! From the tree of a Swift file to instructions: statements, closures and waits, over the expressions of swift_expressions.
 #![tactic(auto)]
 
+// What of a block is but a value.
+mod alone;
 // Where values go.
 mod assignment;
 // What closures capture.
@@ -27,6 +29,8 @@ mod returns;
 mod statement;
 // Tasks, groups and bindings.
 mod tasks;
+// Units whose instructions stand among those of others.
+mod unit;
 
 pub use file::{Lowered, lower};
 pub use laws::{an_operator_reads_late, names_end_with_their_block, what_statements_put_stays};

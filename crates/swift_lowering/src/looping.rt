@@ -136,8 +136,8 @@ pub(crate) fn rest_where(lowering: &mut Lowering<'_>, may_return: bool)
     }
 }
 
-// The end of that.
-fn end_where(lowering: &mut Lowering<'_>, may_return: bool)
+/// The end of that.
+pub(crate) fn end_where(lowering: &mut Lowering<'_>, may_return: bool)
     ensures state { Becomes lowering.new (end_where may_return (state_of lowering.old)) }
     ensures refused { KeepsRefusal lowering.old lowering.new }
 {

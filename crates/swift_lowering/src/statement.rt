@@ -2,18 +2,21 @@
 
 ghost use Rattle.std.specs.Prelude.{◌≡◌, IsNone, length};
 ghost use Rattle.swift_expressions.specs.Instructions.{KeepsRefusal};
-ghost use Rattle.swift_expressions.specs.States.{Becomes, State, state_of};
-ghost use Rattle.swift_lowering.specs.Returning.{leaves_early};
-ghost use Rattle.swift_lowering.specs.Blocks.{AddsTask, BeginsChild, CountsOn, Does, DoesAll, DoesBlock, DoesElse, LoopsOver, MakesTask, Repeats, open_guard};
+ghost use Rattle.swift_expressions.specs.States.{Becomes, state_of};
+ghost use Rattle.swift_lowering.specs.Groups.{GivesClosed};
+ghost use Rattle.swift_lowering.specs.Blocks.{AttemptsAll, AttemptsBlock, CountsOn, Does, DoesAll, DoesBlock, DoesClosed, DoesElse, Encloses, LoopsOver, Repeats, Says, SaysClosed, StartsChild, open_guard};
 
-use crate::assignment::{begin_given, end_caught, give};
-use crate::catching::{begin_caught, caught_wait};
+use crate::alone::lone_value;
+use crate::assignment::{begin_given, give};
+use crate::catching::{
+    begin_at_zero, begin_caught, caught_wait, lone_wait, open_caught, open_rest, set_flag,
+};
 use crate::closure::{
-    ClosureBody, MadeClosure, begin_closure, direct, end_closure, give_lone, lone_value, want_end,
+    ClosureBody, MadeClosure, begin_closure, direct, end_closure, give_lone, want_end,
 };
 use crate::effect::simple;
 use crate::looping::{
-    begin_count, close_while, done_where, name_counter, open_while, rest_where, test_of,
+    begin_count, close_while, done_where, end_where, name_counter, open_while, rest_where, test_of,
 };
 use crate::returns::{exits, has_rest, may_return};
 use crate::tasks::{
@@ -28,19 +31,29 @@ use swift_syntax::{Into, Rule, Stmt, StmtForm, TaskForm, ValueType};
 // A closure as the method of a task.
 #[cycle(statement)]
 fn closure(lowering: &mut Lowering<'_>, body: ClosureBody, depth: u32) -> MadeClosure
+    ensures encloses { IsNone lowering.new.refused → Encloses (state_of lowering.old) body (state_of lowering.new) result.callee }
     ensures refused { KeepsRefusal lowering.old lowering.new }
 {
     if let Some(found) = direct(lowering, body) {
         return found;
     }
     let begun = begin_closure(lowering, body);
+    say(lowering, body, depth);
+    end_closure(lowering, begun, body)
+}
+
+// What a closure says.
+#[cycle(statement)]
+fn say(lowering: &mut Lowering<'_>, body: ClosureBody, depth: u32)
+    ensures says { IsNone lowering.new.refused → Says (state_of lowering.old) body (state_of lowering.new) }
+    ensures refused { KeepsRefusal lowering.old lowering.new }
+{
     if body.value == 0 {
         statements(lowering, body.first, depth);
         want_end(lowering, body);
     } else {
         give_lone(lowering, body.value);
     }
-    end_closure(lowering, begun, body)
 }
 
 // A block, in which names of its own stand.
@@ -142,6 +155,21 @@ fn loop_for(lowering: &mut Lowering<'_>, counter: usize, body: usize, name: usiz
     leave(lowering, start);
 }
 
+// What a group's or a binding's block says: its one value goes to its variable.
+#[cycle(statement)]
+fn say_closed(lowering: &mut Lowering<'_>, first: usize, depth: u32)
+    ensures says { IsNone lowering.new.refused → SaysClosed (state_of lowering.old) first (state_of lowering.new) }
+    ensures refused { KeepsRefusal lowering.old lowering.new }
+{
+    let lone = lone_value(lowering, first);
+    if lone == 0 {
+        block(lowering, first, depth);
+        return;
+    }
+    let found = expression(lowering, lone);
+    give_result(lowering, found);
+}
+
 // A group's or a binding's block, whose value goes to a variable. The type of that.
 #[cycle(statement)]
 fn closure_block(
@@ -150,17 +178,12 @@ fn closure_block(
     variable: usize,
     depth: u32,
 ) -> Option<Kind>
+    ensures closed { IsNone lowering.new.refused → DoesClosed (state_of lowering.old) first variable (state_of lowering.new) }
     ensures refused { KeepsRefusal lowering.old lowering.new }
 {
     let outer = lowering.setting;
     enter_closure(lowering, variable);
-    let lone = lone_value(lowering, first);
-    if lone != 0 {
-        let found = expression(lowering, lone);
-        give_result(lowering, found);
-    } else {
-        block(lowering, first, depth);
-    }
+    say_closed(lowering, first, depth);
     let kind = lowering.setting.result;
     let has_thrown = lowering.setting.has_thrown;
     lowering.setting = outer;
@@ -176,11 +199,13 @@ fn give_closed(
     variable: usize,
     kind: Option<Kind>,
 )
+    ensures gives { IsNone lowering.new.refused → GivesClosed (state_of lowering.old) into variable (state_of lowering.new) }
     ensures refused { KeepsRefusal lowering.old lowering.new }
 {
-    if let Some(found) = result_of(lowering, variable, kind, stmt.token) {
-        give(lowering, into, found, stmt);
-    }
+    let Some(found) = result_of(lowering, variable, kind, stmt.token) else {
+        return;
+    };
+    give(lowering, into, found, stmt);
 }
 
 // A group.
@@ -194,6 +219,7 @@ fn grouped(
     body: usize,
     depth: u32,
 )
+    ensures does { stmt.form ≡ StmtForm.Group into of is_throwing body → IsNone lowering.new.refused → Does (state_of lowering.old) stmt (state_of lowering.new) }
     ensures refused { KeepsRefusal lowering.old lowering.new }
 {
     let start = lowering.scope.len();
@@ -218,6 +244,7 @@ fn bound(
     body: usize,
     depth: u32,
 )
+    ensures does { stmt.form ≡ StmtForm.Bind into of given body → IsNone lowering.new.refused → Does (state_of lowering.old) stmt (state_of lowering.new) }
     ensures refused { KeepsRefusal lowering.old lowering.new }
 {
     let start = lowering.scope.len();
@@ -277,7 +304,7 @@ fn loop_results(
 // A task.
 #[cycle(statement)]
 fn task(lowering: &mut Lowering<'_>, stmt: Stmt, name: usize, form: TaskForm, depth: u32)
-    ensures makes { IsNone lowering.new.refused → (t : State) × MakesTask t name form.is_detached (state_of lowering.new) }
+    ensures makes { stmt.form ≡ StmtForm.Task name form → IsNone lowering.new.refused → Does (state_of lowering.old) stmt (state_of lowering.new) }
     ensures refused { KeepsRefusal lowering.old lowering.new }
 {
     let body = task_body(lowering, stmt, form, false);
@@ -288,7 +315,7 @@ fn task(lowering: &mut Lowering<'_>, stmt: Stmt, name: usize, form: TaskForm, de
 // A child of a group.
 #[cycle(statement)]
 fn group_child(lowering: &mut Lowering<'_>, stmt: Stmt, is_only: bool, form: TaskForm, depth: u32)
-    ensures adds { IsNone lowering.new.refused → (t : State) × AddsTask t is_only (state_of lowering.new) }
+    ensures adds { stmt.form ≡ StmtForm.AddTask is_only form → IsNone lowering.new.refused → Does (state_of lowering.old) stmt (state_of lowering.new) }
     ensures refused { KeepsRefusal lowering.old lowering.new }
 {
     let body = task_body(lowering, stmt, form, true);
@@ -296,33 +323,22 @@ fn group_child(lowering: &mut Lowering<'_>, stmt: Stmt, is_only: bool, form: Tas
     add_task(lowering, stmt, is_only, form, made);
 }
 
-// The one statement of a block, if it waits for what may be caught; and for what.
-fn lone_wait(lowering: &Lowering<'_>, first: usize) -> Option<(Stmt, usize)> {
-    let stmt = lowering.stmt(first)?;
-    if stmt.next != 0 {
-        return None;
-    }
-    let place = caught_wait(lowering, stmt)?;
-    Some((stmt, place))
-}
-
 // A `do`. Where it has more than one statement, a variable says whether a fault was caught.
 #[cycle(statement)]
 fn do_catch(lowering: &mut Lowering<'_>, body: usize, caught: usize, token: usize, depth: u32)
+    ensures does { (stmt : Stmt) → stmt.form ≡ StmtForm.DoCatch body caught → stmt.token ≡ token → IsNone lowering.new.refused → Does (state_of lowering.old) stmt (state_of lowering.new) }
     ensures refused { KeepsRefusal lowering.old lowering.new }
 {
     if let Some((stmt, place)) = lone_wait(lowering, body) {
-        let held = begin_caught(lowering, stmt, place, token);
+        let found = begin_caught(lowering, place, token);
         block(lowering, caught, depth);
-        end_caught(lowering, held);
+        begin_given(lowering, found, stmt);
+        lowering.put(Instruction::End);
         return;
     }
-    let flag = lowering.temporary();
-    let zero = lowering.number(0);
-    lowering.put(Instruction::Let(flag, zero));
+    let flag = begin_at_zero(lowering);
     do_block(lowering, body, flag, token, depth);
-    let is_caught = lowering.value(Value::Variable(flag));
-    lowering.put(Instruction::If(is_caught));
+    open_caught(lowering, flag);
     block(lowering, caught, depth);
     lowering.put(Instruction::End);
 }
@@ -330,6 +346,7 @@ fn do_catch(lowering: &mut Lowering<'_>, body: usize, caught: usize, token: usiz
 // The block of a `do`, in which names of its own stand. What it throws is caught, so it stands in a unit that does not throw.
 #[cycle(statement)]
 fn do_block(lowering: &mut Lowering<'_>, first: usize, flag: usize, token: usize, depth: u32)
+    ensures attempts { IsNone lowering.new.refused → AttemptsBlock (state_of lowering.old) flag token first (state_of lowering.new) }
     ensures refused { KeepsRefusal lowering.old lowering.new }
 {
     let start = lowering.scope.len();
@@ -349,6 +366,7 @@ fn do_block(lowering: &mut Lowering<'_>, first: usize, flag: usize, token: usize
 // The statements of a `do` from a place on. What follows one whose fault is caught is done where there was none.
 #[cycle(statement)]
 fn do_statements(lowering: &mut Lowering<'_>, first: usize, flag: usize, token: usize, depth: u32)
+    ensures attempts { IsNone lowering.new.refused → AttemptsAll (length lowering.old.tree.now.value.stmts.items) (state_of lowering.old) flag token first (state_of lowering.new) }
     ensures refused { KeepsRefusal lowering.old lowering.new }
 {
     if depth == 0 {
@@ -363,29 +381,21 @@ fn do_statements(lowering: &mut Lowering<'_>, first: usize, flag: usize, token: 
         };
         place = stmt.next;
         if let Some(awaited) = caught_wait(lowering, stmt) {
-            let held = begin_caught(lowering, stmt, awaited, token);
-            let one = lowering.number(1);
-            lowering.put(Instruction::Set(flag, one));
-            begin_given(lowering, held);
+            let found = begin_caught(lowering, awaited, token);
+            set_flag(lowering, flag);
+            begin_given(lowering, found, stmt);
             let is_early = has_rest(lowering, stmt);
-            if is_early {
-                lowering.need_done();
-                lowering.put(Instruction::Rest);
-            }
+            open_rest(lowering, is_early);
             do_statements(lowering, place, flag, token, within);
-            if is_early {
-                lowering.put(Instruction::End);
-            }
+            end_where(lowering, is_early);
             lowering.put(Instruction::End);
             return;
         }
-        if let StmtForm::AsyncLet(..) = stmt.form {
-            lowering.refuse(Rule::NotYet, token);
-        }
+        let is_child = matches!(stmt.form, StmtForm::AsyncLet(..));
+        lowering.refuse_where(is_child, Rule::NotYet, token);
         statement(lowering, stmt, within);
         if has_rest(lowering, stmt) {
-            lowering.need_done();
-            lowering.put(Instruction::Rest);
+            open_rest(lowering, true);
             do_statements(lowering, place, flag, token, within);
             lowering.put(Instruction::End);
             return;
@@ -426,6 +436,23 @@ fn statement(lowering: &mut Lowering<'_>, stmt: Stmt, depth: u32)
     }
 }
 
+// Refuses a child that gives another type than is wanted.
+fn want_made(
+    lowering: &mut Lowering<'_>,
+    made: MadeClosure,
+    wanted: Option<ValueType>,
+    token: usize,
+)
+    ensures state { Becomes lowering.new (state_of lowering.old) }
+    ensures refused { KeepsRefusal lowering.old lowering.new }
+{
+    if let Some(wanted) = wanted {
+        if made.kind != kind_of(wanted) {
+            lowering.refuse(Rule::WrongType, token);
+        }
+    }
+}
+
 // The child of an `async let`, in whose group the rest of its block stands. Its variable, and that of its count.
 #[cycle(statement)]
 fn child(
@@ -435,18 +462,13 @@ fn child(
     given: usize,
     depth: u32,
 ) -> (usize, usize)
-    ensures begins { IsNone lowering.new.refused → (t : State) × BeginsChild t stmt.token (leaves_early t stmt.next) result.0 result.1 (state_of lowering.new) }
+    ensures starts { IsNone lowering.new.refused → StartsChild (state_of lowering.old) stmt given result.0 result.1 (state_of lowering.new) }
     ensures refused { KeepsRefusal lowering.old lowering.new }
 {
-    if !lowering.setting.is_async {
-        lowering.refuse(Rule::Await, stmt.token);
-    }
+    let is_async = lowering.setting.is_async;
+    lowering.refuse_where(!is_async, Rule::Await, stmt.token);
     let made = closure(lowering, child_body(stmt, given), depth);
-    if let Some(wanted) = wanted {
-        if made.kind != kind_of(wanted) {
-            lowering.refuse(Rule::WrongType, stmt.token);
-        }
-    }
+    want_made(lowering, made, wanted, stmt.token);
     begin_child(lowering, stmt, made)
 }
 

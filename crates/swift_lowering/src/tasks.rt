@@ -1,15 +1,19 @@
 //! Tasks, groups and bindings, beside their closures.
 
-ghost use Rattle.std.specs.Prelude.{◌≡◌, IfNone, IfSome, IsNone, IsSome, Some, slice_get};
+ghost use Rattle.std.specs.Prelude.{◌≡◌, ℕ, IfNone, IfSome, IsNone, IsSome, Some, slice_get};
 ghost use Rattle.swift_expressions.specs.Instructions.{KeepsRefusal};
-ghost use Rattle.swift_expressions.specs.States.{Becomes, left_to, next_variable, put, state_of};
+ghost use Rattle.swift_expressions.specs.States.{Becomes, Gives, left_to, next_variable, put, state_of};
 ghost use Rattle.swift_expressions.specs.Lowered.{yielding};
 ghost use Rattle.swift_lowering.specs.Blocks.{AddsTask, BeginsChild, EndsChild, IsNext, MakesTask, TakesResults, child_begun, child_count, counted_in, open_results, with_child_count};
+ghost use Rattle.swift_lowering.specs.Closures.{IsOfChild, IsOfTask};
+ghost use Rattle.swift_lowering.specs.Groups.{BeginsBind, BeginsGroup, entered, result_variable, with_result};
 ghost use Rattle.swift_lowering.specs.Returning.{leaves_early};
 ghost use Rattle.swift_lowering.specs.EndsInside.{EndsCancelled};
 ghost use Rattle.swift_lowering.specs.Statements.{result_given, result_set};
 
-use crate::closure::{ClosureBody, MadeClosure, lone_value};
+use crate::alone::lone_value;
+use crate::catching::begin_at_zero;
+use crate::closure::{ClosureBody, MadeClosure};
 use crate::returns::leaves_early;
 use swift_expressions::{
     Binding, Instruction, Kind, Lowering, NONE, Returns, Setting, Standing, Target, Typed, Value,
@@ -26,7 +30,9 @@ pub(crate) fn task_body(
     stmt: Stmt,
     form: TaskForm,
     is_among_others: bool,
-) -> ClosureBody {
+) -> ClosureBody
+    ensures { IsOfTask (state_of lowering.now) stmt form result }
+{
     ClosureBody {
         first: form.body,
         value: lone_value(lowering, form.body),
@@ -40,7 +46,9 @@ pub(crate) fn task_body(
 }
 
 /// The value of an `async let` as a closure.
-pub(crate) fn child_body(stmt: Stmt, value: usize) -> ClosureBody {
+pub(crate) fn child_body(stmt: Stmt, value: usize) -> ClosureBody
+    ensures { IsOfChild stmt value result }
+{
     ClosureBody {
         first: 0,
         value,
@@ -73,7 +81,7 @@ pub(crate) fn make_task(
     form: TaskForm,
     made: MadeClosure,
 )
-    ensures makes { IsNone lowering.new.refused → MakesTask (state_of lowering.old) name form.is_detached (state_of lowering.new) }
+    ensures makes { IsNone lowering.new.refused → MakesTask (state_of lowering.old) name form.is_detached made.callee (state_of lowering.new) }
     ensures refused { KeepsRefusal lowering.old lowering.new }
 {
     lowering.refuse_where(name == 0, Rule::TaskLeft, stmt.token);
@@ -145,7 +153,7 @@ pub(crate) fn add_task(
     form: TaskForm,
     made: MadeClosure,
 )
-    ensures adds { IsNone lowering.new.refused → AddsTask (state_of lowering.old) is_only (state_of lowering.new) }
+    ensures adds { IsNone lowering.new.refused → AddsTask (state_of lowering.old) is_only made.callee (state_of lowering.new) }
     ensures refused { KeepsRefusal lowering.old lowering.new }
 {
     let Some((place, group)) = group_named(lowering, stmt.token) else {
@@ -181,7 +189,7 @@ pub(crate) fn begin_child(
     stmt: Stmt,
     made: MadeClosure,
 ) -> (usize, usize)
-    ensures begins { IsNone lowering.new.refused → BeginsChild (state_of lowering.old) stmt.token (leaves_early (state_of lowering.old) stmt.next) result.0 result.1 (state_of lowering.new) }
+    ensures begins { IsNone lowering.new.refused → BeginsChild (state_of lowering.old) stmt.token (leaves_early (state_of lowering.old) stmt.next) made.callee result.0 result.1 (state_of lowering.new) }
     ensures refused { KeepsRefusal lowering.old lowering.new }
 {
     let is_left_early = leaves_early(lowering, stmt.next);
@@ -250,19 +258,19 @@ pub(crate) fn end_child(lowering: &mut Lowering<'_>, variable: usize, count: usi
 
 /// A variable for what a closure gives, where that goes somewhere; else `NONE`.
 pub(crate) fn begin_result(lowering: &mut Lowering<'_>, into: Into) -> usize
+    ensures state { Becomes lowering.new (with_result into (state_of lowering.old)) }
+    ensures variable { result ≡ result_variable into (state_of lowering.old) }
     ensures refused { KeepsRefusal lowering.old lowering.new }
 {
-    if let Into::Nothing = into {
-        return NONE;
+    match into {
+        Into::Nothing => NONE,
+        Into::Let(..) | Into::Var(..) | Into::Assign(_) | Into::Return => begin_at_zero(lowering),
     }
-    let variable = lowering.temporary();
-    let zero = lowering.number(0);
-    lowering.put(Instruction::Let(variable, zero));
-    variable
 }
 
 /// Begins a closure that stands in its unit: what returns from it goes to a variable.
 pub(crate) fn enter_closure(lowering: &mut Lowering<'_>, variable: usize)
+    ensures enters { (blocks : ℕ) × Becomes lowering.new (entered variable blocks (state_of lowering.old)) }
     ensures refused { KeepsRefusal lowering.old lowering.new }
 {
     let blocks = lowering.setting.blocks.saturating_add(1);
@@ -316,6 +324,8 @@ pub(crate) fn result_of(
     kind: Option<Kind>,
     token: usize,
 ) -> Option<Typed>
+    ensures given { IfSome result (λ found. IsNone lowering.new.refused → Gives (state_of lowering.old) (Value.Variable variable) found.kind (state_of lowering.new) found) }
+    ensures nowhere { IfNone result (IsNone lowering.new.refused → (variable ≡ NONE) × (state_of lowering.new ≡ state_of lowering.old)) }
     ensures refused { KeepsRefusal lowering.old lowering.new }
 {
     if variable == NONE {
@@ -330,20 +340,14 @@ pub(crate) fn result_of(
     }
 }
 
-/// Begins a group. The places of its variable and of its count.
-pub(crate) fn begin_group(
-    lowering: &mut Lowering<'_>,
-    stmt: Stmt,
-    kind: Kind,
-    is_throwing: bool,
-) -> usize
+/// Begins a group.
+pub(crate) fn begin_group(lowering: &mut Lowering<'_>, stmt: Stmt, kind: Kind, is_throwing: bool)
+    ensures begins { IsNone lowering.new.refused → BeginsGroup (state_of lowering.old) stmt.token kind (state_of lowering.new) }
     ensures refused { KeepsRefusal lowering.old lowering.new }
 {
     let variable = lowering.variable(stmt.token, false);
     lowering.put(Instruction::Group(variable));
-    let count = lowering.temporary();
-    let zero = lowering.number(0);
-    lowering.put(Instruction::Let(count, zero));
+    let count = begin_at_zero(lowering);
     declare_as(
         lowering,
         stmt.token,
@@ -353,23 +357,22 @@ pub(crate) fn begin_group(
         is_throwing,
         count,
     );
-    variable
 }
 
 /// Binds a task local.
 pub(crate) fn begin_bind(lowering: &mut Lowering<'_>, of: usize, name: usize, given: usize)
+    ensures begins { IsNone lowering.new.refused → BeginsBind (state_of lowering.old) given (state_of lowering.new) }
     ensures refused { KeepsRefusal lowering.old lowering.new }
 {
     let found = expression(lowering, given);
-    match local_named(lowering, of, name) {
-        Some(local) => {
-            refuse_hidden(lowering, of);
-            let kind = local_kind(lowering, local);
-            want(lowering, found, kind, name);
-            lowering.put(Instruction::Bind(local, found.value));
-        }
-        None => lowering.refuse(Rule::UnknownName, name),
-    }
+    let Some(local) = local_named(lowering, of, name) else {
+        lowering.refuse(Rule::UnknownName, name);
+        return;
+    };
+    refuse_hidden(lowering, of);
+    let kind = local_kind(lowering, local);
+    want(lowering, found, kind, name);
+    lowering.put(Instruction::Bind(local, found.value));
 }
 
 // Refuses a loop over the results of a group that may lack a child, or that is not covered.

@@ -1,10 +1,16 @@
 use Rattle.std.proofs.Common.{◌+◌, ◌-◌, ◌*◌, IsNone, length}
 use Rattle.swift_expressions.specs.States.{State, state_of}
-use Rattle.swift_lowering.specs.Blocks.{DoesAll}
+use Rattle.swift_lowering.specs.Blocks.{AttemptsAll, DoesAll}
 use Rattle.swift_lowering.proofs.statement.+statement.Given as goal
 
 abbrev pub decreases-closure : goal.decreases-closure
-decreases-closure l = l.depth * 8 + 1
+decreases-closure l = l.depth * 8 + 2
+
+abbrev pub decreases-say : goal.decreases-say
+decreases-say l = l.depth * 8 + 1
+
+abbrev pub decreases-say_closed : goal.decreases-say_closed
+decreases-say_closed l = l.depth * 8 + 2
 
 abbrev pub decreases-block : goal.decreases-block
 decreases-block l = l.depth * 8 + 1
@@ -25,13 +31,13 @@ abbrev pub decreases-loop_for : goal.decreases-loop_for
 decreases-loop_for l = l.depth * 8 + 3
 
 abbrev pub decreases-closure_block : goal.decreases-closure_block
-decreases-closure_block l = l.depth * 8 + 2
+decreases-closure_block l = l.depth * 8 + 3
 
 abbrev pub decreases-grouped : goal.decreases-grouped
-decreases-grouped l = l.depth * 8 + 3
+decreases-grouped l = l.depth * 8 + 4
 
 abbrev pub decreases-bound : goal.decreases-bound
-decreases-bound l = l.depth * 8 + 3
+decreases-bound l = l.depth * 8 + 4
 
 abbrev pub decreases-statement : goal.decreases-statement
 decreases-statement l = l.depth * 8 + 7
@@ -46,13 +52,13 @@ abbrev pub decreases-loop_results : goal.decreases-loop_results
 decreases-loop_results l = l.depth * 8 + 3
 
 abbrev pub decreases-task : goal.decreases-task
-decreases-task l = l.depth * 8 + 2
+decreases-task l = l.depth * 8 + 3
 
 abbrev pub decreases-group_child : goal.decreases-group_child
-decreases-group_child l = l.depth * 8 + 2
+decreases-group_child l = l.depth * 8 + 3
 
 abbrev pub decreases-child : goal.decreases-child
-decreases-child l = l.depth * 8 + 2
+decreases-child l = l.depth * 8 + 3
 
 abbrev pub decreases-do_catch : goal.decreases-do_catch
 decreases-do_catch l = l.depth * 8 + 2
@@ -72,4 +78,8 @@ invariant-statements-loop l =
     }
 
 abbrev pub invariant-do_statements-loop : goal.invariant-do_statements-loop
-invariant-do_statements-loop l = IsNone l.lowering.refused → IsNone l.fn.lowering.refused
+invariant-do_statements-loop l =
+    record {
+      refused : IsNone l.lowering.refused → IsNone l.fn.lowering.refused;
+      attempts : IsNone l.lowering.refused → (t : State) → AttemptsAll (length l.fn.lowering.tree.now.value.stmts.items - l.counter) (state_of l.lowering) l.flag l.token l.place t → AttemptsAll (length l.fn.lowering.tree.now.value.stmts.items) (state_of l.fn.lowering) l.flag l.token l.first t;
+    }

@@ -1,0 +1,8 @@
+use Rattle.std.proofs.Common.{◌≡◌, refl, rules}
+use Rattle.swift_syntax.specs.Expressions.{after}
+use Rattle.swift_lowering.proofs.tasks.task_body.Goals as goal
+
+pub returns : goal.returns
+returns c =
+    let next : c.saturating_add.result ≡ after c.args.stmt.token = search rules in
+    record { first = refl; value = c.lone_value.ensures; from = next; to = refl; is_implicit = refl }
