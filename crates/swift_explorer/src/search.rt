@@ -83,6 +83,15 @@ pub(crate) fn path_to(alloc: Global, nodes: &Nodes, place: usize) -> Result<Vec<
     Ok(path)
 }
 
+// These steps again, with room for one more, so that putting it there copies them no second time.
+fn with_room(alloc: Global, path: &[Move]) -> Result<Vec<Move>, AllocError>
+    ensures items { IfOk result (λ steps. steps.items ≡ path.now) }
+{
+    let mut steps = Vec::with_capacity(alloc, path.len().saturating_add(1))?;
+    steps.extend_from_slice(path)?;
+    Ok(steps)
+}
+
 // These steps and one more.
 fn with_step(alloc: Global, path: &[Move], step: Move) -> Result<Vec<Move>, AllocError>
     ensures { IfOk result (λ steps. steps.items ≡ path.now ++ step ∷ []) }
@@ -429,7 +438,7 @@ impl Search {
         let last = step.last();
         let mut moves = Vec::new(self.alloc);
         step.put_first(&mut moves)?;
-        let mut front = Vec::from_slice(self.alloc, path)?;
+        let mut front = with_room(self.alloc, path)?;
         step.put_first(&mut front)?;
         moves.push(last)?;
         let Some(next) = first_followed(history.into_history(), path, step)? else {
