@@ -83,12 +83,13 @@ pub(crate) fn path_to(alloc: Global, nodes: &Nodes, place: usize) -> Result<Vec<
     Ok(path)
 }
 
-// These steps and one more.
-fn with_step(alloc: Global, path: &[Move], step: Move) -> Result<Vec<Move>, AllocError>
-    ensures { IfOk result (λ steps. steps.items ≡ path.now ++ step ∷ []) }
+// These steps, what a step of a search does before its last, and that.
+fn with_step(alloc: Global, path: &[Move], step: Step, last: Move) -> Result<Vec<Move>, AllocError>
+    ensures { IfOk result (λ steps. steps.items ≡ (path.now ++ first_half step) ++ last ∷ []) }
 {
     let mut steps = Vec::from_slice(alloc, path)?;
-    steps.push(step)?;
+    step.put_first(&mut steps)?;
+    steps.push(last)?;
     Ok(steps)
 }
 
@@ -162,6 +163,24 @@ fn follow_one(
     history.step(step)
 }
 
+// The same of what a step of a search does last, after what it does before that. These steps are in no list, which would be a copy of the
+// path for each step.
+fn follow_last(
+    history: &mut SearchedHistory,
+    path: &[Move],
+    step: Step,
+    last: Move,
+) -> Result<Followed, AllocError>
+    requires { IsPath (arc_value history.old.steps.script) (path.now ++ first_half step) history.old }
+    ensures broken { IfOk result (λ f. f ≡ Followed.Broken → IsBrokenAfter (arc_value history.old.steps.script) ((path.now ++ first_half step) ++ last ∷ [])) }
+    ensures path { IfOk result (λ f. WasDone f → IsPath (arc_value history.old.steps.script) ((path.now ++ first_half step) ++ last ∷ []) history.new) }
+    ensures last { IfOk result (λ f. WasDone f → IsFollowedBy (arc_value history.old.steps.script) (path.now ++ first_half step) last history.new f) }
+{
+    let _ = path;
+    let _ = step;
+    history.step(last)
+}
+
 // A history to which these steps have led, once the next turn of a task has begun. Nothing where it may not.
 fn begun(
     history: SearchedHistory,
@@ -223,23 +242,25 @@ fn followed(
     }
 }
 
-// Follows one more step than these, which were followed, and then silent turns, which are put to the last steps.
+// Follows what a step of a search does last, after these steps and what it does before that, which were followed, and then silent turns,
+// which are put to the last steps.
 fn follow_ahead(
     history: &mut SearchedHistory,
     away: &AwayMarks,
     marks: &[Vec<bool>],
     path: &[Move],
+    step: Step,
     last: Move,
     moves: &mut Vec<Move>,
 ) -> Result<Followed, AllocError>
-    requires path { IsPath (arc_value history.old.steps.script) path.now history.old }
+    requires path { IsPath (arc_value history.old.steps.script) (path.now ++ first_half step) history.old }
     requires told { AreTold (arc_value history.old.steps.script) away.now }
     requires marked { HaveSilentMarks (arc_value history.old.steps.script) marks.now }
     requires hold { StartsHold (arc_value history.old.steps.script) }
-    ensures broken { IfOk result (λ f. f ≡ Followed.Broken → IsBrokenAfter (arc_value history.old.steps.script) (path.now ++ last ∷ [])) }
-    ensures ahead { IfOk result (λ f. WasDone f → IsFollowedAhead (arc_value history.old.steps.script) path.now last history.new f moves.old.items moves.new.items) }
+    ensures broken { IfOk result (λ f. f ≡ Followed.Broken → IsBrokenAfter (arc_value history.old.steps.script) ((path.now ++ first_half step) ++ last ∷ [])) }
+    ensures ahead { IfOk result (λ f. WasDone f → IsFollowedAhead (arc_value history.old.steps.script) (path.now ++ first_half step) last history.new f moves.old.items moves.new.items) }
 {
-    let done = follow_one(history, path, last)?;
+    let done = follow_last(history, path, step, last)?;
     if let Followed::No = done {
         return Ok(Followed::No);
     }
@@ -361,39 +382,48 @@ impl Search {
         put_history(&mut self.histories, place, spare)
     }
 
-    // Writes the first turn that breaks an invariant: the last of these steps.
-    fn note_broken(&mut self, path: &[Move], step: Move) -> Result<(), AllocError>
-        requires broken { IsBrokenAfter (arc_value self.old.script) (path.now ++ step ∷ []) }
+    // Writes the first turn that breaks an invariant: what a step does last after these.
+    fn note_broken(&mut self, path: &[Move], step: Step, last: Move) -> Result<(), AllocError>
+        requires broken { IsBrokenAfter (arc_value self.old.script) ((path.now ++ first_half step) ++ last ∷ []) }
         requires before { IfSome self.old.broken (λ schedule. IsBrokenAfter (arc_value self.old.script) schedule.items) }
         ensures rest { self.new ≡ record self.old { broken = self.new.broken } }
         ensures noted { OnOk result (is_some self.new.broken ≡ true) }
         ensures broken { OnOk result (IfSome self.new.broken (λ schedule. IsBrokenAfter (arc_value self.old.script) schedule.items)) }
     {
         if self.broken.is_none() {
-            self.broken = Some(with_step(self.alloc, path, step)?);
+            self.broken = Some(with_step(self.alloc, path, step, last)?);
         }
         Ok(())
     }
 
-    // Follows one more step than these, which were followed, and then silent turns, and keeps the history that they lead to. It is known by
-    // the last steps, after another.
+    // Follows what a step does last, after these steps and what it does before that, which were followed, and then silent turns, and keeps
+    // the history that they lead to. It is known by the last steps, after another.
     fn try_last(
         &mut self,
         history: SearchedHistory,
         path: &[Move],
+        step: Step,
         last: Move,
         before: usize,
         mut moves: Vec<Move>,
     ) -> Result<(), AllocError>
         requires sound { IsSound (arc_value self.old.script) self.old }
-        requires followed { IsPath (arc_value self.old.script) path.now history }
-        requires path { GoesFrom (paths_of self.old.nodes) before moves.items (path.now ++ last ∷ []) }
+        requires followed { IsPath (arc_value self.old.script) (path.now ++ first_half step) history }
+        requires path { GoesFrom (paths_of self.old.nodes) before moves.items ((path.now ++ first_half step) ++ last ∷ []) }
         ensures grown { OnOk result (HasGrown self.old self.new) }
         ensures sound { OnOk result (IsSound (arc_value self.old.script) self.new) }
-        ensures tried { OnOk result (IsTrue self.new.is_complete → WasTriedLast (arc_value self.old.script) self.new path.now last) }
+        ensures tried { OnOk result (IsTrue self.new.is_complete → WasTriedLast (arc_value self.old.script) self.new (path.now ++ first_half step) last) }
     {
         let mut next = history;
-        match follow_ahead(&mut next, &self.away, &self.marks, path, last, &mut moves) {
+        match follow_ahead(
+            &mut next,
+            &self.away,
+            &self.marks,
+            path,
+            step,
+            last,
+            &mut moves,
+        ) {
             Err(fault) => {
                 next.close();
                 Err(fault)
@@ -406,7 +436,7 @@ impl Search {
             Ok(Followed::Yes) => self.keep(next, before, moves),
             Ok(Followed::Broken) => {
                 self.keep(next, before, moves)?;
-                self.note_broken(path, last)
+                self.note_broken(path, step, last)
             }
         }
     }
@@ -429,14 +459,12 @@ impl Search {
         let last = step.last();
         let mut moves = Vec::new(self.alloc);
         step.put_first(&mut moves)?;
-        let mut front = Vec::from_slice(self.alloc, path)?;
-        step.put_first(&mut front)?;
         moves.push(last)?;
         let Some(next) = first_followed(history.into_history(), path, step)? else {
             self.is_complete = false;
             return Ok(());
         };
-        self.try_last(next, &front, last, before, moves)
+        self.try_last(next, path, step, last, before, moves)
     }
 
     // Writes an outcome, where it is a new one.

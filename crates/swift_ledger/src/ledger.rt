@@ -25,8 +25,11 @@ use swift_log::EventLog;
 use swift_types::limits::{MADE, TASKS};
 use swift_types::{Env, Priority, Resume, TaskId};
 
-// For how many events room is made at once, so that a turn seldom asks each index for some.
-const EVENTS_AT_ONCE: usize = 64;
+// For how many events room is made at once, so that a turn seldom asks each index for some: for a quarter of those that there are, within
+// these bounds, so that a short log, of which a search has many copies, takes little.
+const FEW_AT_ONCE: usize = 16;
+
+const MANY_AT_ONCE: usize = 64;
 
 /// The log of a run, and indexes by which each question below is answered in constant time (our own). Only `note` writes, and the
 /// three calls that it makes for the events of a turn.
@@ -264,7 +267,7 @@ impl Ledger {
 
     /// Makes room, so that the next `events` calls of `note` find memory. Out of memory nothing else has changed. Where
     /// so much is reserved already it takes constant time, else time that is linear in what is kept and in `events`; it
-    /// then makes room for 64 events at least, so that most calls find it.
+    /// then makes room for 16 to 64 events at least, by how many there are, so that most calls find it.
     pub fn reserve(&mut self, events: usize) -> Result<(), AllocError>
         ensures same { self.new ≡ record self.old { spare = self.new.spare } }
         ensures ok { OnOk result (events ≤ self.new.spare) }
@@ -273,7 +276,8 @@ impl Ledger {
         if events <= self.log.room() {
             return Ok(());
         }
-        let room = events.max(EVENTS_AT_ONCE);
+        let at_once = (self.log.len() / 4).clamp(FEW_AT_ONCE, MANY_AT_ONCE);
+        let room = events.max(at_once);
         self.indexes.reserve(room)?;
         self.log.reserve(room)
     }

@@ -9,6 +9,11 @@ use std::alloc::{AllocError, Global};
 use std::marker::Model;
 use swift_events::Event;
 
+// For how many more events a copy takes memory: for a quarter of those that there are, within these bounds.
+const FEW_MORE: usize = 16;
+
+const MANY_MORE: usize = 64;
+
 /// The events of a run, the oldest first (our own). An event takes 16 bytes, and 8 more where it says a number: the value of a task
 /// that has ended, or of what it threw. In a clause it is the list of the events, and how many more are sure to find memory.
 #[derive(Drop)]
@@ -47,6 +52,15 @@ fn push_number(numbers: &mut Vec<i64>, event: Event)
     }
 }
 
+// The same again. It takes memory for so many more.
+fn roomy_copy<T: Copy>(alloc: Global, items: &[T], more: usize) -> Result<Vec<T>, AllocError>
+    ensures { IfOk result (λ copy. copy.items ≡ items.now) }
+{
+    let mut copy = Vec::with_capacity(alloc, items.len().saturating_add(more))?;
+    copy.extend_from_slice(items)?;
+    Ok(copy)
+}
+
 impl EventLog {
     /// A log without events. Takes no memory.
     pub fn new(alloc: Global) -> EventLog
@@ -59,13 +73,15 @@ impl EventLog {
         }
     }
 
-    /// The same events again, with room for none beside them (our own). Linear in the events: a copy of memory.
+    /// The same events again, with room for none beside them (our own). Linear in the events: a copy of memory. It takes memory for some
+    /// more, so that a `reserve` of as many need not copy again.
     pub fn copy(&self, alloc: Global) -> Result<EventLog, AllocError>
         ensures { IfOk result (λ copy. copy ≡ record { events = self.now.events; room = 0 }) }
     {
+        let more = (self.entries.len() / 4).clamp(FEW_MORE, MANY_MORE);
         Ok(EventLog {
-            numbers: Vec::from_slice(alloc, &self.numbers)?,
-            entries: Vec::from_slice(alloc, &self.entries)?,
+            numbers: roomy_copy(alloc, &self.numbers, more)?,
+            entries: roomy_copy(alloc, &self.entries, more)?,
             room: 0,
         })
     }

@@ -1,4 +1,4 @@
-use Rattle.swift_explorer.proofs.Prelude.{◌≡◌, [], ◌∷◌, ◌++◌, sym, subst, ap, IfSome, arc_value, on_ok_weaker, ScriptView, IsBrokenAfter, IsPath, WasDone, StartsHold, AreTold, HaveSilentMarks, HasGrown, IsFollowedAhead, IsSound, paths_of}
+use Rattle.swift_explorer.proofs.Prelude.{◌≡◌, [], ◌∷◌, ◌++◌, sym, subst, ap, IfSome, arc_value, on_ok_weaker, ScriptView, IsBrokenAfter, IsPath, WasDone, StartsHold, AreTold, HaveSilentMarks, HasGrown, IsFollowedAhead, IsSound, first_half, paths_of}
 use Rattle.swift_explorer.proofs.Growing.{grown_on, like_grown}
 use Rattle.swift_explorer.proofs.Keeping.{keeps_none}
 use Rattle.swift_explorer.proofs.Nodes.{may_on}
@@ -13,8 +13,8 @@ keep-requires-in-Ok-Broken-clause-path c =
     let script = arc_value x.script in
     let f = c.in-Ok-Broken.field-0 in
     let done : WasDone f = subst WasDone (sym c.in-Ok-Broken.field-0-is) tt in
-    let by = subst (λ (s : ScriptView). IsFollowedAhead s c.args.path.now c.args.last h f c.args.moves.items c.follow_ahead.new.moves.items) c.requires.followed.is.followed.script_is (c.in-Ok-Broken.ensures.ahead done) in
-    kept_path script x h c.args.path.now c.args.last c.args.before c.args.moves.items c.follow_ahead.new.moves.items f c.requires.path by
+    let by = subst (λ (s : ScriptView). IsFollowedAhead s (c.args.path.now ++ first_half c.args.step) c.args.last h f c.args.moves.items c.follow_ahead.new.moves.items) c.requires.followed.is.followed.script_is (c.in-Ok-Broken.ensures.ahead done) in
+    kept_path script x h (c.args.path.now ++ first_half c.args.step) c.args.last c.args.before c.args.moves.items c.follow_ahead.new.moves.items f c.requires.path by
 
 pub keep-requires-clause-path : goal.keep-requires-clause-path
 keep-requires-clause-path c =
@@ -23,8 +23,8 @@ keep-requires-clause-path c =
     let script = arc_value x.script in
     let f = c.in-Ok-Yes.field-0 in
     let done : WasDone f = subst WasDone (sym c.in-Ok-Yes.field-0-is) tt in
-    let by = subst (λ (s : ScriptView). IsFollowedAhead s c.args.path.now c.args.last h f c.args.moves.items c.follow_ahead.new.moves.items) c.requires.followed.is.followed.script_is (c.in-Ok-Yes.ensures.ahead done) in
-    kept_path script x h c.args.path.now c.args.last c.args.before c.args.moves.items c.follow_ahead.new.moves.items f c.requires.path by
+    let by = subst (λ (s : ScriptView). IsFollowedAhead s (c.args.path.now ++ first_half c.args.step) c.args.last h f c.args.moves.items c.follow_ahead.new.moves.items) c.requires.followed.is.followed.script_is (c.in-Ok-Yes.ensures.ahead done) in
+    kept_path script x h (c.args.path.now ++ first_half c.args.step) c.args.last c.args.before c.args.moves.items c.follow_ahead.new.moves.items f c.requires.path by
 
 pub keep-requires-clause-before : goal.keep-requires-clause-before
 keep-requires-clause-before c = may_on (paths_of c.args.self.now.nodes) c.args.before c.requires.path.0 c.requires.path.1
@@ -50,7 +50,7 @@ returns-in-Ok-Yes-clause-tried c =
     let z = c.keep.new.self in
     let h = c.follow_ahead.new.history in
     let script = arc_value x.script in
-    let path = c.args.path.now in
+    let path = c.args.path.now ++ first_half c.args.step in
     let f = c.in-Ok-Yes.field-0 in
     let done : WasDone f = subst WasDone (sym c.in-Ok-Yes.field-0-is) tt in
     let by = subst (λ (s : ScriptView). IsFollowedAhead s path c.args.last h f c.args.moves.items c.follow_ahead.new.moves.items) c.requires.followed.is.followed.script_is (c.in-Ok-Yes.ensures.ahead done) in
@@ -83,7 +83,7 @@ returns-in_ok-keep-in-Ok-Broken-clause-tried c =
     let z = c.note_broken.new.self in
     let h = c.follow_ahead.new.history in
     let script = arc_value x.script in
-    let path = c.args.path.now in
+    let path = c.args.path.now ++ first_half c.args.step in
     let f = c.in-Ok-Broken.field-0 in
     let done : WasDone f = subst WasDone (sym c.in-Ok-Broken.field-0-is) tt in
     let by = subst (λ (sc : ScriptView). IsFollowedAhead sc path c.args.last h f c.args.moves.items c.follow_ahead.new.moves.items) c.requires.followed.is.followed.script_is (c.in-Ok-Broken.ensures.ahead done) in
@@ -95,7 +95,7 @@ returns-in_ok-keep-in-Ok-Broken-clause-tried c =
 
 pub note_broken-requires-clause-broken : goal.note_broken-requires-clause-broken
 note_broken-requires-clause-broken c =
-    let steps = c.args.path.now ++ c.args.last ∷ [] in
+    let steps = (c.args.path.now ++ first_half c.args.step) ++ c.args.last ∷ [] in
     let own : arc_value c.keep-in-Ok-Broken.new.self.script ≡ arc_value c.args.self.now.script = ap arc_value c.in_ok-keep-in-Ok-Broken.ensures.keeps.grown.script in
     subst (λ (s : ScriptView). IsBrokenAfter s steps) (sym own) (subst (λ (s : ScriptView). IsBrokenAfter s steps) c.requires.followed.is.followed.script_is (c.in-Ok-Broken.ensures.broken c.in-Ok-Broken.field-0-is))
 
@@ -113,7 +113,7 @@ follow_ahead-requires c =
     let own = sym c.requires.followed.is.followed.script_is in
     let sound = c.requires.sound in
     record {
-      path = subst (λ (s : ScriptView). IsPath s c.args.path.now c.args.history) own c.requires.followed;
+      path = subst (λ (s : ScriptView). IsPath s (c.args.path.now ++ first_half c.args.step) c.args.history) own c.requires.followed;
       told = subst (λ (s : ScriptView). AreTold s x.away) own sound.told;
       marked = subst (HaveSilentMarks script) (sym c.deref.ensures.value) (subst (λ (s : ScriptView). HaveSilentMarks s x.marks.items) own sound.marked);
       hold = subst StartsHold own sound.hold;

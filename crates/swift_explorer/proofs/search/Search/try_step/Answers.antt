@@ -7,13 +7,11 @@ try_last-requires c =
     let first = first_half c.args.step in
     let last = c.last-last.result in
     let moves = c.in_ok-push.ensures.items ∙ ap (λ (ms : List Move). ms ++ last ∷ []) (c.in_ok-put_first.ensures ∙ ap (λ (ms : List Move). ms ++ first) c.new-moves.ensures.items) in
-    let front = c.deref.ensures.value ∙ c.in_ok-put_first-2.ensures ∙ ap (λ (ms : List Move). ms ++ first) c.in_ok-front.ensures.items in
-    let script = arc_value c.args.self.now.script in
     let led : IsPath (arc_value c.args.history.history.steps.script) (path ++ first) c.in-Some.next = subst (λ (h : SearchedHistory). IsPath (arc_value h.steps.script) (path ++ first) c.in-Some.next) c.into_history.ensures (search rules) in
     record {
       sound = c.requires.sound;
-      followed = subst (λ (ms : List Move). IsPath script ms c.in-Some.next) (sym front) (subst (λ (s : ScriptView). IsPath s (path ++ first) c.in-Some.next) c.requires.followed.is.followed.script_is led);
-      path = (path, c.requires.path, ap (λ (ms : List Move). path ++ ms) moves ∙ sym (append_assoc path first (last ∷ [])) ∙ ap (λ (ms : List Move). ms ++ last ∷ []) (sym front));
+      followed = subst (λ (s : ScriptView). IsPath s (path ++ first) c.in-Some.next) c.requires.followed.is.followed.script_is led;
+      path = (path, c.requires.path, ap (λ (ms : List Move). path ++ ms) moves ∙ sym (append_assoc path first (last ∷ [])));
     }
 
 pub first_followed-requires : goal.first_followed-requires
@@ -25,9 +23,6 @@ pub returns-clause-tried : goal.returns-clause-tried
 returns-clause-tried c =
     let path = c.args.path.now in
     let first = first_half c.args.step in
-    let front = c.deref.ensures.value ∙ c.in_ok-put_first-2.ensures ∙ ap (λ (ms : List Move). ms ++ first) c.in_ok-front.ensures.items in
     let script = arc_value c.args.self.now.script in
     let z = c.try_last.new.self in
-    on_ok_weaker c.try_last.result
-    (λ tried is. subst (WasTriedLast script z (path ++ first)) c.last-last.ensures (subst (λ (ms : List Move). WasTriedLast script z ms c.last-last.result) front (tried is)))
-    c.try_last.ensures.tried
+    on_ok_weaker c.try_last.result (λ tried is. subst (WasTriedLast script z (path ++ first)) c.last-last.ensures (tried is)) c.try_last.ensures.tried
