@@ -21,7 +21,7 @@ use Rattle.swift_executor.specs.State.{ChosenView, ExecStateView}
 use Rattle.swift_executor.specs.declared.fault.ExecFault.{ExecFault}
 use Rattle.swift_executor.specs.declared.fault.ExecFault.TheVariants.{Memory, Worker, Refused}
 use Rattle.swift_executor.specs.declared.ran.VisitOutcome.{VisitOutcome}
-use Rattle.swift_executor.specs.declared.ran.VisitOutcome.TheVariants.{Turn, Busy, Nothing}
+use Rattle.swift_executor.specs.declared.ran.VisitOutcome.TheVariants.{Turns, Busy, Nothing}
 use Rattle.swift_executor.specs.Taken.{TakenView}
 use Rattle.swift_executor.specs.declared.state_name.StateImage.{StateImage}
 use Rattle.swift_executor.specs.declared.state_name.StateName.{StateName}
@@ -79,9 +79,9 @@ image_of r = record { resting = r }
 abbrev pub has_found : List ℕ → List StateImage → DeskView → DeskView
 has_found found moved d = record d { found = found; moved = moved }
 
--- one turn more was run by the desk, where one was
+-- so many turns more were run by the desk, where any was
 abbrev pub after_run : VisitOutcome → DeskView → DeskView
-after_run (Turn task left) d = record d { finished = d.finished + 1 }
+after_run (Turns task turns left) d = record d { finished = d.finished + turns }
 after_run Busy d = d
 after_run (Nothing left) d = d
 
@@ -94,16 +94,21 @@ FoundFree old new pending n = new ≡ n ∷ 2 * pending ∷ old
 abbrev pub FoundRunning : List ℕ → List ℕ → Type 0
 FoundRunning old new = (n : ℕ) × (new ≡ n ∷ old) × (n % 2 ≡ 1)
 
--- whether jobs were left, by the word that the end of a turn found, and by that which the visit found that gave the state back unused
+-- whether jobs were left, by the word that the end of so many turns found, and by that which the visit found that gave the state back
+-- unused
 abbrev pub HasLeft : VisitOutcome → ℕ → Type 0
-HasLeft (Turn task left) n = (left ≡ More) ↔ (1 < n / 2)
+HasLeft (Turns task turns left) n = (left ≡ More) ↔ (turns < n / 2)
 HasLeft Busy n = ⊥
 HasLeft (Nothing left) n = (left ≡ More) ↔ (0 < n / 2)
 
--- What a visit answers is what its steps on the word found. `Busy`: its begin found that a worker held the state. A turn: a job was
--- pending.
+-- at least one turn, and no more than this many
+abbrev pub IsAtMost : ℕ → ℕ → Type 0
+IsAtMost most turns = (0 < turns) × (turns ≤ most)
+
+-- What a visit answers is what its steps on the word found. `Busy`: its begin found that a worker held the state. Turns, of which there is
+-- at least one: as many jobs were pending.
 abbrev pub HasFound : VisitOutcome → List ℕ → List ℕ → Type 0
-HasFound (Turn task left) old new = (pending n : ℕ) × FoundFree old new pending n × (0 < pending) × HasLeft (Turn task left) n
+HasFound (Turns task turns left) old new = (pending n : ℕ) × FoundFree old new pending n × IsAtMost pending turns × HasLeft (Turns task turns left) n
 HasFound Busy old new = FoundRunning old new
 HasFound (Nothing left) old new = (pending n : ℕ) × FoundFree old new pending n × HasLeft (Nothing left) n
 
@@ -135,18 +140,18 @@ IsSeatAt e s = (s.word ≡ e.word) × (s.name ≡ Some (state_name e.inbox.site 
 
 -- what a visit, whose last step found this word and gave this state back, leaves of the seat that held the state
 abbrev pub seat_after : VisitOutcome → ℕ → TakenView → WordSeatView StateName StateImage → WordSeatView StateName StateImage
-seat_after (Turn task l) n r s = ended n (image_of r) s
+seat_after (Turns task turns l) n r s = ended turns n (image_of r) s
 seat_after Busy n r s = s
 seat_after (Nothing l) n r s = left n (image_of r) s
 
--- where a turn was run, this holds of its task
-abbrev pub IfTurn : (TaskId → Type 0) → VisitOutcome → Type 0
-IfTurn P (Turn task left) = P task
-IfTurn P _ = Unit {0}
+-- where turns were run, this holds of how many
+abbrev pub IfTurns : (ℕ → Type 0) → VisitOutcome → Type 0
+IfTurns P (Turns task turns left) = P turns
+IfTurns P _ = Unit {0}
 
 -- where no turn was run, this holds
 abbrev pub IfNoTurn : Type 0 → VisitOutcome → Type 0
-IfNoTurn P (Turn task left) = Unit {0}
+IfNoTurn P (Turns task turns left) = Unit {0}
 IfNoTurn P _ = P
 
 -- the task of the chosen job, where one is

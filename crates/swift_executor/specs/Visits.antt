@@ -1,6 +1,6 @@
 -- What a visit to an executor has done, by the state that it took out of the executor's word and the one that it gave back (SE-0306 for one
 -- turn at a time and for the order by priority; the rest is our own).
-use Rattle.std.specs.Prelude.{◌≡◌, ◌⊎◌, ◌<◌, ℕ, Some, None, List, [], ◌∷◌, ◌++◌, map}
+use Rattle.std.specs.Prelude.{◌≡◌, ◌⊎◌, ◌<◌, ℕ, zero, suc, Some, None, List, [], ◌∷◌, ◌++◌, length, map}
 use Rattle.std.specs.List.Sorted.{IsPermutation}
 use Rattle.swift_types.specs.declared.id.TaskId.{TaskId}
 use Rattle.swift_journal.specs.Records.{RecordView}
@@ -21,7 +21,7 @@ use Rattle.swift_executor.specs.State.{BeginsTurn, Chooses, EndsTurn, ExecInvari
 use Rattle.swift_executor.specs.declared.fault.ExecFault.{ExecFault}
 use Rattle.swift_executor.specs.declared.fault.ExecFault.TheVariants.{Memory, Refused, Worker}
 use Rattle.swift_executor.specs.declared.ran.VisitOutcome.{VisitOutcome}
-use Rattle.swift_executor.specs.declared.ran.VisitOutcome.TheVariants.{Turn, Busy, Nothing}
+use Rattle.swift_executor.specs.declared.ran.VisitOutcome.TheVariants.{Turns, Busy, Nothing}
 use Rattle.swift_executor.specs.declared.state_name.StateImage.{StateImage}
 use Rattle.swift_executor.specs.declared.state_name.StateName.{StateName}
 use Rattle.swift_word.specs.Seat.{WordSeatView, last_found}
@@ -79,6 +79,12 @@ pub record RunsTurn (worker : ℕ) (task : TaskId) (jobs jobs' : List JobFacts) 
   pub begun : TakenView
   pub begins : HasBegun worker task old begun
   pub finishes : Finishes jobs jobs' begun new
+
+-- So many turns were run, one after the other, the last of this task; before, between and after them only jobs have changed.
+abbrev pub RunsTurns : ℕ → ℕ → TaskId → List JobFacts → List JobFacts → TakenView → TakenView → Type 0
+RunsTurns worker zero last jobs jobs' old new = HasStayed old new × (jobs' ≡ jobs)
+RunsTurns worker (suc turns) last jobs jobs' old new =
+    (before : TaskId) × (mid : List JobFacts) × (r s : TakenView) × RunsTurns worker turns before jobs mid old r × RunsTurn worker last mid jobs' r s × HasStayed s new
 
 -- No job was ready, by a book to which the run has come, by what the executor's seat knew; the levels that it gives were noted.
 pub record FindsNone (old new : TakenView) : Type 0 where
@@ -160,9 +166,27 @@ pub record WritesOne (worker : ℕ) (task : TaskId) (old new : TakenView) : Type
 abbrev pub TurnsWriteOne : Type 0
 TurnsWriteOne = (worker : ℕ) (task : TaskId) (jobs jobs' : List JobFacts) (old new : TakenView) → RunsTurn worker task jobs jobs' old new → WritesOne worker task old new
 
+-- a journal that gained these records, one after the other
+abbrev pub journal_with_all : List RecordView → List RecordView → List RecordView
+journal_with_all journal [] = journal
+journal_with_all journal (r ∷ rs) = journal_with_all (journal_with journal r) rs
+
+-- As many records were written as turns were run: the newest of the journal, or folded with it, and of the seat's account, in one order.
+-- The last one is of this task.
+pub record WritesAll (turns : ℕ) (last : TaskId) (old new : TakenView) : Type 0 where
+  pub written : List RecordView
+  pub as_many : length written ≡ turns
+  pub journal : new.state.journal ≡ journal_with_all old.state.journal written
+  pub account : records_in new.seat.knows ≡ map (λ rs. rs ++ written) (records_in old.seat.knows)
+  pub last_is : 0 < turns → (before : List RecordView) × (r : RecordView) × (written ≡ before ++ r ∷ []) × (r.task ≡ last.0)
+
+-- Turns that were run one after the other wrote one record each.
+abbrev pub TurnsWriteAll : Type 0
+TurnsWriteAll = (worker turns : ℕ) (last : TaskId) (jobs jobs' : List JobFacts) (old new : TakenView) → RunsTurns worker turns last jobs jobs' old new → WritesAll turns last old new
+
 -- what was done to a state in which the jobs of the inbox are ready, where this many were pending, by what the visit answers
 abbrev pub HasRun : ℕ → ℕ → List JobFacts → List JobFacts → VisitOutcome → TakenView → TakenView → Type 0
-HasRun worker pending jobs jobs' (Turn task left) old new = RunsTurn worker task jobs jobs' old new
+HasRun worker pending jobs jobs' (Turns last turns left) old new = RunsTurns worker turns last jobs jobs' old new
 HasRun worker pending jobs jobs' Busy old new = ⊥
 HasRun worker pending jobs jobs' (Nothing left) old new = RunsNone pending old new
 
@@ -190,10 +214,10 @@ pub record Visited (i : InboxView) (P : TakenView → TakenView → Type 0) (too
   pub accepts : HasStayed took ready
   pub does : P ready gave
 
--- What a visit did that answers so: it took the executor's state out of the word, made jobs of the inbox ready, ran one turn or none, and
--- gave the state back. Where it ran none though its first step on the word found jobs pending, none was ready.
+-- What a visit did that answers so: it took the executor's state out of the word, made jobs of the inbox ready, ran as many turns as it
+-- answers or none, and gave the state back. Where it ran none though its first step on the word found jobs pending, none was ready.
 abbrev pub Visits : InboxView → ℕ → List JobFacts → List JobFacts → VisitOutcome → DeskView → DeskView → Type 0
-Visits i worker jobs jobs' (Turn task left) old new = HasMoved i old.moved new.moved (Visited i (RunsTurn worker task jobs jobs'))
+Visits i worker jobs jobs' (Turns last turns left) old new = HasMoved i old.moved new.moved (Visited i (RunsTurns worker turns last jobs jobs'))
 Visits i worker jobs jobs' Busy old new = new.moved ≡ old.moved
 Visits i worker jobs jobs' (Nothing left) old new = (pending n : ℕ) × FoundFree old.found new.found pending n × HasMoved i old.moved new.moved (Visited i (RunsNone pending))
 

@@ -5,7 +5,7 @@ use swift_tasks::BookFault;
 use thiserror::Error;
 
 /// Why an executor refuses a call (our own). No job is lost. After a refused call of `ExecState` fields and journal are as before, by
-/// contract, and so they are after a refused `Exec::run_one`, but jobs of the inbox may have become ready.
+/// contract, and so they are after a refused `Exec::run_some`, but jobs of the inbox may have become ready.
 #[derive(Clone, Copy, Debug, PartialEq, Eq, Error)]
 pub enum ExecFault {
     /// A growth was refused.

@@ -2,9 +2,10 @@
 
 use swift_types::{ExecId, TaskId};
 
-/// A moment of a run, at an executor (our own). `Exec::run_one` tells those of a visit, in the order of this list, each with the
-/// executor and the worker that visits it. Of a visit that is refused `Ended` is still told, and `Turned` is not; of one that finds the
-/// executor busy, `Took` alone. `Exec::enqueue` tells the last two, of a job that is sent by whatever thread.
+/// A moment of a run, at an executor (our own). `Exec::run_some` tells those of a visit, in the order of this list, each with the
+/// executor and the worker that visits it; `Chose` and `Turned` of each turn as they come, those of one turn before those of the next. Of
+/// a turn that is refused `Turned` is not told; of a visit that is refused `Ended` is still told; of one that finds the executor busy,
+/// `Took` alone. `Exec::enqueue` tells the last two, of a job that is sent by whatever thread.
 #[derive(Clone, Copy)]
 pub enum Moment {
     /// The worker may run the executor, and is about to ask for its state. In a run it has just taken the executor's token.

@@ -15,7 +15,7 @@ ghost use Rattle.swift_history.specs.Jobs.{job_facts};
 ghost use Rattle.swift_executor.specs.Account.{AreTaken, HasTaken};
 ghost use Rattle.swift_executor.specs.Looks.{FreeAreSeen};
 ghost use Rattle.swift_executor.specs.Ready.{Adds};
-ghost use Rattle.swift_executor.specs.Visits.{TurnsWriteOne};
+ghost use Rattle.swift_executor.specs.Visits.{TurnsWriteAll, TurnsWriteOne};
 ghost use Rattle.swift_executor.specs.Seats.{IsOpened, IsSeatFor};
 ghost use Rattle.swift_shared_book.specs.Shared.{BookSeatView, knowing, with_ticket};
 ghost use Rattle.std.specs.Thread.{IsSend, IsSync};
@@ -122,6 +122,12 @@ pub fn free_executors_stand_in_a_history()
 /// with it, and of the account of the executor's seat (SE-0306 for jobs that run once).
 pub fn a_turn_writes_one_record()
     ensures { TurnsWriteOne }
+{}
+
+/// Turns that a visit has run one after the other wrote one record each, in one order in the journal and in the account of the executor's
+/// seat; the last is of the task that the visit tells (SE-0306 for jobs that run once).
+pub fn turns_write_a_record_each()
+    ensures { TurnsWriteAll }
 {}
 
 /// Threads may share an executor (our own).

@@ -1,6 +1,6 @@
 //! A visit of a worker to an executor.
 
-ghost use Rattle.std.specs.Prelude.{◌≡◌, ◌<◌, ◌/◌, ◌↔◌, ◌⊎◌, None, Some, Err, false, map, IfOk, IfErr, IfSome, IfNone, IsSome, IsSomeAnd, OnOk, OnErr};
+ghost use Rattle.std.specs.Prelude.{◌≡◌, ◌<◌, ◌≤◌, ◌/◌, ◌↔◌, ◌⊎◌, None, Some, Err, false, map, IfOk, IfErr, IfSome, IfNone, IsSome, IsSomeAnd, OnOk, OnErr};
 ghost use Rattle.std.specs.List.{AllByRecursion};
 ghost use Rattle.futures.specs.Task.{Keeps};
 ghost use Rattle.swift_script.specs.Scripts.{executor_kind};
@@ -11,14 +11,14 @@ ghost use Rattle.swift_tasks.specs.declared.fault.BookFault.TheVariants.{Unknown
 ghost use Rattle.swift_shared_book.specs.Shared.{BookSeatView, seat_of};
 ghost use Rattle.swift_word.specs.Seat.{ended, last_found, left};
 ghost use Rattle.swift_executor.specs.PlayedAheadInside.{Afresh};
-ghost use Rattle.swift_executor.specs.Exec.{HasFound, HasLeft, HasTried, IfNoTurn, IfTurn, IsAt, IsBookOf, IsDeskOf, IsRunFault, IsSeatAt, after_run, has_found, image_of, may_run, seat_after};
+ghost use Rattle.swift_executor.specs.Exec.{HasFound, HasLeft, HasTried, IfNoTurn, IfTurns, IsAt, IsAtMost, IsBookOf, IsDeskOf, IsRunFault, IsSeatAt, after_run, has_found, image_of, may_run, seat_after};
 ghost use Rattle.swift_executor.specs.Held.{HasOpened, IsOfBook, IsStateAt, KeepsJobs};
 ghost use Rattle.swift_executor.specs.Refusals.{IsRefusal};
 ghost use Rattle.swift_executor.specs.Seats.{HaveSeen, IsSeatFor, KeepsOrder, records_in};
 ghost use Rattle.swift_executor.specs.State.{Chooses, ExecStateView, HasChosen, HasNone, IsBegun, LacksTask, PutsBack, refusal_to_begin};
 ghost use Rattle.swift_executor.specs.Visits.{BeginsIn, Fails, FindsNone, Finishes, HasBegun, HasRun, HasStayed, IsFree, IsNotBegun, IsNotEnded, IsRefused, Leaves, RunsTurn, Visits};
 
-use crate::ahead::turn_ahead;
+use crate::ahead::turns_ahead;
 use crate::desk::Desk;
 use crate::exec::Exec;
 use crate::fault::ExecFault;
@@ -240,17 +240,22 @@ where
 }
 
 impl Exec {
-    // Gives the state back after a turn.
-    fn end_turn(&self, seat: &mut WordSeat<Resting>, held: Box<TakenState>) -> PendingLeft
+    // Gives the state back after so many turns.
+    fn end_turns(
+        &self,
+        seat: &mut WordSeat<Resting>,
+        held: Box<TakenState>,
+        turns: u64,
+    ) -> PendingLeft
         requires seat { IsSeatAt self.now seat.old }
-        requires found { IsSomeAnd seat.old.holding (λ found. 0 < found) }
+        requires found { IsSomeAnd seat.old.holding (λ found. IsAtMost found turns) }
         requires at { IsStateAt self.now.inbox held.value }
         requires free { held.value.state.chosen ≡ None }
-        ensures seat { seat.new ≡ ended (last_found seat.new) (image_of held.value) seat.old }
+        ensures seat { seat.new ≡ ended turns (last_found seat.new) (image_of held.value) seat.old }
         ensures given { IsFree self.now.inbox held.value }
-        ensures left { (result ≡ PendingLeft.More) ↔ (1 < last_found seat.new / 2) }
+        ensures left { (result ≡ PendingLeft.More) ↔ (turns < last_found seat.new / 2) }
     {
-        self.word.end(seat, Resting::new(held))
+        self.word.end(seat, Resting::new(held), turns)
     }
 
     // Gives the state back where no turn was run.
@@ -266,7 +271,7 @@ impl Exec {
         self.word.leave(seat, Resting::new(held))
     }
 
-    // Runs a turn where `found` jobs are pending, and gives the state back.
+    // Runs turns where `found` jobs are pending, as many at most, and gives the state back.
     fn run_held<R, G>(
         &self,
         rt: &R,
@@ -274,6 +279,7 @@ impl Exec {
         found: u64,
         mut held: Box<TakenState>,
         worker: u32,
+        most: u64,
         book: &BookLock,
         cx: &mut Context<'_>,
         jobs: &mut TicketedJobs,
@@ -283,6 +289,7 @@ impl Exec {
         R: Wait,
         G: Gate,
         requires seat { IsSeatAt self.now seat.old }
+        requires most { 0 < most }
         requires found { seat.old.holding ≡ Some found }
         requires at { IsStateAt self.now.inbox held.value }
         requires free { held.value.state.chosen ≡ None }
@@ -290,7 +297,8 @@ impl Exec {
         requires jobs { jobs.old.book ≡ book.now.id }
         ensures ran { IfOk result (λ ran. Leaves self.now.inbox (Afresh (HasRun worker found (map job_facts jobs.old.jobs) (map job_facts jobs.new.jobs) ran) held.value) (seat_after ran) seat.old seat.new) }
         ensures left { IfOk result (λ ran. HasLeft ran (last_found seat.new)) }
-        ensures pending { IfOk result (IfTurn (λ task. 0 < found)) }
+        ensures pending { IfOk result (IfTurns (IsAtMost found)) }
+        ensures most { IfOk result (IfTurns (IsAtMost most)) }
         ensures refused { IfErr result (λ fault. Leaves self.now.inbox (Afresh (IsRefused worker fault) held.value) (λ n r. left n (image_of r)) seat.old seat.new) }
         ensures tried { OnErr result (0 < found) }
         ensures fault { IfErr result IsRunFault }
@@ -304,8 +312,13 @@ impl Exec {
             return Ok(VisitOutcome::Nothing(self.leave(seat, held)));
         }
         let executor = self.inbox.site().executor();
-        match turn_ahead(rt, &mut held, executor, worker, book, cx, jobs, gate) {
-            Ok(Some(task)) => Ok(VisitOutcome::Turn(task, self.end_turn(seat, held))),
+        let most = if most < found { most } else { found };
+        match turns_ahead(rt, &mut held, executor, worker, most, book, cx, jobs, gate) {
+            Ok(Some(ran)) => {
+                let (last, turns) = ran;
+                let left = self.end_turns(seat, held, turns);
+                Ok(VisitOutcome::Turns(last, turns, left))
+            }
             Ok(None) => Ok(VisitOutcome::Nothing(self.leave(seat, held))),
             Err(fault) => {
                 self.leave(seat, held);
@@ -314,11 +327,12 @@ impl Exec {
         }
     }
 
-    /// Visits the executor (SE-0306): a worker takes its state, makes the jobs ready that are in the inbox, and runs a turn of the one that
-    /// comes first (`ExecState::choose`), where a job is pending. The book is locked while that job is chosen and its turn begins, and
-    /// while it is journalled, and not while it is played. The turn is played before it begins, as one that begins as expected, where it
-    /// can be; where it begins so, the book is locked once. The jobs that the turn makes come behind those that `jobs` has, with their
-    /// tickets; they are of an equal script and their bodies have not ended. `Busy` where another worker holds the executor.
+    /// Visits the executor (SE-0306): a worker takes its state, makes the jobs ready that are in the inbox, and runs turns one after the
+    /// other, each of the job that comes first then (`ExecState::choose`): `most` at most, and no more than its first step found jobs
+    /// pending; at least one, where a job is pending and ready. The book is locked while a job is chosen and its turn begins, and while it
+    /// is journalled, and not while it is played. A turn is played before it begins, as one that begins as expected, where it can be;
+    /// where it begins so, the book is locked once. The jobs that the turns make come behind those that `jobs` has, with their tickets;
+    /// they are of an equal script and their bodies have not ended. `Busy` where another worker holds the executor.
     ///
     /// The book is the executor's own: it is of the same script, so no scripts are compared, and the seat in the state knows the turns
     /// that it has taken from this executor. `jobs` are of that book.
@@ -329,14 +343,16 @@ impl Exec {
     /// # Errors
     ///
     /// `Worker` where the executor is pinned to another worker, before anything else, and only there. Else `Memory`, where a
-    /// growth was refused, or `Refused`, where the book has refused the turn for another reason. The desk and `jobs` are as before, and
+    /// growth was refused, or `Refused`, where the book has refused the first turn for another reason. A visit whose later turn is refused
+    /// ends before that one, whose job is ready again, and tells those that it ran. The desk and `jobs` are as before, and
     /// each job that was taken out of the inbox is ready or journalled, as `Exec::close` says of it. By what `ExecState::start`, `play` and
     /// `turn` say, the chosen one is ready again with the number of its arrival, and journal and fields are as before.
-    pub fn run_one<R, G>(
+    pub fn run_some<R, G>(
         &self,
         rt: &R,
         desk: &mut Desk,
         worker: u32,
+        most: u64,
         book: &BookLock,
         cx: &mut Context<'_>,
         jobs: &mut TicketedJobs,
@@ -346,10 +362,12 @@ impl Exec {
         R: Wait,
         G: Gate,
         requires desk { IsDeskOf self.now desk.old }
+        requires most { 0 < most }
         requires book { IsBookOf self.now book.now }
         requires jobs { jobs.old.book ≡ book.now.id }
         ensures desk { IfOk result (λ ran. desk.new ≡ has_found desk.new.found desk.new.moved (after_run ran desk.old)) }
         ensures found { IfOk result (λ ran. HasFound ran desk.old.found desk.new.found) }
+        ensures most { IfOk result (IfTurns (IsAtMost most)) }
         ensures kept { OnErr result (desk.new ≡ has_found desk.new.found desk.new.moved desk.old) }
         ensures tried { IfErr result (λ fault. HasTried fault desk.old.found desk.new.found) }
         // What was done to the state that lay in the executor's word, by what was taken out and given back.
@@ -378,7 +396,7 @@ impl Exec {
                 accept_all(rt, &self.inbox, &mut held, book);
                 gate.at(Moment::Accepted(executor, worker));
                 let seat = &mut desk.seat;
-                let ran = self.run_held(rt, seat, found, held, worker, book, cx, jobs, gate);
+                let ran = self.run_held(rt, seat, found, held, worker, most, book, cx, jobs, gate);
                 gate.at(Moment::Ended(executor, worker));
                 ran
             }

@@ -3,7 +3,7 @@ use Rattle.swift_workers.proofs.Prelude.{◌≡◌, ℕ, zero, suc, ◌+◌, ◌
 use Rattle.swift_shared_book.specs.Tickets.{TicketedJobView}
 use Rattle.swift_executor.specs.declared.state_name.StateImage.{StateImage}
 use Rattle.swift_executor.specs.declared.ran.VisitOutcome.{VisitOutcome}
-use Rattle.swift_executor.specs.declared.ran.VisitOutcome.TheVariants.{Turn, Busy, Nothing}
+use Rattle.swift_executor.specs.declared.ran.VisitOutcome.TheVariants.{Turns, Busy, Nothing}
 
 abbrev Each : List ExecView → List DeskView → Type 0
 Each execs desks = (k : ℕ) (e : ExecView) (d : DeskView) → slice_get execs k ≡ Some e → slice_get desks k ≡ Some d → IsDeskOf e d
@@ -40,7 +40,7 @@ desk_sent e old new n j is same = subst (λ (d : DeskView). IsDeskOf e d) (sym s
 
 -- a desk after a visit is of the same executor
 pub desk_ran : (e : ExecView) (old new : DeskView) (found : List ℕ) (moved : List StateImage) (ran : VisitOutcome) → IsDeskOf e old → new ≡ has_found found moved (after_run ran old) → IsDeskOf e new
-desk_ran e old new found moved (Turn task left) is same = subst (λ (d : DeskView). IsDeskOf e d) (sym same) is
+desk_ran e old new found moved (Turns task turns left) is same = subst (λ (d : DeskView). IsDeskOf e d) (sym same) is
 desk_ran e old new found moved Busy is same = subst (λ (d : DeskView). IsDeskOf e d) (sym same) is
 desk_ran e old new found moved (Nothing left) is same = subst (λ (d : DeskView). IsDeskOf e d) (sym same) is
 

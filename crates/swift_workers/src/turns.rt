@@ -29,12 +29,22 @@ fn left_of(ran: VisitOutcome) -> PendingLeft
     ensures { result ≡ left_after ran }
 {
     match ran {
-        VisitOutcome::Turn(_, left) | VisitOutcome::Nothing(left) => left,
+        VisitOutcome::Turns(_, _, left) | VisitOutcome::Nothing(left) => left,
         VisitOutcome::Busy => PendingLeft::Idle,
     }
 }
 
-// Visits the executor of this number. The jobs that the turn made come into the hand.
+// So many turns a worker runs at most at one visit, where others may run meanwhile.
+const TURNS_AT_A_VISIT: u64 = 8;
+
+// How many turns a worker runs at most at one visit. A single worker runs one, so that its executors take turns.
+fn turns_at_a_visit(workers: u32) -> u64
+    ensures { 0 < result }
+{
+    if workers > 1 { TURNS_AT_A_VISIT } else { 1 }
+}
+
+// Visits the executor of this number. The jobs that the turns made come into the hand.
 fn visit<R: Wait, G: Gate>(
     rt: &R,
     cx: &mut Context<'_>,
@@ -58,14 +68,16 @@ fn visit<R: Wait, G: Gate>(
     let worker = hand.worker;
     let exec = &crew.execs[place];
     let desk = &mut hand.desks[place];
-    let ran = exec.run_one(rt, desk, worker, crew.book, cx, &mut hand.jobs, gate)?;
+    let jobs = &mut hand.jobs;
+    let most = turns_at_a_visit(crew.workers);
+    let ran = exec.run_some(rt, desk, worker, most, crew.book, cx, jobs, gate)?;
     Ok(left_of(ran))
 }
 
-// A turn at the executor whose token this is, and then the jobs that the turn made are sent. The tokens that have to be put
+// A visit of the executor whose token this is, and then the jobs that its turns made are sent. The tokens that have to be put
 // stand in the hand: first this one, where more is pending there, and then those of executors that were idle. After a refusal the jobs
 // that were not sent stand there too.
-fn turn_at<R: Wait, G: Gate>(
+fn visit_at<R: Wait, G: Gate>(
     rt: &R,
     cx: &mut Context<'_>,
     crew: Crew<'_>,
@@ -78,7 +90,7 @@ fn turn_at<R: Wait, G: Gate>(
     requires hand { IsHandOf crew.book.now crew.execs.now hand.old }
     ensures { OnOk result (IsHandOf crew.entry.book.now crew.entry.execs.now hand.new) }
 {
-    // Those of the turn before have been put.
+    // Those of the visit before have been put.
     hand.tokens.clear();
     hand.at = on;
     hand.is_link = false;
@@ -89,13 +101,13 @@ fn turn_at<R: Wait, G: Gate>(
     send_all(rt, crew, hand, gate)
 }
 
-// So many turns of an executor a worker runs at most before it asks the pool again, where others may run meanwhile.
-const TURNS_AT_ONCE: u32 = 16;
+// So many times a worker visits an executor at most before it asks the pool again, where others may run meanwhile: sixteen turns in all.
+const VISITS_AT_ONCE: u32 = 2;
 
-// How many turns of an executor a worker runs at most before it asks the pool again. A single worker asks after each, so that its
+// How many times a worker visits an executor at most before it asks the pool again. A single worker asks after each, so that its
 // executors take turns.
-fn turns_at_once(workers: u32) -> u32 {
-    if workers > 1 { TURNS_AT_ONCE } else { 1 }
+fn visits_at_once(workers: u32) -> u32 {
+    if workers > 1 { VISITS_AT_ONCE } else { 1 }
 }
 
 // Whether the token of this executor is the only one.
@@ -106,9 +118,9 @@ fn is_only(tokens: &[ExecId], on: ExecId) -> bool {
     }
 }
 
-// Turns at the executor whose token this is, one after the other, as long as more is pending there and no other token has to be put. So
-// the pool is asked less often, and nobody waits for a token meanwhile. Tokens and jobs stand in the hand as after the last turn.
-fn turns_at<R: Wait, G: Gate>(
+// Visits of the executor whose token this is, one after the other, as long as more is pending there and no other token has to be put. So
+// the pool is asked less often, and nobody waits for a token meanwhile. Tokens and jobs stand in the hand as after the last visit.
+fn visits_at<R: Wait, G: Gate>(
     rt: &R,
     cx: &mut Context<'_>,
     crew: Crew<'_>,
@@ -122,8 +134,8 @@ fn turns_at<R: Wait, G: Gate>(
     requires hand { IsHandOf crew.book.now crew.execs.now hand.old }
     ensures { OnOk result (IsHandOf crew.entry.book.now crew.entry.execs.now hand.new) }
 {
-    for _ in 0..turns_at_once(crew.workers) {
-        turn_at(rt, cx, crew, hand, on, gate)?;
+    for _ in 0..visits_at_once(crew.workers) {
+        visit_at(rt, cx, crew, hand, on, gate)?;
         chain.note(hand.is_link);
         if !is_only(&hand.tokens, on) {
             return Ok(());
@@ -155,7 +167,7 @@ fn turn<R: Wait, G: Gate>(
     ensures put { (c : PoolCall) × (done : Result (Unit {0}) HaltOf) × HasCalled c seat.old seat.new × IsEndOf hand.new.tokens.items done c × (c.next ≡ Some result) }
 {
     let worker = hand.worker;
-    let done = turns_at(rt, cx, crew, hand, on, chain, gate);
+    let done = visits_at(rt, cx, crew, hand, on, chain, gate);
     crew.pool.turn_over(
         rt,
         seat,

@@ -124,7 +124,7 @@ impl CaseSeat {
         let Some(1..) = self.found else {
             return Err(CaseFault::Form);
         };
-        let left = self.word.end(&mut self.seat, Number(state));
+        let left = self.word.end(&mut self.seat, Number(state), 1);
         self.found = None;
         out.debug("", &left);
         Ok(())
@@ -255,7 +255,7 @@ fn take_turn<R: Wait>(rt: &R, word: &Word<Number>, seat: &mut WordSeat<Number>)
     for _ in rt.forever() {
         if let Begun::Run(pending, state) = word.begin(seat) {
             if pending > 0 {
-                word.end(seat, Number(state.0.wrapping_add(1)));
+                word.end(seat, Number(state.0.wrapping_add(1)), 1);
             } else {
                 word.leave(seat, state);
             }

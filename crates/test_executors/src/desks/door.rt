@@ -111,7 +111,7 @@ impl<K: BookOf> Door<K> {
         }
     }
 
-    /// A visit of a worker. The jobs that it makes come behind these, which are of its book.
+    /// A visit of a worker, which runs one turn at most. The jobs that it makes come behind these, which are of its book.
     pub fn run<R: Wait, G: Gate>(
         &mut self,
         rt: &R,
@@ -127,7 +127,7 @@ impl<K: BookOf> Door<K> {
         let desk = &mut self.desk;
         let ran = self
             .exec
-            .run_one(rt, desk, worker, &self.book, &mut cx, jobs, gate);
+            .run_some(rt, desk, worker, 1, &self.book, &mut cx, jobs, gate);
         cx.cancel();
         ran
     }

@@ -1,5 +1,5 @@
 use Rattle.swift_workers.proofs.Prelude.{IsHandOf}
-use Rattle.swift_workers.proofs.turns.turns_at.Given as goal
+use Rattle.swift_workers.proofs.turns.visits_at.Given as goal
 
 abbrev pub invariant-loop : goal.invariant-loop
 invariant-loop g l = IsHandOf l.crew.book.now l.crew.execs.now l.hand

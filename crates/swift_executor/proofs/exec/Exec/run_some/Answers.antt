@@ -1,7 +1,7 @@
 use Rattle.swift_executor.proofs.Prelude.{◌*◌, ◌∷◌, refl, map, ap, sym, subst, ◌∙◌, job_facts, DeskView, ExecView, IsAt, image_of, state_name, IsStateAt, InboxView, TakenView, HasStayed}
 use Rattle.swift_executor.proofs.Visits.{free_at, of_book_at, state_at}
 use Rattle.swift_executor.proofs.VisitsDone.{HasReady, failed, has_found, has_tried, visited}
-use Rattle.swift_executor.proofs.exec.Exec.run_one.Goals as goal
+use Rattle.swift_executor.proofs.exec.Exec.run_some.Goals as goal
 
 pub accept_all-requires-clause-at : goal.accept_all-requires-clause-at
 accept_all-requires-clause-at g c =
