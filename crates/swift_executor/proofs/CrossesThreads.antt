@@ -21,6 +21,7 @@ use Rattle.swift_executor.specs.contracts.home.Home as home
 use Rattle.swift_executor.specs.contracts.state.ExecState as state
 use Rattle.swift_executor.specs.contracts.resting.Resting as resting
 use Rattle.swift_executor.specs.contracts.resting.TakenState as held
+use Rattle.swift_executor.specs.contracts.aside.Aside as aside
 use Rattle.swift_executor.specs.contracts.chosen.Chosen as chosen
 use Rattle.swift_executor.specs.contracts.chosen.PlayedTurn as played
 use Rattle.swift_executor.specs.contracts.exec.Spare as spare
@@ -58,11 +59,14 @@ home_send = search (plain, script_send, script_sync, InvariantRows.the_send) dep
 state_send : IsSend state.the_row
 state_send = search (plain, script_send, script_sync, body_send, chosen_send, played_send, home_send, ReadyTasks.the_send, Journal.the_send, Checkpoint.the_send) depth 60 fits 20000
 
+aside_send : IsSend (aside.the_field).row
+aside_send = search (plain, chosen_send, SavedRows.the_send) depth 60 fits 20000
+
 pub book_seat_send : IsSend book_seat.the_row
 book_seat_send = search (plain, Badge.the_send) depth 60 fits 20000
 
 held_send : IsSend held.the_row
-held_send = search (plain, state_send, taker_send, book_seat_send) depth 60 fits 20000
+held_send = search (plain, state_send, taker_send, book_seat_send, aside_send) depth 60 fits 20000
 
 resting_send : IsSend resting.the_row
 resting_send = search (plain, held_send) depth 60 fits 20000

@@ -2,9 +2,13 @@ pub mod Prelude
 pub mod CrossesThreads
 pub mod Visits
 pub mod OneRecord
+pub mod TurnsRun
 pub mod VisitsDone
 pub mod VisitSteps
 pub mod PlayedAhead
+pub mod Shuffled
+pub mod Batches
+pub mod BatchEnds
 pub mod Committed
 pub mod CommitsAside
 pub mod AccountKept
@@ -15,7 +19,6 @@ pub mod ChosenJob
 pub mod StateKept
 pub mod TurnKept
 pub mod TurnsAside
-pub mod PlayedOn
 pub mod Turned
 pub mod Ended
 pub mod Picked

@@ -22,7 +22,7 @@ pub use Rattle.swift_events.specs.declared.event.Event.{Event}
 pub use Rattle.swift_executor.specs.Account.{AreTaken, HasTaken, SeenJob, chosen_jobs, folded_named, job_named, job_seen, ready_jobs, record_seen}
 pub use Rattle.swift_executor.specs.PlayedAheadInside.{Afresh, AppliesThere, BeginsElse, BeginsThere, ChoosesAhead, CommitsChosen, HasAhead, IsCurrent, IsPlayedIn, PlaysAhead, RunsAhead, StaysThere, StaysWhole, begun_as}
 pub use Rattle.swift_executor.specs.AheadInside.{CommitsHere, IsThere, RewindsJob, StageIs}
-pub use Rattle.swift_executor.specs.Exec.{DeskView, ExecView, FoundFree, HasFound, HasLeft, HasTried, IfTurn, IsAt, IsOf, IsRunFault, has_found, image_of, name_of, seat_after, site_of, state_name}
+pub use Rattle.swift_executor.specs.Exec.{DeskView, ExecView, FoundFree, HasFound, HasLeft, HasTried, IfTurns, IsAt, IsAtMost, IsOf, IsRunFault, has_found, image_of, name_of, seat_after, site_of, state_name}
 pub use Rattle.swift_executor.specs.FieldsInside.{FieldsAre}
 pub use Rattle.swift_executor.specs.Held.{GoesOn, GoesTogether, HasOpened, IsOfBook, IsResting, IsStateAt, order_at, order_of}
 pub use Rattle.swift_executor.specs.Inbox.{InboxView, TakerView, has_taken}
@@ -44,7 +44,7 @@ pub use Rattle.swift_executor.specs.State.{BeginsChosen, BeginsTurn, BelongsTo, 
 pub use Rattle.swift_executor.specs.StateInside.{chosen_at, chosen_of, chosen_view, stage_of}
 pub use Rattle.swift_executor.specs.Taken.{TakenView, taken_of}
 pub use Rattle.swift_executor.specs.TasksInside.{ReadyTasksView}
-pub use Rattle.swift_executor.specs.Visits.{BeginsIn, CannotBegin, CannotChoose, CannotEnd, CannotPlay, Fails, FindsNone, Finishes, HasBegun, HasMoved, HasRun, HasStayed, HasStopped, IsFree, IsNotBegun, IsNotEnded, IsRefused, Leaves, RunsNone, RunsTurn, Starts, TurnsWriteOne, Visited, Visits}
+pub use Rattle.swift_executor.specs.Visits.{BeginsIn, CannotBegin, CannotChoose, CannotEnd, CannotPlay, Fails, FindsNone, Finishes, HasBegun, HasMoved, HasRun, HasStayed, HasStopped, IsFree, IsNotBegun, IsNotEnded, IsRefused, Leaves, RunsNone, RunsTurn, RunsTurns, Starts, TurnsWriteAll, TurnsWriteOne, Visited, Visits, WritesAll, journal_with_all}
 pub use Rattle.swift_executor.specs.declared.chosen.Chosen.{Chosen}
 pub use Rattle.swift_executor.specs.declared.chosen.ChosenStage.{ChosenStage}
 pub use Rattle.swift_executor.specs.declared.chosen.ChosenStage.TheVariants.{Begun, Picked, Played}

@@ -2,6 +2,7 @@ pub mod Account
 pub mod PlayedAheadInside
 pub mod AheadInside
 pub mod AsideInside
+pub mod BatchInside
 pub mod CommitAsideInside
 pub mod Exec
 pub mod FieldsInside

@@ -1,12 +1,14 @@
-//! A turn of a visit that is played before it has begun.
+//! The turns of a visit, which are played before they have begun.
 
-ghost use Rattle.std.specs.Prelude.{◌≡◌, None, map, IfOk, IfErr, IfSome, IfNone, OnErr};
+ghost use Rattle.std.specs.Prelude.{◌≡◌, ◌<◌, ◌≤◌, None, map, IfOk, IfErr, IfSome, IfNone, OnErr};
 ghost use Rattle.futures.specs.Task.{Keeps};
 ghost use Rattle.swift_history.specs.Jobs.{job_facts};
-ghost use Rattle.swift_executor.specs.PlayedAheadInside.{Afresh, RunsAhead, SameUnlessRun};
+ghost use Rattle.swift_executor.specs.Exec.{IsAtMost};
+ghost use Rattle.swift_executor.specs.PlayedAheadInside.{Afresh, RunsAhead, SameUnlessRun, StaysWhole};
 ghost use Rattle.swift_executor.specs.Held.{IsOfBook, KeepsJobs};
-ghost use Rattle.swift_executor.specs.Visits.{FindsNone, IsRefused, RunsTurn};
+ghost use Rattle.swift_executor.specs.Visits.{FindsNone, IsRefused, RunsTurn, RunsTurns};
 
+use crate::batch::{BATCH, run_batch};
 use crate::committing::Ahead;
 use crate::fault::ExecFault;
 use crate::gate::{Gate, Moment};
@@ -106,5 +108,125 @@ where
             Ok(Some(task))
         }
         Ahead::Not => turn_one(rt, held, executor, worker, book, cx, jobs, gate),
+    }
+}
+
+// Tells that these turns were run.
+fn tell_batch<G: Gate>(
+    gate: &G,
+    executor: ExecId,
+    worker: u32,
+    tasks: &[TaskId; BATCH],
+    done: usize,
+) {
+    for at in 0..BATCH {
+        if at < done {
+            tell_chose(gate, executor, worker, tasks[at]);
+            tell_turned(gate, executor, worker, tasks[at]);
+        }
+    }
+}
+
+// Runs turns that are played before they begin, by one lock of the book, as many at most; and then the one that has begun behind them, if
+// one has: where that is refused, its job is ready again, and it is told only where no other was run. The task of the last turn, and how
+// many were run. None where none was run.
+fn batch_ahead<R, G>(
+    rt: &R,
+    held: &mut TakenState,
+    executor: ExecId,
+    worker: u32,
+    most: u64,
+    book: &BookLock,
+    cx: &mut Context<'_>,
+    jobs: &mut TicketedJobs,
+    gate: &G,
+) -> Result<Option<(TaskId, u64)>, ExecFault>
+where
+    R: Wait,
+    G: Gate,
+    requires free { held.old.state.chosen ≡ None }
+    requires book { IsOfBook book.now held.old }
+    requires jobs { jobs.old.book ≡ book.now.id }
+    ensures runs { IfOk result (λ ran. IfSome ran (λ r. RunsTurns worker r.1 r.0 (map job_facts jobs.old.jobs) (map job_facts jobs.new.jobs) held.old held.new)) }
+    ensures most { IfOk result (λ ran. IfSome ran (λ r. IsAtMost most r.1)) }
+    ensures none { IfOk result (λ ran. IfNone ran (StaysWhole held.old held.new)) }
+    ensures refused { IfErr result (λ fault. Afresh (IsRefused worker fault) held.old held.new) }
+    ensures jobs { KeepsJobs held.old.state.script jobs.old jobs.new }
+    ensures idle { IfOk result (λ ran. IfNone ran (jobs.new ≡ jobs.old)) }
+    ensures err { OnErr result (jobs.new ≡ jobs.old) }
+    ensures kept { Keeps cx.old cx.new }
+{
+    if most < 2 {
+        return Ok(None);
+    }
+    let ran = run_batch(rt, held, worker, most as usize, book, cx, jobs);
+    tell_batch(gate, executor, worker, &ran.tasks, ran.done);
+    let last = ran.last;
+    let done = ran.done as u64;
+    match ran.begun {
+        Some(task) => {
+            tell_chose(gate, executor, worker, task);
+            match finish_one(rt, held, book, cx, jobs) {
+                Ok(()) => {
+                    tell_turned(gate, executor, worker, task);
+                    Ok(Some((task, done + 1)))
+                }
+                Err(fault) => {
+                    if done == 0 {
+                        Err(fault)
+                    } else {
+                        Ok(Some((last, done)))
+                    }
+                }
+            }
+        }
+        None => {
+            if done == 0 {
+                Ok(None)
+            } else {
+                Ok(Some((last, done)))
+            }
+        }
+    }
+}
+
+// Runs turns one after the other, each of the job that comes first then, as many at most, and at least one where a job is ready. It ends
+// where none is ready any more, or a turn is refused: the first one's refusal is told, a later one's job is ready again and the next visit
+// meets it. The task of the last turn, and how many were run. None where no job is ready.
+pub(crate) fn turns_ahead<R, G>(
+    rt: &R,
+    held: &mut TakenState,
+    executor: ExecId,
+    worker: u32,
+    most: u64,
+    book: &BookLock,
+    cx: &mut Context<'_>,
+    jobs: &mut TicketedJobs,
+    gate: &G,
+) -> Result<Option<(TaskId, u64)>, ExecFault>
+where
+    R: Wait,
+    G: Gate,
+    requires most { 0 < most }
+    requires free { held.old.state.chosen ≡ None }
+    requires book { IsOfBook book.now held.old }
+    requires jobs { jobs.old.book ≡ book.now.id }
+    ensures runs { IfOk result (λ ran. IfSome ran (λ r. RunsTurns worker r.1 r.0 (map job_facts jobs.old.jobs) (map job_facts jobs.new.jobs) held.old held.new)) }
+    ensures most { IfOk result (λ ran. IfSome ran (λ r. IsAtMost most r.1)) }
+    ensures none { IfOk result (λ ran. IfNone ran (Afresh FindsNone held.old held.new)) }
+    ensures refused { IfErr result (λ fault. Afresh (IsRefused worker fault) held.old held.new) }
+    ensures jobs { KeepsJobs held.old.state.script jobs.old jobs.new }
+    ensures idle { IfOk result (λ ran. IfNone ran (jobs.new ≡ jobs.old)) }
+    ensures err { OnErr result (jobs.new ≡ jobs.old) }
+    ensures kept { Keeps cx.old cx.new }
+{
+    match batch_ahead(rt, held, executor, worker, most, book, cx, jobs, gate) {
+        Ok(Some(ran)) => Ok(Some(ran)),
+        Ok(None) => match turn_ahead(rt, held, executor, worker, book, cx, jobs, gate) {
+            Ok(Some(task)) => Ok(Some((task, 1))),
+            Ok(None) => Ok(None),
+            Err(fault) => Err(fault),
+        },
+        Err(fault) => Err(fault),
     }
 }

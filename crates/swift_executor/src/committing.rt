@@ -58,7 +58,7 @@ pub enum Ahead {
 }
 
 // The chosen job as it was when it was chosen. Its turn, which was played, has begun now in this environment.
-fn rewind(alloc: Global, chosen: &mut Chosen, played: &mut PlayedTurn, env: Env)
+pub(crate) fn rewind(alloc: Global, chosen: &mut Chosen, played: &mut PlayedTurn, env: Env)
     requires job { HasJob chosen.old.job (λ j. IsRunning j.body × CanGoBack j played.old chosen.old.stage) }
     requires played { StageIsPlayed chosen.old.stage }
     ensures job { HasJob chosen.old.job (RewindsJob chosen.old chosen.new played.old env) }
@@ -221,7 +221,7 @@ pub(crate) fn commit_aside(
 }
 
 // The task of a job in its place.
-fn task_of(place: &Option<Job<Body>>) -> TaskId
+pub(crate) fn task_of(place: &Option<Job<Body>>) -> TaskId
     requires { IsSome place.now }
     ensures { HasJob place.now (λ j. result ≡ j.task) }
 {
@@ -244,7 +244,7 @@ impl ExecState {
     }
 
     // The next turns begin before they are played.
-    fn pause(&mut self)
+    pub(crate) fn pause(&mut self)
         ensures { self.new ≡ self.old }
     {
         self.pauses = PAUSES;

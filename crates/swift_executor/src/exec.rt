@@ -11,6 +11,8 @@ ghost use Rattle.swift_course.specs.Views.{at_rest};
 ghost use Rattle.swift_executor.specs.State.{new_executor};
 ghost use Rattle.swift_word.specs.Seat.{newest};
 
+use crate::aside::Aside;
+use crate::batch::BATCH;
 use crate::desk::{ClosedDesk, Desk};
 use crate::fault::ExecFault;
 use crate::gate::{Gate, Moment};
@@ -106,12 +108,24 @@ pub struct Closed {
     pub desk: ClosedDesk,
 }
 
+// Room for the turns of a batch. A single worker commits each turn by itself, and needs none.
+fn room_aside(alloc: Global, workers: u32) -> Result<Vec<Aside>, AllocError> {
+    let mut asides = Vec::new(alloc);
+    if workers > 1 {
+        for _ in 0..BATCH {
+            asides.push(Aside::none(alloc))?;
+        }
+    }
+    Ok(asides)
+}
+
 // The first state of an executor, with no job.
 fn first_state(
     alloc: Global,
     site: &ExecutorSite,
     taker: Taker,
     room: usize,
+    workers: u32,
     seat: BookSeat,
 ) -> Result<Resting, AllocError>
     requires site { taker.site ≡ Some site.now }
@@ -120,6 +134,7 @@ fn first_state(
     requires seat { IsOpened site.now.script site.now.executor seat }
     ensures { IfOk result (λ r. r ≡ taken_of (new_executor site.now.script site.now.executor room) taker seat true) }
 {
+    let asides = room_aside(alloc, workers)?;
     let script = Arc::clone(site.script())?;
     let state = ExecState::new(alloc, script, site.executor(), room)?;
     let held = TakenState {
@@ -127,6 +142,7 @@ fn first_state(
         taker,
         seat,
         is_orderly: true,
+        asides,
     };
     match Box::new(alloc, held) {
         Ok(held) => Ok(Resting::new(held)),
@@ -140,8 +156,9 @@ fn first_state(
 impl Exec {
     /// An executor of a script, by its number, that has run no turn, with room for `room` jobs in its inbox, at least 1, and as
     /// many that are ready; and its first desk, by which 2^60 jobs may be sent. The seat is the one that the lock of its book has opened
-    /// for it. The run has `workers` workers, at least 1. Out of memory nothing remains, and a room of 2^60 or more is refused so. The
-    /// room is not touched before it is used, but for a mark at each place of the inbox.
+    /// for it. The run has `workers` workers, at least 1; where there are several, it also takes memory for eight turns that are committed
+    /// together. Out of memory nothing remains, and a room of 2^60 or more is refused so. The room is not touched before it is used, but
+    /// for a mark at each place of the inbox.
     pub fn new(
         alloc: Global,
         script: Arc<Script>,
@@ -164,7 +181,7 @@ impl Exec {
         let (inbox, pass, taker) = Inbox::new(alloc, site, room)?;
         let list = Vec::with_capacity(alloc, room)?;
         let spare = Spare { list };
-        let state = first_state(alloc, &own, taker, room, seat)?;
+        let state = first_state(alloc, &own, taker, room, workers, seat)?;
         match Word::open(alloc, state) {
             Ok((word, seat)) => Ok((
                 Exec {

@@ -27,6 +27,8 @@ mod turns;
 mod ending;
 // A turn that waits for its book.
 mod aside;
+// Turns that are committed together.
+mod batch;
 // A turn that is committed after it was played.
 mod committing;
 // A turn of a visit that is played before it has begun.

@@ -4,6 +4,7 @@ ghost use Rattle.std.specs.Prelude.{◌≡◌, None};
 ghost use Rattle.swift_executor.specs.Held.{IsResting};
 ghost use Rattle.swift_executor.specs.Taken.{taken_of};
 
+use crate::aside::Aside;
 use crate::inbox::Taker;
 use crate::state::ExecState;
 use crate::state_name::{StateImage, StateName};
@@ -21,6 +22,8 @@ pub struct TakenState {
     pub seat: BookSeat,
     /// Whether its turns are known to have begun in order: each once the last root was there, and while no other was under way.
     pub is_orderly: bool,
+    /// Room for turns that are played and not committed yet. Between two visits it means nothing.
+    pub asides: Vec<Aside>,
 }
 
 impl Model for TakenState {
@@ -105,6 +108,7 @@ impl Resting {
             taker,
             seat,
             is_orderly,
+            asides: _,
         } = held;
         (state, taker, seat, is_orderly)
     }
@@ -119,6 +123,7 @@ pub fn spend_held(held: TakenState)
         taker: _,
         seat: _,
         is_orderly: _,
+        asides: _,
     } = held;
     let (jobs, _journal, _fields, _checkpoint) = state.into_parts();
     spend_all(jobs);

@@ -212,10 +212,17 @@ impl BookLock {
         }
     }
 
-    /// Commits a turn in a book that was taken, as `commit` does, and keeps the book, which is then as if it were given back and taken
-    /// again at once (our own). So a thread commits several turns by one lock: to take it from another processor costs more than a turn's
-    /// begin and end do. `written` is the journal as it was with the record of the turn as its newest; later turns may have been written to
-    /// it since.
+    /// Begins the turn of the job in a place, which was played before in this environment, and applies it, in a book that was taken, and
+    /// keeps the book, which is then as if it were given back and taken again at once (SE-0304, SE-0306; that both are done by one lock is
+    /// our own). So a thread commits several turns by one lock: to take it from another processor costs more than a turn's begin and end do.
+    /// The seat by which the book was taken has the job's ticket, and the newest record of the journal as it was written is that of the turn.
+    ///
+    /// Where the book gives the turn that environment, and takes it, the ticket is spent, the seat's account has the record, the jobs
+    /// that the turn makes come behind those of the list, with their tickets, and the place is empty. Where it gives another one, or
+    /// refuses what the turn did, the turn has begun in the environment that it answers, as after `begin`, and job and list are as before.
+    /// Where it refuses to begin the turn all is as before. So in the log the begin and the end of such a turn stand next to each other.
+    ///
+    /// Time and memory as for `begin` and `apply`.
     pub fn commit_kept(
         &self,
         taken: OpenBook,
@@ -251,44 +258,5 @@ impl BookLock {
             &mut jobs.seat,
         );
         (committed, self.recall(kept))
-    }
-
-    /// Begins the turn of the job in a place, which was played before in this environment, and applies it, in a book that was taken, and
-    /// gives the book back (SE-0304, SE-0306; that both are done by one lock is our own). The seat by which the book was taken has the
-    /// job's ticket, and the newest record of the journal is that of the turn.
-    ///
-    /// Where the book gives the turn that environment, and takes it, the ticket is spent, the seat's account has the record, the jobs
-    /// that the turn makes come behind those of the list, with their tickets, and the place is empty. Where it gives another one, or
-    /// refuses what the turn did, the turn has begun in the environment that it answers, as after `begin`, and job and list are as before.
-    /// Where it refuses to begin the turn all is as before. So in the log the begin and the end of such a turn stand next to each other.
-    ///
-    /// Time and memory as for `begin` and `apply`.
-    pub fn commit(
-        &self,
-        seat: &mut BookSeat,
-        taken: OpenBook,
-        env: Env,
-        place: &mut Option<Job<Body>>,
-        journal: &Journal,
-        exit: &Exit,
-        effects: &[Effect],
-        jobs: &mut TicketedJobs,
-    ) -> Committed
-        requires untouched { IsAsTaken self.now taken.seat taken.book.value }
-        requires run { IsInRun taken.seat.knows (facts_of taken.book.value) }
-        requires jobs { jobs.old.book ≡ self.now.id }
-        requires job { IsSomeAnd place.old (λ j. IsRunning j.body × (j.body.script ≡ self.now.script)) }
-        requires played { IsSomeAnd place.old (λ j. (r : RecordView) × (newest journal.now ≡ Some r) × (r.exit ≡ exit_view exit.now) × (r.effects ≡ effect_views effects.now) × (r.env ≡ env) × HasPlayedAhead self.now.script taken.seat.knows j r) }
-        ensures done { IsSomeAnd place.old (λ j. IfSome (newest journal.now) (λ r. CommitsTo taken.book.value j r (map job_facts jobs.old.jobs) (map job_facts jobs.new.jobs) taken.seat.knows seat.new.knows result)) }
-        ensures seat { (seat.new.lock ≡ self.now.id) × (seat.new.here ≡ true) }
-        ensures place { PlaceAfter place.old place.new result }
-        ensures bodies { AllByRecursion (IsJobOf self.now.script) jobs.old.jobs → AllByRecursion (IsJobOf self.now.script) jobs.new.jobs }
-        ensures lock { jobs.new.book ≡ jobs.old.book }
-        ensures same { SameUnlessApplied jobs.old jobs.new result }
-    {
-        let written = Snapshot::of(journal);
-        let (committed, kept) = self.commit_kept(taken, env, place, &written, exit, effects, jobs);
-        self.leave(seat, kept);
-        committed
     }
 }
