@@ -22,11 +22,9 @@ module _ {X : Type 0} where
   ]
 
   pub set_else : (l : List X) (i j : ℕ) (a : X) → j ≢ i → get_elem? (set l i a) j ≡ get_elem? l j
-  set_else [] i j a n = refl
   set_else (x ∷ xs) zero zero a n = absurd (n refl)
-  set_else (x ∷ xs) zero (suc j) a n = refl
-  set_else (x ∷ xs) (suc i) zero a n = refl
   set_else (x ∷ xs) (suc i) (suc j) a n = set_else xs i j a (λ e. n (ap suc e))
+  set_else _ _ _ a n = refl
 
   pub set_there : (l : List X) (i : ℕ) (a b : X) → get_elem? l i ≡ some b → get_elem? (set l i a) i ≡ some a
   set_there [] i a b e = absurd (some-ne-none b (sym e))

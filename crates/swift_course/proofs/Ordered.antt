@@ -6,9 +6,8 @@ use Rattle.swift_course.proofs.Order.{orders_kept}
 use Rattle.swift_course.proofs.Parts.{SameWays, course_with}
 
 set_twice : {X : Type 0} (l : List X) (i : ℕ) (a b : X) → set (set l i a) i b ≡ set l i b
-set_twice [] i a b = refl
-set_twice (x ∷ xs) zero a b = refl
 set_twice (x ∷ xs) (suc i) a b = ap (λ ys. x ∷ ys) (set_twice xs i a b)
+set_twice _ _ a b = refl
 
 -- the rule does not depend on the order of a seat's tickets
 reordered : (facts : BookFacts) (views : List BookKnown) (seat : ℕ) (v : BookKnown) (tickets : List Ticket) → IsCourse facts views → get_elem? views seat ≡ some v → IsPermutation v.tickets tickets

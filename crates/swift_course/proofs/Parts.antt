@@ -39,9 +39,8 @@ course_with facts views views' c maker maker_seat owner same roots more few orde
 -- a run that has not begun
 
 none_waits : (n x : ℕ) → waits x (replicate n None) ≡ 0
-none_waits zero x = refl
-none_waits (suc n) zero = refl
 none_waits (suc n) (suc x) = none_waits n x
+none_waits _ _ = refl
 
 first_right : (script : ScriptView) (j : ℕ) (u : BookKnown) → get_elem? (first_view script ∷ []) j ≡ some u → SeatIsRight script [] (λ e. 0) (record { executors = 0; roots = 0 }) 0 j u
 first_right script zero u at = subst (SeatIsRight script [] (λ e. 0) (record { executors = 0; roots = 0 }) 0 0) (some-injective (first_view script) u at)

@@ -10,9 +10,8 @@ at_view (k ∷ all) zero v at = ap (λ (x : Known). some x.view) (some-injective
 at_view (k ∷ all) (suc seat) v at = at_view all seat v at
 
 views_set : (all : List Known) (seat : ℕ) (w : Known) → views_of (set all seat w) ≡ set (views_of all) seat w.view
-views_set [] seat w = refl
-views_set (k ∷ all) zero w = refl
 views_set (k ∷ all) (suc seat) w = ap (λ vs. k.view ∷ vs) (views_set all seat w)
+views_set _ _ w = refl
 
 views_push : (all : List Known) (w : Known) → views_of (all ++ w ∷ []) ≡ views_of all ++ w.view ∷ []
 views_push [] w = refl

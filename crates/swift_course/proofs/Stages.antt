@@ -48,13 +48,12 @@ silent_either x true es fs p q = p
 silent_either x false es fs p q = q
 
 effect_silent : (roots t : ℕ) (own : Priority) (log : List Event) (e : EffectView) (x : ℕ) → t ≢ x → x < tasks_of roots log → AreSilent x (effect_events roots t own log e)
-effect_silent roots t own log (spawning i p bindings) x apart lt = (inl (λ same. omega (arith, same, lt)), tt)
-effect_silent roots t own log (detaching i p) x apart lt = (inl (λ same. omega (arith, same, lt)), tt)
 effect_silent roots t own log opening x apart lt = (inr refl, tt)
 effect_silent roots t own log (adding g unless i p bindings) x apart lt =
     silent_either x (is_left_out t g unless log) _ _ (inr refl, tt) (inl (λ same. omega (arith, same, lt)), tt)
 effect_silent roots t own log (cancelling_task name) x apart lt = silent_either x (is_some (life_of (named_task t name log).0 log).ending) [] (CancelTask (named_task t name log) ∷ []) tt (inr refl, tt)
 effect_silent roots t own log (cancelling_group g) x apart lt = (inr refl, tt)
+effect_silent roots t own log _ x apart lt = (inl (λ same. omega (arith, same, lt)), tt)
 
 pub effects_stay : (es : List EffectView) (script : ScriptView) (t : ℕ) (own : Priority) (log : List Event) (x : ℕ) → t ≢ x → x < tasks_of (root_count script) log → stage_of x (log_after (root_count script) t own log es) ≡ stage_of x log
 effects_stay [] script t own log x apart lt = refl

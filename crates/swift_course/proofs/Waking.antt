@@ -27,23 +27,18 @@ abbrev Held : Type 0
 Held = List (Option WaitingTaskView)
 
 set_here : (hs : Held) (u : ℕ) → get_or (set hs u None) u None ≡ None
-set_here [] u = refl
-set_here (h ∷ hs) zero = refl
 set_here (h ∷ hs) (suc u) = set_here hs u
+set_here _ _ = refl
 
 set_other : (hs : Held) (u x : ℕ) (o : Option WaitingTaskView) → x ≢ u → get_or (set hs u o) x None ≡ get_or hs x None
-set_other [] u x o apart = refl
 set_other (h ∷ hs) zero zero o apart = absurd (apart refl)
-set_other (h ∷ hs) zero (suc x) o apart = refl
-set_other (h ∷ hs) (suc u) zero o apart = refl
 set_other (h ∷ hs) (suc u) (suc x) o apart = set_other hs u x o (λ e. apart (ap suc e))
+set_other _ _ _ o apart = refl
 
 pub room_waits : (hs : Held) (n x : ℕ) → get_or (hs ++ replicate n None) x None ≡ get_or hs x None
-room_waits [] zero x = refl
-room_waits [] (suc n) zero = refl
 room_waits [] (suc n) (suc x) = room_waits [] n x
-room_waits (h ∷ hs) n zero = refl
 room_waits (h ∷ hs) n (suc x) = room_waits hs n x
+room_waits _ _ _ = refl
 
 -- a task is woken
 

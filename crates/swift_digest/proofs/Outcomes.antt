@@ -98,14 +98,12 @@ module _ (script : ScriptView) where
   frames_by : (ps qs : List FrameView) → frame_plans script ps ≡ frame_plans script qs → frames_executor script ps ≡ frames_executor script qs
   frames_by [] [] same = refl
   frames_by (p ∷ ps) (q ∷ qs) same = let one : plan_of script p ≡ plan_of script q = cc same in ap (λ (h : FramePlan). Some (actor_executor script (method_actor script h.method))) one
-  frames_by [] (q ∷ qs) same = absurd (cc same)
-  frames_by (p ∷ ps) [] same = absurd (cc same)
+  frames_by _ _ same = absurd (cc same)
 
   by_plans : (o u : Option JobFacts) → option_map (job_plan script) o ≡ option_map (job_plan script) u → job_executor script o ≡ job_executor script u
   by_plans None None same = refl
   by_plans (Some j) (Some k) same = let plan : job_plan script j ≡ job_plan script k = cc same in frames_by j.frames.frames k.frames.frames (ap (λ (h : JobPlan). h.plan.frames) plan)
-  by_plans None (Some k) same = absurd (cc same)
-  by_plans (Some j) None same = absurd (cc same)
+  by_plans _ _ same = absurd (cc same)
 
 module _ (script : ScriptView) (cps : List CheckpointView) where
   pub lead_on : (a b c : List Block) → LeadAlike script cps a b → LeadAlike script cps b c → LeadAlike script cps a c
@@ -132,10 +130,9 @@ module _ (script : ScriptView) (cps : List CheckpointView) where
   orderly_too before others lead (folded e f) c like is = subst (IsOrderly script others) like tt
 
   pub unfolded_too : (b c : Block) → IsLike script b c → IsNotFolded b → IsNotFolded c
-  unfolded_too (added r) c like is = subst IsNotFolded like tt
-  unfolded_too (begun t n env) c like is = subst IsNotFolded like tt
   unfolded_too (ran e r) c like is = subst IsNotFolded (sym like.2) tt
   unfolded_too (folded e f) c like is = absurd is
+  unfolded_too _ c like is = subst IsNotFolded like tt
 
 module _ (script : ScriptView) (histories : List (List Block)) (reps : AreRepresented script histories) (on : ActorsHaveExecutors script) (cps : List CheckpointView) (fresh : StartsFresh script cps) where
   abbrev HasOne : List Block → Type 0

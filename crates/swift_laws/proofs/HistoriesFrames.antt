@@ -46,11 +46,7 @@ module _ (Q : ℕ → TaskView → Type 0) where
   wake_owner_has o g e (Some (stage.Asks asked)) log f has = either_has (asked == g) (wake o (resume_of e) f) f (wake_has o (resume_of e) f has) has
   wake_owner_has o g e (Some (stage.Closes closed)) log f has =
       either_has (closed == g) (wake_closing o (close_of (group_of o g log)) f) f (wake_closing_has o (close_of (group_of o g log)) f has) has
-  wake_owner_has o g e (Some stage.Given) log f has = has
-  wake_owner_has o g e (Some (stage.Begun env)) log f has = has
-  wake_owner_has o g e (Some stage.Applied) log f has = has
-  wake_owner_has o g e (Some (stage.Waits awaited)) log f has = has
-  wake_owner_has o g e None log f has = has
+  wake_owner_has o g e _ log f has = has
 
   wake_parent_has : (p : Option (ℕ × ℕ)) (e : Ending) (log : List Event) (f : AfterTurn) → FollowHas f → FollowHas (wake_parent p e log f)
   wake_parent_has None e log f has = has
@@ -74,8 +70,7 @@ module _ (Q : ℕ → TaskView → Type 0) where
   followed_has : (t n : ℕ) (frames : TaskView) (o : Option Resume) (step : Step) (log : List Event) (f : AfterTurn) → Q t frames → FollowHas f → FollowHas (followed t n frames o step log f)
   followed_has t n frames (Some resume) step log f own has = (has.0, all_append JobHas f.jobs _ has.1 (own, tt))
   followed_has t n frames None (Ended e) log f own has = wake_all_has t e log f has
-  followed_has t n frames None (Run actor resume) log f own has = waits_has t (record { number = n; frames = frames }) f own has
-  followed_has t n frames None Await log f own has = waits_has t (record { number = n; frames = frames }) f own has
+  followed_has t n frames None _ log f own has = waits_has t (record { number = n; frames = frames }) f own has
 
   pub turn_has : (script : ScriptView) (log : List Event) (held : List (Option WaitingTaskView)) (t n : ℕ) (own : Priority) (effects : List EffectView) (exit : ExitView) (after : Advanced)
       → HeldHave held → AllByRecursion JobHas (jobs_made script t own (log ++ Apply (task t) n ∷ []) effects) → Q t after.task

@@ -92,9 +92,8 @@ close_limit [] rest s = refl
 close_limit (g ∷ gs) rest s = refl
 
 limit_effects : (here : NextAction) (s : TurnStateView) → (end_of (at_limit here s)).state.effects ≡ s.effects
-limit_effects ends s = refl
 limit_effects (does code.close_group rest) s = close_limit s.groups rest s
-limit_effects here s = refl
+limit_effects _ s = refl
 
 -- an effect of a turn is that of a statement at which the turn has the effects before it
 

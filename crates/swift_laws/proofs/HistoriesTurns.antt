@@ -22,9 +22,8 @@ both true b h = (refl, h)
 both false b h = absurd (false≢true h)
 
 pub none_in : (k u : ℕ) → held_at (replicate k None) u ≡ None
-none_in zero u = refl
-none_in (suc k) zero = refl
 none_in (suc k) (suc u) = none_in k u
+none_in _ _ = refl
 
 pub held_more : (held : List (Option WaitingTaskView)) (k u : ℕ) → held_at (held ++ replicate k None) u ≡ held_at held u
 held_more [] k u = none_in k u
@@ -32,9 +31,8 @@ held_more (x ∷ xs) k zero = refl
 held_more (x ∷ xs) k (suc u) = held_more xs k u
 
 pub none_set : (held : List (Option WaitingTaskView)) (u : ℕ) → held_at (slice_set held u None) u ≡ None
-none_set [] u = refl
-none_set (x ∷ xs) zero = refl
 none_set (x ∷ xs) (suc u) = none_set xs u
+none_set _ _ = refl
 
 pub some_set : (held : List (Option WaitingTaskView)) (u : ℕ) (h : WaitingTaskView) → (held_at (slice_set held u (Some h)) u ≡ Some h) ⊎ (held_at (slice_set held u (Some h)) u ≡ held_at held u)
 some_set [] u h = inr refl
@@ -138,11 +136,7 @@ wake_owner_fits : (roots : ℕ) (log : List Event) (o g : ℕ) (e : Ending) (s :
 wake_owner_fits roots log o g e (Some (stage.Asks asked)) f fits = either_fits roots log (asked == g) (wake o (resume_of e) f) f (wake_fits roots log o (resume_of e) f fits) fits
 wake_owner_fits roots log o g e (Some (stage.Closes closed)) f fits =
     either_fits roots log (closed == g) (wake_closing o (close_of (group_of o g log)) f) f (wake_closing_fits roots log o (close_of (group_of o g log)) f fits) fits
-wake_owner_fits roots log o g e (Some stage.Given) f fits = fits
-wake_owner_fits roots log o g e (Some (stage.Begun env)) f fits = fits
-wake_owner_fits roots log o g e (Some stage.Applied) f fits = fits
-wake_owner_fits roots log o g e (Some (stage.Waits awaited)) f fits = fits
-wake_owner_fits roots log o g e None f fits = fits
+wake_owner_fits roots log o g e _ f fits = fits
 
 wake_parent_fits : (roots : ℕ) (log : List Event) (p : Option (ℕ × ℕ)) (e : Ending) (f : AfterTurn) → FollowFits roots log f → FollowFits roots log (wake_parent p e log f)
 wake_parent_fits roots log None e f fits = fits
@@ -284,12 +278,10 @@ module _ (script : ScriptView) (held : List (Option WaitingTaskView)) (t n : ℕ
   first_fits : (log : List Event) (e : EffectView) → Here log → AllByRecursion (MadeFits (log ++ effect_events (root_count script) t own log e) held t) (effect_jobs script t log e)
   first_fits log (spawning i p bindings) h = (made_one log _ _ _ refl refl refl refl refl h, tt)
   first_fits log (detaching i p) h = (made_one log _ _ _ refl refl refl refl refl h, tt)
-  first_fits log opening h = tt
   first_fits log (adding g unless i p bindings) h =
       added_first log (Skip (task t) g) (Child (task (tasks_of (root_count script) log)) (task t) g (unwrap_or p Background))
       (first_job script (tasks_of (root_count script) log) i.method i.args bindings) (is_left_out t g unless log) (made_one log _ _ _ refl refl refl refl refl h)
-  first_fits log (cancelling_task name) h = tt
-  first_fits log (cancelling_group g) h = tt
+  first_fits log _ h = tt
 
   made_fit : (log : List Event) (es : List EffectView) → Here log → AllByRecursion (MadeFits (log_after (root_count script) t own log es) held t) (jobs_made script t own log es)
   made_fit log [] h = tt

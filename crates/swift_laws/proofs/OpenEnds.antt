@@ -98,8 +98,7 @@ module _ (roots : ℕ) (log : List Event) where
   pub followed_go : Sound roots log → (t n : ℕ) (frames : TaskView) (resume : Option Resume) (step : Step) (f : AfterTurn) → Requires t log resume step → AllGo log f.jobs → AllGo log (followed t n frames resume step log f).jobs
   followed_go s t n frames (Some resume) step f goes all = each_append (λ j. Goes j.task log) f.jobs _ all (goes, tt)
   followed_go s t n frames None (Ended e) f waiters all = wake_all_go s t e f waiters all
-  followed_go s t n frames None Await f h all = all
-  followed_go s t n frames None (Run actor resume) f h all = all
+  followed_go s t n frames None _ f h all = all
 
 -- what an exit writes
 

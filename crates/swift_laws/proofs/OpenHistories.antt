@@ -9,8 +9,7 @@ use Rattle.swift_laws.proofs.OpenEnds.{followed_go, exit_wrote}
 
 both : (a b : Bool) → (a && b) ≡ true → (a ≡ true) × (b ≡ true)
 both true true h = (refl, refl)
-both true false h = absurd (false≢true h)
-both false b h = absurd (false≢true h)
+both _ _ h = absurd (false≢true h)
 
 given_some : (o : Option LastJob) (n : ℕ) (resume : Resume) → given_so o n resume ≡ true → is_some o ≡ true
 given_some None n resume h = absurd (false≢true h)

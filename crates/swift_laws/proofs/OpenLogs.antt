@@ -141,8 +141,7 @@ closed_cases t g log e h = or_cases (is_closed t g log) (closes t g e) (sym (is_
 
 and_both : (a b : Bool) → (a && b) ≡ true → (a ≡ true) × (b ≡ true)
 and_both true true h = (refl, refl)
-and_both true false h = absurd (false≢true h)
-and_both false b h = absurd (false≢true h)
+and_both _ _ h = absurd (false≢true h)
 
 pub equal_of : (a b : ℕ) → (a == b) ≡ true → a ≡ b
 equal_of a b h = grind (arith, nat_tests)

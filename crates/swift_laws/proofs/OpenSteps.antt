@@ -174,8 +174,7 @@ module _ (script : ScriptView) (t : ℕ) where
 
   both : (a b : Bool) → (a && b) ≡ true → (a ≡ true) × (b ≡ true)
   both true true h = (refl, refl)
-  both true false h = absurd (false≢true h)
-  both false b h = absurd (false≢true h)
+  both _ _ h = absurd (false≢true h)
 
   less_of : (a b : ℕ) → nat_lt a b ≡ true → a < b
   less_of a b h = grind (arith, nat_tests)

@@ -1,5 +1,5 @@
 -- A stored event is read back, and an entry reads the same when numbers are added behind those that it needs.
-use Rattle.std.proofs.Common.{◌≡◌, ℕ, ◌+◌, ◌<◌, ◌≤◌, ℤ, pos, List, [], ◌∷◌, ◌++◌, length, map, refl, ap, ◌∙◌, arith}
+use Rattle.std.proofs.Common.{◌≡◌, ℕ, ◌+◌, ◌<◌, ◌≤◌, ℤ, pos, List, [], ◌∷◌, ◌++◌, length, refl, ap, ◌∙◌, arith}
 use Rattle.std.specs.List.{All}
 use Rattle.std.proofs.lemmas.List.{get_or_at, get_or_append_left}
 use Rattle.std.proofs.lemmas.List.Elements.{All-head, All-tail}
@@ -16,7 +16,8 @@ use Rattle.swift_log.specs.declared.entry.EndingKind.{EndingKind}
 use Rattle.swift_log.specs.declared.entry.EndingKind.TheVariants as outcome
 use Rattle.swift_log.specs.declared.entry.LogEntry.{LogEntry}
 use Rattle.swift_log.specs.declared.entry.LogEntry.TheVariants as entry
-use Rattle.swift_log.specs.EntriesInside.{ending_of, entry_of, event_of, fault_numbers, fault_outcome, give_entry, needed, number_at, numbers_in, numbers_of, numbers_to, outcome_of, resume_numbers, resume_of, IsWithin}
+use Rattle.swift_log.specs.EntriesInside.{ending_of, entry_of, event_of, events_of, fault_numbers, fault_outcome, give_entry, later_of, needed, number_at, numbers_in, numbers_of, numbers_to, outcome_of, resume_numbers, resume_of, IsWithin}
+use Rattle.swift_log.specs.MarksInside.{events_in}
 
 -- a number that is added stands behind the others
 
@@ -163,6 +164,8 @@ ending_kept ns ms outcome.Isolation k within = refl
 entry_kept : (ns ms : List ℤ) (x : LogEntry) → IsWithin (length ns) x → event_of (ns ++ ms) x ≡ event_of ns x
 entry_kept ns ms (entry.Root p t) within = refl
 entry_kept ns ms (entry.Begin p cancelled t n room) within = refl
+entry_kept ns ms (entry.Turn p cancelled t n room) within = refl
+entry_kept ns ms (entry.Yield p cancelled t n room) within = refl
 entry_kept ns ms (entry.Apply t n) within = refl
 entry_kept ns ms (entry.Free p detached t by) within = refl
 entry_kept ns ms (entry.Open o g) within = refl
@@ -178,8 +181,32 @@ entry_kept ns ms (entry.GiveGo t n) within = refl
 entry_kept ns ms (entry.End o t k) within = ap (λ e. event.End t e) (ending_kept ns ms o k within)
 entry_kept ns ms (entry.GiveAfter o t n k) within = ap (λ e. event.Give t n (resume_of e)) (ending_kept ns ms o k within)
 
-pub entries_kept : (ns ms : List ℤ) (xs : List LogEntry) → All (IsWithin (length ns)) xs → map (event_of (ns ++ ms)) xs ≡ map (event_of ns) xs
+pub entries_kept : (ns ms : List ℤ) (xs : List LogEntry) → All (IsWithin (length ns)) xs → events_in (ns ++ ms) xs ≡ events_in ns xs
 entries_kept ns ms [] within = refl
 entries_kept ns ms (x ∷ xs) within =
-    ap (λ e. e ∷ map (event_of (ns ++ ms)) xs) (entry_kept ns ms x (All-head (IsWithin (length ns)) x xs within))
-    ∙ ap (λ es. event_of ns x ∷ es) (entries_kept ns ms xs (All-tail (IsWithin (length ns)) x xs within))
+    ap (λ e. (e ∷ later_of x) ++ events_in (ns ++ ms) xs) (entry_kept ns ms x (All-head (IsWithin (length ns)) x xs within))
+    ∙ ap (λ es. events_of ns x ++ es) (entries_kept ns ms xs (All-tail (IsWithin (length ns)) x xs within))
+
+-- the entry of one event stands for no other
+
+give_alone : (r : Resume) (t : TaskId) (n k : ℕ) → later_of (give_entry r t n k) ≡ []
+give_alone resume.Start t n k = refl
+give_alone resume.Go t n k = refl
+give_alone (resume.Value v) t n k = refl
+give_alone (resume.Fault f) t n k = refl
+
+pub event_alone : (e : Event) (k : ℕ) → later_of (entry_of e k) ≡ []
+event_alone (event.Root t p) k = refl
+event_alone (event.Begin t n env) k = refl
+event_alone (event.Apply t n) k = refl
+event_alone (event.Free t by p detached) k = refl
+event_alone (event.Open o g) k = refl
+event_alone (event.Child t o g p) k = refl
+event_alone (event.Skip o g) k = refl
+event_alone (event.CancelTask t) k = refl
+event_alone (event.CancelGroup o g) k = refl
+event_alone (event.Wait t awaited) k = refl
+event_alone (event.Next o g) k = refl
+event_alone (event.Close o g) k = refl
+event_alone (event.End t e) k = refl
+event_alone (event.Give t n r) k = give_alone r t n k

@@ -1,2 +1,3 @@
 pub mod EntriesRead
+pub mod Marks
 pub mod LogSteps

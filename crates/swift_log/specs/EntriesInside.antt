@@ -1,5 +1,5 @@
 -- How events are stored. Only this crate's proofs use it.
-use Rattle.std.specs.Prelude.{ℕ, ◌+◌, ◌≤◌, ℤ, pos, List, [], ◌∷◌, slice_index_or}
+use Rattle.std.specs.Prelude.{◌≡◌, ℕ, ◌+◌, ◌≤◌, ◌%◌, ◌^◌, ℤ, pos, List, [], ◌∷◌, ◌++◌, length, slice_index_or}
 use Rattle.swift_types.specs.declared.id.TaskId.{TaskId}
 use Rattle.swift_types.specs.declared.outcome.Fault.{Fault}
 use Rattle.swift_types.specs.declared.outcome.Fault.TheVariants as fault
@@ -98,10 +98,12 @@ entry_of (event.Close o g) place = entry.Close o g
 entry_of (event.End t e) place = entry.End (outcome_of e) t place
 entry_of (event.Give t n r) place = give_entry r t n place
 
--- the event of an entry, by the numbers beside it
+-- the event of an entry, by the numbers beside it; the first one, where it stands for more
 abbrev pub event_of : List ℤ → LogEntry → Event
 event_of ns (entry.Root p t) = event.Root t p
 event_of ns (entry.Begin p cancelled t n room) = event.Begin t n (record { priority = p; cancelled = cancelled; room = room })
+event_of ns (entry.Turn p cancelled t n room) = event.Begin t n (record { priority = p; cancelled = cancelled; room = room })
+event_of ns (entry.Yield p cancelled t n room) = event.Begin t n (record { priority = p; cancelled = cancelled; room = room })
 event_of ns (entry.Apply t n) = event.Apply t n
 event_of ns (entry.Free p detached t by) = event.Free t by p detached
 event_of ns (entry.Open o g) = event.Open o g
@@ -116,6 +118,24 @@ event_of ns (entry.End o t place) = event.End t (ending_of o (number_at ns place
 event_of ns (entry.GiveStart t n) = event.Give t n resume.Start
 event_of ns (entry.GiveGo t n) = event.Give t n resume.Go
 event_of ns (entry.GiveAfter o t n place) = event.Give t n (resume_of (ending_of o (number_at ns place)))
+
+-- the number of the turn after this one, in 32 bits
+abbrev pub next_number : ℕ → ℕ
+next_number n = (n + 1) % 2 ^ 32
+
+-- the events that an entry stands for beside its first one
+abbrev pub later_of : LogEntry → List Event
+later_of (entry.Turn p cancelled t n room) = event.Apply t n ∷ []
+later_of (entry.Yield p cancelled t n room) = event.Apply t n ∷ event.Give t (next_number n) resume.Go ∷ []
+later_of _ = []
+
+-- the events that an entry stands for
+abbrev pub events_of : List ℤ → LogEntry → List Event
+events_of ns x = event_of ns x ∷ later_of x
+
+-- how many these are
+abbrev pub width_of : LogEntry → ℕ
+width_of x = length (events_of [] x)
 
 -- how many numbers there are up to that of an ending, which stands at this place; none where it has none
 abbrev pub numbers_to : EndingKind → ℕ → ℕ
@@ -132,3 +152,8 @@ needed _ = 0
 -- there are as many
 abbrev pub IsWithin : ℕ → LogEntry → Type 0
 IsWithin n x = needed x ≤ n
+
+-- the second entry stands for the events of the first and then for this one
+pub record Joins (x : LogEntry) (e : Event) (y : LogEntry) : Type 0 where
+  pub events : (ns : List ℤ) → events_of ns y ≡ events_of ns x ++ e ∷ []
+  pub needed : needed y ≡ 0

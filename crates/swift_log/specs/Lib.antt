@@ -1,3 +1,4 @@
 pub mod Logs
 pub mod EntriesInside
+pub mod MarksInside
 pub mod LogInside

@@ -1,8 +1,9 @@
 //! How an event is stored.
 
-ghost use Rattle.std.specs.Prelude.{◌≡◌};
+ghost use Rattle.std.specs.Prelude.{◌≡◌, ◌<◌, IfSome, length, slice_index_or};
 ghost use Rattle.std.specs.Option.{option_to_list};
-ghost use Rattle.swift_log.specs.EntriesInside.{ending_of, entry_of, event_of, number_at, numbers_in, numbers_of, outcome_of, resume_of};
+ghost use Rattle.swift_events.specs.declared.event.Event.{Event};
+ghost use Rattle.swift_log.specs.EntriesInside.{ending_of, entry_of, event_of, events_of, number_at, numbers_in, numbers_of, outcome_of, resume_of, width_of, Joins};
 
 use swift_events::Event;
 use swift_types::{Ending, Env, Fault, Priority, Resume, TaskId};
@@ -26,12 +27,16 @@ pub(crate) enum EndingKind {
     Isolation,
 }
 
-/// An event as it is stored: in 16 bytes, since small fields come first, next to the tag. A number of 64 bits stands in a list
-/// beside the entries, and the last field of `End` and `GiveAfter` is its place there.
+/// An event as it is stored, or the events of one turn: in 16 bytes, since small fields come first, next to the tag. A number of
+/// 64 bits stands in a list beside the entries, and the last field of `End` and `GiveAfter` is its place there.
 #[derive(Clone, Copy)]
 pub(crate) enum LogEntry {
     Root(Priority, TaskId),
     Begin(Priority, bool, TaskId, u32, u32),
+    /// A turn that begins, and its apply.
+    Turn(Priority, bool, TaskId, u32, u32),
+    /// A turn that begins, its apply, and the job of the next turn, which goes on without an answer.
+    Yield(Priority, bool, TaskId, u32, u32),
     Apply(TaskId, u32),
     Free(Priority, bool, TaskId, TaskId),
     Open(TaskId, u32),
@@ -201,13 +206,68 @@ impl LogEntry {
         }
     }
 
-    /// The event of an entry, by the numbers that stand beside the entries.
-    pub(crate) fn event(self, numbers: &[i64]) -> Event
+    /// The entry that stands for the events of this one and for one more: for an apply of the turn that has begun here, and then
+    /// for the job of the turn after it that goes on without an answer.
+    #[inline(always)]
+    pub(crate) fn with(self, event: Event) -> Option<LogEntry>
+        ensures { IfSome result (λ entry. Joins self event entry) }
+    {
+        match (self, event) {
+            (LogEntry::Begin(priority, cancelled, task, number, room), Event::Apply(of, turn))
+                if of == task && turn == number => {
+                Some(LogEntry::Turn(priority, cancelled, task, number, room))
+            }
+            (
+                LogEntry::Turn(priority, cancelled, task, number, room),
+                Event::Give {
+                    task: of,
+                    turn,
+                    resume: Resume::Go,
+                },
+            ) if of == task && turn == number.wrapping_add(1) => {
+                Some(LogEntry::Yield(priority, cancelled, task, number, room))
+            }
+            _ => None,
+        }
+    }
+
+    /// How many events the entry stands for: 1 to 3.
+    pub(crate) fn width(self) -> usize
+        ensures { result ≡ width_of self }
+    {
+        match self {
+            LogEntry::Turn(..) => 2,
+            LogEntry::Yield(..) => 3,
+            _ => 1,
+        }
+    }
+
+    /// The event at a place among those that the entry stands for, by the numbers that stand beside the entries.
+    pub(crate) fn event_at(self, place: usize, numbers: &[i64]) -> Event
+        requires { place < width_of self }
+        ensures { (d : Event) → result ≡ slice_index_or (events_of numbers.now self) place d }
+    {
+        match (self, place) {
+            (LogEntry::Turn(_, _, task, number, _), 1)
+            | (LogEntry::Yield(_, _, task, number, _), 1) => Event::Apply(task, number),
+            (LogEntry::Yield(_, _, task, number, _), 2) => Event::Give {
+                task,
+                turn: number.wrapping_add(1),
+                resume: Resume::Go,
+            },
+            _ => self.event(numbers),
+        }
+    }
+
+    /// The first event of an entry, by the numbers that stand beside the entries.
+    fn event(self, numbers: &[i64]) -> Event
         ensures { result ≡ event_of numbers.now self }
     {
         match self {
             LogEntry::Root(priority, task) => Event::Root(task, priority),
-            LogEntry::Begin(priority, cancelled, task, number, room) => {
+            LogEntry::Begin(priority, cancelled, task, number, room)
+            | LogEntry::Turn(priority, cancelled, task, number, room)
+            | LogEntry::Yield(priority, cancelled, task, number, room) => {
                 let env = Env {
                     priority,
                     cancelled,

@@ -19,19 +19,7 @@ module _ (t : ℕ) where
 
   no_waiter : (e : Event) → LeavesApart e → waiter_in t e ≡ None
   no_waiter (Wait v awaited) ne = ap (λ (b : Bool). if b then Some v else None) (ne_eqb awaited.0 t ne)
-  no_waiter (Root v p) ne = refl
-  no_waiter (Begin v n env) ne = refl
-  no_waiter (Apply v n) ne = refl
-  no_waiter (Free v by p detached) ne = refl
-  no_waiter (Open o g) ne = refl
-  no_waiter (Child v o g p) ne = refl
-  no_waiter (Skip o g) ne = refl
-  no_waiter (CancelTask v) ne = refl
-  no_waiter (CancelGroup o g) ne = refl
-  no_waiter (Next o g) ne = refl
-  no_waiter (Close o g) ne = refl
-  no_waiter (End v x) ne = refl
-  no_waiter (Give v n r) ne = refl
+  no_waiter _ ne = refl
 
   other_if : (b : Bool) (v : TaskId) → v.0 ≢ t → AllByRecursion (IsOther t) (cons_option (if b then Some v else None) [])
   other_if true v ne = (ne, tt)
@@ -162,12 +150,7 @@ module _ (t : ℕ) where
 
     exit_shown : (log : List Event) (c : Counters) (exit : ExitView) → exit_spares t exit ≡ true → fits_exit script u first c exit ≡ true → length (own_tasks u log) ≡ c.own → Apart log → ExitShown is_it u log exit
     exit_shown log c (waiting name) spares fits many apart = name_shown log c name spares fits many apart
-    exit_shown log c (calling i) spares fits many apart = tt
-    exit_shown log c (asking_next g) spares fits many apart = tt
-    exit_shown log c (closing g f) spares fits many apart = tt
-    exit_shown log c yielding spares fits many apart = tt
-    exit_shown log c (returning v) spares fits many apart = tt
-    exit_shown log c (failing f) spares fits many apart = tt
+    exit_shown log c _ spares fits many apart = tt
 
     after_effects : (es : List EffectView) (log : List Event) (own : Priority) (c : Counters) (exit : ExitView) → t < roots → AllByRecursion (EffectSpares t) es → exit_spares t exit ≡ true → fits_turn script u first c es exit ≡ true
         → length (own_tasks u log) ≡ c.own → Apart log → AfterEffects log own es exit
@@ -189,8 +172,7 @@ module _ (t : ℕ) where
 
   next_apart : (u : ℕ) (log : List Event) (g : ℕ) (a : Answer) → Apart log → Apart (log ++ next_events u g a)
   next_apart u log g answer.Empty apart = apart_nil log apart
-  next_apart u log g answer.Wait apart = apart_push log (Next (task u) g) tt apart
-  next_apart u log g (answer.Result child e) apart = apart_push log (Next (task u) g) tt apart
+  next_apart u log g _ apart = apart_push log (Next (task u) g) tt apart
 
   close_apart : (u : ℕ) (log : List Event) (g : ℕ) (f : Option Fault) → Apart log → Apart (log ++ close_events u g f)
   close_apart u log g None apart = apart_push log (Close (task u) g) tt apart
@@ -200,17 +182,13 @@ module _ (t : ℕ) where
 
   end_apart : (u : ℕ) (log : List Event) (step : Step) → Apart log → Apart (log ++ end_events u step)
   end_apart u log (Ended e) apart = apart_push log (End (task u) e) tt apart
-  end_apart u log (Run actor resume) apart = apart_nil log apart
-  end_apart u log Await apart = apart_nil log apart
+  end_apart u log _ apart = apart_nil log apart
 
   exit_apart : (u : ℕ) (log : List Event) (exit : ExitView) (step : Step) → ExitShown is_it u log exit → Apart log → Apart (log ++ exit_events u log exit step)
   exit_apart u log (waiting name) step shown apart = wait_apart u log (named_task u name log) (life_of (named_task u name log).0 log).ending (other_than (named_task u name log) shown) apart
   exit_apart u log (asking_next g) step shown apart = next_apart u log g (next_of (group_of u g log)) apart
   exit_apart u log (closing g f) step shown apart = close_apart u log g f apart
-  exit_apart u log (calling i) step shown apart = end_apart u log step apart
-  exit_apart u log yielding step shown apart = end_apart u log step apart
-  exit_apart u log (returning v) step shown apart = end_apart u log step apart
-  exit_apart u log (failing f) step shown apart = end_apart u log step apart
+  exit_apart u log _ step shown apart = end_apart u log step apart
 
   -- it is no child of a group
 
@@ -289,12 +267,10 @@ none_in None fs is = (refl, is)
 none_in (Some f) fs is = absurd (cc is)
 
 plain_one : (b : Block) → ((e : ℕ) → folded_in e b ≡ None) → IsNotFolded b
-plain_one (added r) none = tt
-plain_one (begun t n env) none = tt
-plain_one (ran e r) none = tt
 plain_one (folded e f) none =
     let some : folded_in e (folded e f) ≡ Some f = ap (λ (b : Bool). if b then Some f else None) (eq-eqb e e refl) in
     absurd (cc (sym (none e) ∙ some))
+plain_one _ none = tt
 
 pub all_plain : (bs : List Block) → ((e : ℕ) → folded_of e bs ≡ []) → AllByRecursion IsNotFolded bs
 all_plain [] none = tt

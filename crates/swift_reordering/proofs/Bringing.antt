@@ -12,8 +12,7 @@ use Rattle.swift_reordering.proofs.SilentSteps.{silent_looks}
 pub like_many : (script : ScriptView) (xs ys : List Block) → AreLike script xs ys → length ys ≡ length xs
 like_many script [] [] like = refl
 like_many script (x ∷ xs) (y ∷ ys) like = (let rest = like_many script xs ys like.1 in omega (arith, rest))
-like_many script [] (y ∷ ys) like = absurd like
-like_many script (x ∷ xs) [] like = absurd like
+like_many script _ _ like = absurd like
 
 pub number_one : (g : Option LastJob) (n m : ℕ) → HasNumber g n → HasNumber g m → n ≡ m
 number_one None n m one two = absurd one
@@ -83,17 +82,13 @@ module _ (script : ScriptView) (cps : List CheckpointView) (on : ActorsHaveExecu
   -- past a block of another task
   late_past : (b : Block) (bs cs xs before after : List Block) → IsOfOther t b → ((u : ℕ) → u ≢ t → turn_looks_away script (after_blocks script (at_first script) after) u ≡ turn_looks_away script (after_blocks script (at_first script) before) u)
       → BeginLate script before (b ∷ bs) → ((u : ℕ) → u ≢ t → RunsNext u bs → RunsNext u xs) → AreLike script xs cs → BeginLate script (after ++ b ∷ []) cs → BeginLate script after (b ∷ cs)
-  late_past (added r) bs cs xs before after of_other looks late next like more = more
-  late_past (ran k q) bs cs xs before after of_other looks late next like more = more
-  late_past (folded k q) bs cs xs before after of_other looks late next like more = more
   late_past (begun u m x) bs cs xs before after of_other looks late next like more =
       (λ away. runs_like script u xs cs like (next u of_other (late.0 (sym (looks u of_other) ∙ away))), more)
+  late_past _ bs cs xs before after of_other looks late next like more = more
 
   next_past : (b : Block) (bs cs : List Block) (u : ℕ) → RunsNext u (b ∷ bs) → RunsNext u (b ∷ cs)
   next_past (ran k q) bs cs u is = is
-  next_past (added r) bs cs u is = absurd is
-  next_past (begun v m x) bs cs u is = absurd is
-  next_past (folded k q) bs cs u is = absurd is
+  next_past _ bs cs u is = absurd is
 
   past : (before bs : List Block) (env : Env) (r : RecordView) (b : Block) (c : Commutes script cps before t n env e r b) → AllStand script cps [] before → IsSilentTurn script cps before t n env e r → Stands script cps before b
       → IsOrderly script before b → IsOfOther t b → BeginLate script before (b ∷ bs)

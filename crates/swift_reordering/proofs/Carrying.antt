@@ -6,16 +6,12 @@ use Rattle.swift_reordering.proofs.Closed.{same_away}
 pub runs_like : (script : ScriptView) (t : ℕ) (bs cs : List Block) → AreLike script bs cs → RunsNext t bs → RunsNext t cs
 runs_like script t (ran e r ∷ bs) (c ∷ cs) like is = subst (λ (x : Block). RunsNext t (x ∷ cs)) (sym like.0.2) is
 runs_like script t (ran e r ∷ bs) [] like is = absurd like
-runs_like script t [] cs like is = absurd is
-runs_like script t (added r ∷ bs) cs like is = absurd is
-runs_like script t (begun u n env ∷ bs) cs like is = absurd is
-runs_like script t (folded e f ∷ bs) cs like is = absurd is
+runs_like script t _ cs like is = absurd is
 
 pub plain_like : (script : ScriptView) (cps : List CheckpointView) (bs cs : List Block) → AreLike script bs cs → AllByRecursion IsNotFolded bs → AllByRecursion IsNotFolded cs
 plain_like script cps [] [] like all = tt
 plain_like script cps (b ∷ bs) (c ∷ cs) like all = (unfolded_too script cps b c like.0 all.0, plain_like script cps bs cs like.1 all.1)
-plain_like script cps [] (c ∷ cs) like all = absurd like
-plain_like script cps (b ∷ bs) [] like all = absurd like
+plain_like script cps _ _ like all = absurd like
 
 module _ (script : ScriptView) (cps : List CheckpointView) where
   pub record Carried (more before others : List Block) : Type 0 where
@@ -35,10 +31,8 @@ module _ (script : ScriptView) (cps : List CheckpointView) where
       subst (λ (x : Block). BeginLate script others (x ∷ cs)) (sym like.2) (subst (λ (x : Block). BeginLate script (others ++ x ∷ []) cs) like.2 more)
 
   pub late_rest : (b : Block) (bs before : List Block) → BeginLate script before (b ∷ bs) → BeginLate script (before ++ b ∷ []) bs
-  late_rest (added r) bs before late = late
   late_rest (begun t n env) bs before late = late.1
-  late_rest (ran e r) bs before late = late
-  late_rest (folded e f) bs before late = late
+  late_rest _ bs before late = late
 
   pub carry : (more before others : List Block) → AllStand script cps [] before → AllStand script cps [] others → LeadAlike script cps before others → AllStand script cps before more → AllAllowed (IsOrderly script) before more → BeginLate script before more
       → Carried more before others

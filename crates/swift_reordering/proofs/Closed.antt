@@ -22,14 +22,12 @@ module _ (script : ScriptView) where
   frames_away : (cancelled : Bool) (ps qs : List FrameView) → frame_plans script ps ≡ frame_plans script qs → frames_look_away script cancelled ps ≡ frames_look_away script cancelled qs
   frames_away cancelled [] [] same = refl
   frames_away cancelled (p ∷ ps) (q ∷ qs) same = (let one : plan_of script p ≡ plan_of script q = cc same in ap (λ (h : FramePlan). is_some h.pending || code_looks_away cancelled h.todo) one)
-  frames_away cancelled [] (q ∷ qs) same = absurd (cc same)
-  frames_away cancelled (p ∷ ps) [] same = absurd (cc same)
+  frames_away cancelled _ _ same = absurd (cc same)
 
   jobs_away : (cancelled : Bool) (o u : Option JobFacts) → option_map (job_plan script) o ≡ option_map (job_plan script) u → job_looks_away script cancelled o ≡ job_looks_away script cancelled u
   jobs_away cancelled None None same = refl
   jobs_away cancelled (Some j) (Some k) same = (let plan : job_plan script j ≡ job_plan script k = cc same in frames_away cancelled j.frames.frames k.frames.frames (ap (λ (h : JobPlan). h.plan.frames) plan))
-  jobs_away cancelled None (Some k) same = absurd (cc same)
-  jobs_away cancelled (Some j) None same = absurd (cc same)
+  jobs_away cancelled _ _ same = absurd (cc same)
 
   -- turns that are alike end alike
   pub exit_too : (bs cs : List Block) (e : ℕ) (q : RecordView) → AreLike script bs cs → Contains bs (ran e q) → HasExit cs e q.exit

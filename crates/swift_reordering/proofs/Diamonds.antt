@@ -192,19 +192,14 @@ current_too : (a b : Life) (n : ℕ) (x : Resume) → a.given ≡ b.given → is
 current_too a b n x given under = ap₂ (λ (g : Option LastJob) (y : Bool). was_given g n x && (nat_lt n (2 ^ 32 - 1) && y)) given under
 
 fits_alone : (script : ScriptView) (t u : ℕ) (a b : List Event) (c d : Counters) (callers : List FrameView) (exit : ExitView) → (goes_on_alone callers exit || ends_task callers exit) ≡ true → fits_exit script t a c exit ≡ fits_exit script u b d exit
-fits_alone script t u a b c d callers (calling i) is = refl
-fits_alone script t u a b c d callers yielding is = refl
-fits_alone script t u a b c d callers (returning v) is = refl
-fits_alone script t u a b c d callers (failing f) is = refl
 fits_alone script t u a b c d callers (waiting x) is = absurd (false≢true is)
 fits_alone script t u a b c d callers (asking_next g) is = absurd (false≢true is)
 fits_alone script t u a b c d callers (closing g f) is = absurd (false≢true is)
+fits_alone script t u a b c d callers _ is = refl
 
 not_folded_of : (t : ℕ) (b : Block) → IsOfOther t b → IsNotFolded b
-not_folded_of t (added r) is = tt
-not_folded_of t (begun u n env) is = tt
-not_folded_of t (ran e r) is = tt
 not_folded_of t (folded e f) is = absurd is
+not_folded_of t _ is = tt
 
 -- what is left of a life where its task goes on, or has ended
 

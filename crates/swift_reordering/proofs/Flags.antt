@@ -33,14 +33,10 @@ module _ (op more : Operation → Bool) (test too : Term → Bool) (each : (d : 
 
 term_more : (t : Term) → term_looks_away false t ≡ true → term_looks_away true t ≡ true
 term_more code.priority is = absurd (false≢true is)
-term_more code.cancelled is = refl
 term_more (code.opposite t) is = term_more t is
 term_more (code.denial t) is = term_more t is
 term_more (code.binary op a b) is = (let parts = both (term_looks_away false a) _ is in and_true _ _ (term_more a parts.0) (term_more b parts.1))
-term_more (code.number n) is = refl
-term_more (code.variable x) is = refl
-term_more (code.field p) is = refl
-term_more (code.local l d) is = refl
+term_more _ is = refl
 
 terms_more : (ts : List Term) → terms_look_away false ts ≡ true → terms_look_away true ts ≡ true
 terms_more [] is = refl
@@ -52,29 +48,20 @@ term_if_more (Some t) is = term_more t is
 
 wanted_more : (w : Wanted) → wanted_looks_away false w ≡ true → wanted_looks_away true w ≡ true
 wanted_more (code.call c) is = terms_more c.args is
-wanted_more (code.root r) is = refl
-wanted_more (code.task h) is = refl
-wanted_more (code.next h) is = refl
+wanted_more _ is = refl
 
 operation_more : (d : Operation) → operation_looks_away false d ≡ true → operation_looks_away true d ≡ true
 operation_more (code.set_variable x t) is = term_more t is
 operation_more (code.set_field p t) is = term_more t is
 operation_more (code.return t) is = term_more t is
 operation_more (code.throw t) is = term_more t is
-operation_more code.check is = refl
-operation_more code.yield is = refl
 operation_more (code.wait w) is = wanted_more w is
 operation_more (code.receive place other) is = term_if_more other is
 operation_more (code.spawn c p h) is = (let parts = both (is_some p) _ is in and_true _ _ parts.0 (terms_more c.args parts.1))
 operation_more (code.detach c p h) is = terms_more c.args is
 operation_more (code.add h unless c p) is = terms_more c.args is
-operation_more (code.cancel c) is = refl
-operation_more (code.open_group h) is = refl
-operation_more code.close_group is = refl
 operation_more (code.bind l t) is = term_more t is
-operation_more code.unbind is = refl
-operation_more code.assume is = refl
-operation_more code.isolated is = refl
+operation_more _ is = refl
 
 code_more : (c : Code) → code_looks_away false c ≡ true → code_looks_away true c ≡ true
 code_more c is = all_more (operation_looks_away false) (operation_looks_away true) (term_looks_away false) (term_looks_away true) operation_more term_more c true true (λ same. same) is
@@ -92,10 +79,9 @@ module _ (script : ScriptView) where
 
   -- so it does where the task is cancelled later
   pub job_stays : (a b : Bool) (o : Option JobFacts) → (a ≡ true → b ≡ true) → job_looks_away script a o ≡ true → job_looks_away script b o ≡ true
-  job_stays false false o later is = is
   job_stays false true o later is = job_more o is
   job_stays true false o later is = absurd (false≢true (later refl))
-  job_stays true true o later is = is
+  job_stays _ _ o later is = is
 
   pub turn_stays : (s z : Standing) (t : ℕ) → (is_cancelled t s.log ≡ true → is_cancelled t z.log ≡ true) → z.jobs t ≡ s.jobs t → turn_looks_away script s t ≡ true → turn_looks_away script z t ≡ true
   turn_stays s z t flag job is =
@@ -115,14 +101,7 @@ written_new roots u log (Begin v n env) w beyond = absurd w
 written_new roots u log (Apply v n) w beyond = absurd w
 written_new roots u log (Give v n resume) w beyond = absurd w
 written_new roots u log (Root v p) w beyond = absurd w
-written_new roots u log (Open o g) w beyond = inl refl
-written_new roots u log (Skip o g) w beyond = inl refl
-written_new roots u log (CancelTask v) w beyond = inl refl
-written_new roots u log (CancelGroup o g) w beyond = inl refl
-written_new roots u log (Wait v awaited) w beyond = inl refl
-written_new roots u log (Next o g) w beyond = inl refl
-written_new roots u log (Close o g) w beyond = inl refl
-written_new roots u log (End v ending) w beyond = inl refl
+written_new roots u log _ w beyond = inl refl
 
 goes_quiet : (roots t : ℕ) (log : List Event) (e : Event) → origin_in e ≡ None → Goes roots t log → Goes roots t (log ++ e ∷ [])
 goes_quiet roots t log e none goes = record { beyond = beyond_push roots log e (inl none) goes.beyond; flag = cancelled_stays t log e (inl none) goes.flag }

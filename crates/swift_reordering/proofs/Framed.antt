@@ -44,10 +44,9 @@ advanced_framed script p callers outer (waiting t) = in_itself script (waiting t
 advanced_framed script p callers outer (asking_next g) = in_itself script (asking_next g) _ tt
 advanced_framed script p callers outer (closing g f) = in_itself script (closing g f) _ tt
 advanced_framed script p callers outer yielding = in_itself script yielding _ tt
-advanced_framed script p [] outer (returning v) = record { task = record { frames = p ∷ []; outer = outer }; framed = tt; same = λ log held t n own effects. refl }
 advanced_framed script p (q ∷ callers) outer (returning v) = in_itself script (returning v) _ tt
-advanced_framed script p [] outer (failing f) = record { task = record { frames = p ∷ []; outer = outer }; framed = tt; same = λ log held t n own effects. refl }
 advanced_framed script p (q ∷ callers) outer (failing f) = in_itself script (failing f) _ tt
+advanced_framed script p [] outer _ = record { task = record { frames = p ∷ []; outer = outer }; framed = tt; same = λ log held t n own effects. refl }
 
 -- blocks
 

@@ -52,11 +52,8 @@ module _ (script : ScriptView) (cps : List CheckpointView) where
     late_append xs (before ++ begun t n env ∷ []) ys late.1 (subst (λ (bs : List Block). BeginLate script bs ys) (sym (append_assoc before (begun t n env ∷ []) xs)) more),
   ) where
     runs_more : (xs : List Block) → RunsNext t xs → RunsNext t (xs ++ ys)
-    runs_more [] is = absurd is
     runs_more (ran e r ∷ xs) is = is
-    runs_more (added r ∷ xs) is = absurd is
-    runs_more (begun u k env ∷ xs) is = absurd is
-    runs_more (folded e f ∷ xs) is = absurd is
+    runs_more _ is = absurd is
 
   pub step_late : (before step : List Block) → IsFusedStep script before step → BeginLate script before step
   step_late before (added r ∷ []) is = tt
@@ -179,14 +176,10 @@ module _ (script : ScriptView) (cps : List CheckpointView) (May : ℕ → Type 0
     -- a begin that is put off
 
     given_of : (a b : Option JobStage) → is_under_way a ≡ true → is_begun a ≡ false → blurred_stage a ≡ blurred_stage b → (a ≡ b) ⊎ (is_begun a ≡ true) → b ≡ Some Given
-    given_of None b under none same one = absurd (false≢true under)
     given_of (Some (Begun env)) b under none same one = absurd (false≢true (sym none))
-    given_of (Some Applied) b under none same one = absurd (false≢true under)
-    given_of (Some (Waits t)) b under none same one = absurd (false≢true under)
-    given_of (Some (Asks g)) b under none same one = absurd (false≢true under)
-    given_of (Some (Closes g)) b under none same one = absurd (false≢true under)
     given_of (Some Given) b under none same (inl one) = sym one
     given_of (Some Given) b under none same (inr one) = absurd (false≢true one)
+    given_of _ b under none same one = absurd (false≢true under)
 
     same_or_begun : (u : ℕ) → (stage_at s.log u ≡ stage_at z.log u) ⊎ (is_begun (stage_at s.log u) ≡ true)
     same_or_begun u = elim (was.stages u) [ inl same ↦ inl same | inr p ↦ inr (ap is_begun p.has_begun) ]

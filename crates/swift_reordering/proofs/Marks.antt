@@ -28,25 +28,7 @@ record NextIs (op : Operation → Bool) (test : Term → Bool) (x y : NextAction
 
 next_is : (op : Operation → Bool) (test : Term → Bool) (at : ℕ → Code) (act : Act) (next other : ℕ) → NextIs op test (first_by at act next other) (first_by (λ k. code.end) act next other) at next other
 next_is op test at acts.End next other = record { own = refl; stops = refl; marks = λ n o. refl; rest = refl; held = refl; failed = refl }
-next_is op test at (acts.Test e) next other = record { own = refl; stops = refl; marks = λ n o. refl; rest = refl; held = refl; failed = refl }
-next_is op test at (acts.SetVariable x e) next other = record { own = refl; stops = refl; marks = λ n o. refl; rest = refl; held = refl; failed = refl }
-next_is op test at (acts.SetField p e) next other = record { own = refl; stops = refl; marks = λ n o. refl; rest = refl; held = refl; failed = refl }
-next_is op test at (acts.Return e) next other = record { own = refl; stops = refl; marks = λ n o. refl; rest = refl; held = refl; failed = refl }
-next_is op test at (acts.Throw e) next other = record { own = refl; stops = refl; marks = λ n o. refl; rest = refl; held = refl; failed = refl }
-next_is op test at acts.Check next other = record { own = refl; stops = refl; marks = λ n o. refl; rest = refl; held = refl; failed = refl }
-next_is op test at acts.Yield next other = record { own = refl; stops = refl; marks = λ n o. refl; rest = refl; held = refl; failed = refl }
-next_is op test at (acts.Wait w) next other = record { own = refl; stops = refl; marks = λ n o. refl; rest = refl; held = refl; failed = refl }
-next_is op test at (acts.Receive place e) next other = record { own = refl; stops = refl; marks = λ n o. refl; rest = refl; held = refl; failed = refl }
-next_is op test at (acts.Spawn c p h) next other = record { own = refl; stops = refl; marks = λ n o. refl; rest = refl; held = refl; failed = refl }
-next_is op test at (acts.Detach c p h) next other = record { own = refl; stops = refl; marks = λ n o. refl; rest = refl; held = refl; failed = refl }
-next_is op test at (acts.Add g unless c p) next other = record { own = refl; stops = refl; marks = λ n o. refl; rest = refl; held = refl; failed = refl }
-next_is op test at (acts.Cancel c) next other = record { own = refl; stops = refl; marks = λ n o. refl; rest = refl; held = refl; failed = refl }
-next_is op test at (acts.Open h) next other = record { own = refl; stops = refl; marks = λ n o. refl; rest = refl; held = refl; failed = refl }
-next_is op test at acts.Close next other = record { own = refl; stops = refl; marks = λ n o. refl; rest = refl; held = refl; failed = refl }
-next_is op test at (acts.Bind l e) next other = record { own = refl; stops = refl; marks = λ n o. refl; rest = refl; held = refl; failed = refl }
-next_is op test at acts.Unbind next other = record { own = refl; stops = refl; marks = λ n o. refl; rest = refl; held = refl; failed = refl }
-next_is op test at acts.Assume next other = record { own = refl; stops = refl; marks = λ n o. refl; rest = refl; held = refl; failed = refl }
-next_is op test at acts.Isolated next other = record { own = refl; stops = refl; marks = λ n o. refl; rest = refl; held = refl; failed = refl }
+next_is op test at _ next other = record { own = refl; stops = refl; marks = λ n o. refl; rest = refl; held = refl; failed = refl }
 
 or_else : (x y : Bool) → (x || y) ≡ true → (x ≡ true) ⊎ (y ≡ true)
 or_else true y is = inl refl

@@ -47,8 +47,7 @@ module _ (root : ℕ) where
 
   cancel_goes : (handles : List ℕ) (c : Cancelled) → cancelled_spares root c ≡ true → EffectSpares root (Turn.cancel_of handles c)
   cancel_goes handles (subject.Root r) is = is
-  cancel_goes handles (subject.Task h) is = refl
-  cancel_goes handles (subject.Group h) is = refl
+  cancel_goes handles _ is = refl
 
   -- joined statements
 
@@ -75,8 +74,7 @@ module _ (root : ℕ) where
     wait_goes : (w : Wanted) (rest : Code) (s : TurnStateView) → wanted_spares root w ≡ true → AllByRecursion (EffectSpares root) s.effects → GoesOn (wait_for g w rest s)
     wait_goes (code.call c) rest s is none = invocation_goes c (evs c.args (scene g s)) s _ none (λ i. (none, refl))
     wait_goes (code.root r) rest s is none = (none, is)
-    wait_goes (code.task h) rest s is none = (none, refl)
-    wait_goes (code.next h) rest s is none = (none, refl)
+    wait_goes _ rest s is none = (none, refl)
 
     check_goes : (b : Bool) (rest : Code) (s : TurnStateView) (f : Fault) → code_spares root rest ≡ true → AllByRecursion (EffectSpares root) s.effects → GoesOn (if b then leaves s (failing f) else goes (record s { todo = rest }))
     check_goes true rest s f more none = (none, refl)
@@ -134,9 +132,8 @@ module _ (root : ℕ) where
     settled_none c s is names = names
 
     limit_none : (here : NextAction) (s : TurnStateView) → FirstSpares here → AllByRecursion (EffectSpares root) s.effects → GoesOn (at_limit here s)
-    limit_none ends s is none = (none, refl)
     limit_none (does code.close_group rest) s is none = close_goes s.groups rest s is.1 none
-    limit_none here s is none = (none, refl)
+    limit_none _ s is none = (none, refl)
 
     end_none : (x : AfterStatement) → GoesOn x → PlaySpares root (end_of x)
     end_none (goes s) names = record { effects = names.1; exit = refl }
@@ -190,12 +187,7 @@ module _ (root : ℕ) where
 
     exits_none : (s : TurnStateView) (e : ExitView) → AllByRecursion (EffectSpares root) s.effects → exit_spares root e ≡ true → PlaySpares root (exits s e)
     exits_none s (failing f) none is = left_none f s.groups s none
-    exits_none s (calling i) none is = record { effects = none; exit = is }
-    exits_none s (waiting name) none is = record { effects = none; exit = is }
-    exits_none s (asking_next x) none is = record { effects = none; exit = is }
-    exits_none s (closing x f) none is = record { effects = none; exit = is }
-    exits_none s yielding none is = record { effects = none; exit = is }
-    exits_none s (returning v) none is = record { effects = none; exit = is }
+    exits_none s _ none is = record { effects = none; exit = is }
 
     kept_none : (invariants : List Term) (before : TurnStateView) (after : Played) (undone good : Bool) → undoes after.exit ≡ undone → all_hold invariants after.state.fields ≡ good
         → AllByRecursion (EffectSpares root) before.effects → PlaySpares root after → PlaySpares root (kept_of invariants before after)

@@ -109,13 +109,9 @@ no_link true = refl
 no_link false = refl
 
 under_blurred : (s : Option JobStage) → is_under_way s ≡ true → blurred_stage s ≡ Some Given
-under_blurred None under = absurd (cc under)
 under_blurred (Some (Begun env)) under = refl
 under_blurred (Some Given) under = refl
-under_blurred (Some Applied) under = absurd (cc under)
-under_blurred (Some (Waits t)) under = absurd (cc under)
-under_blurred (Some (Asks g)) under = absurd (cc under)
-under_blurred (Some (Closes g)) under = absurd (cc under)
+under_blurred _ under = absurd (cc under)
 
 life_begun : (l : Life) (t n : ℕ) (env : Env) → is_under_way l.stage ≡ true → blurred_life (lived l (Begin (task t) n env)) ≡ blurred_life l
 life_begun l t n env under = ap (λ (s : Option JobStage). record l { stage = s }) (sym (under_blurred l.stage under))

@@ -40,10 +40,7 @@ written_job roots t u first log (End v ending) ne w same = job_other first u log
 written_job roots t u first log (Wait v awaited) ne w same = job_other first u log (Wait v awaited) (λ is. ne (sym w ∙ is)) same
 written_job roots t u first log (Next o g) ne w same = job_other first u log (Next o g) (λ is. ne (sym w ∙ is)) same
 written_job roots t u first log (Close o g) ne w same = job_other first u log (Close o g) (λ is. ne (sym w ∙ is)) same
-written_job roots t u first log (Root v p) ne w same = absurd w
-written_job roots t u first log (Begin v n env) ne w same = absurd w
-written_job roots t u first log (Apply v n) ne w same = absurd w
-written_job roots t u first log (Give v n resume) ne w same = absurd w
+written_job roots t u first log _ ne w same = absurd w
 
 abbrev pub IsNotOf : ℕ → JobFacts → Type 0
 IsNotOf u j = j.task ≢ u

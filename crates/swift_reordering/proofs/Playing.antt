@@ -16,10 +16,6 @@ module _ (cancelled : Bool) (variables : List ℤ) (fields : List (List ℤ)) (b
   here e = record { variables = variables; fields = fields; bindings = bindings; env = e }
 
   same_value : (t : Term) → term_looks_away cancelled t ≡ true → ev t (here env) ≡ ev t (here other)
-  same_value (code.number n) away = refl
-  same_value (code.variable x) away = refl
-  same_value (code.field p) away = refl
-  same_value (code.local l d) away = refl
   same_value code.priority away = absurd (cc away)
   same_value code.cancelled away = ap (λ (b : Bool). Some (flag b)) (told away)
   same_value (code.opposite t) away = ap (λ (o : Option ℤ). and_then o (λ x. within (neg_ℤ x))) (same_value t away)
@@ -27,6 +23,7 @@ module _ (cancelled : Bool) (variables : List ℤ) (fields : List (List ℤ)) (b
   same_value (code.binary op a b) away =
       let parts = both (term_looks_away cancelled a) (term_looks_away cancelled b) away in
       ap₂ (λ (o u : Option ℤ). and_then o (λ x. joined op x u)) (same_value a parts.0) (same_value b parts.1)
+  same_value _ away = refl
 
   same_values : (ts : List Term) → terms_look_away cancelled ts ≡ true → evs ts (here env) ≡ evs ts (here other)
   same_values [] away = refl
@@ -93,8 +90,7 @@ module _ (cancelled : Bool) where
 
   cancel_none : (handles : List ℕ) (c : Cancelled) → TakesNone (Turn.cancel_of handles c)
   cancel_none handles (subject.Root r) = refl
-  cancel_none handles (subject.Task h) = refl
-  cancel_none handles (subject.Group h) = refl
+  cancel_none handles _ = refl
 
   module _ (outer : List (ℕ × ℤ)) (env other : Env) (told : cancelled ≡ true → env.cancelled ≡ other.cancelled) where
     abbrev input : Env → TurnInputView
@@ -108,9 +104,7 @@ module _ (cancelled : Bool) where
 
     wait_same : (w : Wanted) (rest : Code) (s : TurnStateView) → wanted_looks_away cancelled w ≡ true → AllByRecursion TakesNone s.effects → SameNext (wait_for (input env) w rest s) (wait_for (input other) w rest s)
     wait_same (code.call c) rest s away none = invocation_same c _ _ s _ (values_of c.args s away) none (λ i. none)
-    wait_same (code.root r) rest s away none = same_left _ _ none
-    wait_same (code.task h) rest s away none = same_left _ _ none
-    wait_same (code.next h) rest s away none = same_left _ _ none
+    wait_same _ rest s away none = same_left _ _ none
 
     perform_same : (d : Operation) (rest : Code) (s : TurnStateView) → operation_looks_away cancelled d ≡ true → (ends_turn d || code_looks_away cancelled rest) ≡ true → AllByRecursion TakesNone s.effects → SameNext (perform (input env) d rest s) (perform (input other) d rest s)
     perform_same (code.set_variable x t) rest s away more none = value_same _ _ s _ (value_of t s away) none (λ v. given_away (Some (Variable x)) rest s v more none)

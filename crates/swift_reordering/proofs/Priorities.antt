@@ -33,8 +33,7 @@ joins _ a b = ⊥
 leads_here : (l : Link) (ls : List Link) (a b : TaskId) → joins l a b → Leads (l ∷ ls) a b
 leads_here (Child t parent p) ls a b is = inl (p, cons_here _ ls _ (ap₂ (λ (x y : TaskId). Child x y p) is.1 is.0))
 leads_here (Wait u t) ls a b is = inr (cons_here _ ls _ (ap₂ (λ (x y : TaskId). Wait x y) is.0 is.1))
-leads_here (Root t p) ls a b is = absurd is
-leads_here (Free t p) ls a b is = absurd is
+leads_here _ ls a b is = absurd is
 
 leads_more : (l : Link) (ls : List Link) (a b : TaskId) → Leads ls a b → Leads (l ∷ ls) a b
 leads_more l ls a b (inl c) = inl (c.0, cons_more l ls _ c.1)
@@ -95,14 +94,12 @@ both false b is = absurd (false≢true is)
 by_parts : (l : Link) (f : TaskId → TaskId → Bool) (a b : TaskId) → reaches_by l f a b ≡ true → (x : TaskId) × (y : TaskId) × joins l x y × (f a x ≡ true) × (f y b ≡ true)
 by_parts (Child t parent p) f a b is = (let h = both (f a parent) (f t b) is in (parent, t, (refl, refl), h.0, h.1))
 by_parts (Wait u t) f a b is = (let h = both (f a u) (f t b) is in (u, t, (refl, refl), h.0, h.1))
-by_parts (Root t p) f a b is = absurd (false≢true is)
-by_parts (Free t p) f a b is = absurd (false≢true is)
+by_parts _ f a b is = absurd (false≢true is)
 
 by_joined : (l : Link) (f : TaskId → TaskId → Bool) (a b x y : TaskId) → joins l x y → f a x ≡ true → f y b ≡ true → reaches_by l f a b ≡ true
-by_joined (Child t parent p) f a b x y is one two = and_both _ _ (ap (f a) is.0 ∙ one) (ap (λ (z : TaskId). f z b) is.1 ∙ two)
-by_joined (Wait u t) f a b x y is one two = and_both _ _ (ap (f a) is.0 ∙ one) (ap (λ (z : TaskId). f z b) is.1 ∙ two)
 by_joined (Root t p) f a b x y is one two = absurd is
 by_joined (Free t p) f a b x y is one two = absurd is
+by_joined _ f a b x y is one two = and_both _ _ (ap (f a) is.0 ∙ one) (ap (λ (z : TaskId). f z b) is.1 ∙ two)
 
 sound : (ls : List Link) (a b : TaskId) → reaches ls a b ≡ true → CanReach ls a b
 sound [] a b is = (0, ap (λ (n : ℕ). record { 0 = n }) (eqb-true a.0 b.0 is))
@@ -134,10 +131,9 @@ reaches_step (l ∷ ls) a m b is leads = elim (leads_cases l ls m b leads) [
   ]
 ] where
   joins_one : (l : Link) (a b x y : TaskId) → joins l a b → joins l x y → a ≡ x
-  joins_one (Child t parent p) a b x y one two = sym one.0 ∙ two.0
-  joins_one (Wait u t) a b x y one two = sym one.0 ∙ two.0
   joins_one (Root t p) a b x y one two = absurd one
   joins_one (Free t p) a b x y one two = absurd one
+  joins_one _ a b x y one two = sym one.0 ∙ two.0
 
 complete : (ls : List Link) (n : ℕ) (a b : TaskId) → Reaches ls n a b → reaches ls a b ≡ true
 complete ls zero a b r = subst (λ (x : TaskId). reaches ls a x ≡ true) r (reaches_itself ls a)
@@ -175,10 +171,8 @@ gives_some (Child t parent p) = inl (t, p, (refl, refl))
 gives_some (Wait u t) = inr (λ s q is. is)
 
 gives_one : (l : Link) (s u : TaskId) (p q : Priority) → gives_it l s p → gives_it l u q → (s ≡ u) × (p ≡ q)
-gives_one (Root t r) s u p q one two = (sym one.0 ∙ two.0, sym one.1 ∙ two.1)
-gives_one (Free t r) s u p q one two = (sym one.0 ∙ two.0, sym one.1 ∙ two.1)
-gives_one (Child t parent r) s u p q one two = (sym one.0 ∙ two.0, sym one.1 ∙ two.1)
 gives_one (Wait v t) s u p q one two = absurd one
+gives_one _ s u p q one two = (sym one.0 ∙ two.0, sym one.1 ∙ two.1)
 
 module _ (all : List Link) (t : TaskId) where
   -- the greatest among these links, and that there is none

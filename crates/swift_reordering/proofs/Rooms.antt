@@ -97,13 +97,8 @@ few_in_all (suc seats) w seat small one low n =
 -- in a history
 
 begun_if : (s : Option JobStage) → 0 < room_in s → (env : Env) × (s ≡ Some (Begun env))
-begun_if None some = absurd (omega (arith, some))
 begun_if (Some (Begun env)) some = (env, refl)
-begun_if (Some Given) some = absurd (omega (arith, some))
-begun_if (Some Applied) some = absurd (omega (arith, some))
-begun_if (Some (Waits t)) some = absurd (omega (arith, some))
-begun_if (Some (Asks g)) some = absurd (omega (arith, some))
-begun_if (Some (Closes g)) some = absurd (omega (arith, some))
+begun_if _ some = absurd (omega (arith, some))
 
 -- each task whose turn has begun has a job
 abbrev HaveJobs : Standing → Type 0

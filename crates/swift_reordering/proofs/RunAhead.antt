@@ -75,9 +75,7 @@ module _ (script : ScriptView) (cps : List CheckpointView) where
 
   pub like_itself : (c : Block) → IsLike script c c
   like_itself (ran e r) = (r.frame, refl, refl)
-  like_itself (added r) = refl
-  like_itself (begun t n env) = refl
-  like_itself (folded e f) = refl
+  like_itself _ = refl
 
   one_on : (c d x : Block) → IsLike script c d → IsLike script d x → IsLike script c x
   one_on (ran e r) d x one two =
@@ -90,10 +88,9 @@ module _ (script : ScriptView) (cps : List CheckpointView) where
   pub like_on : (bs cs ds : List Block) → AreLike script bs cs → AreLike script cs ds → AreLike script bs ds
   like_on [] [] [] one two = tt
   like_on (b ∷ bs) (c ∷ cs) (d ∷ ds) one two = (one_on b c d one.0 two.0, like_on bs cs ds one.1 two.1)
-  like_on [] [] (d ∷ ds) one two = absurd two
   like_on [] (c ∷ cs) ds one two = absurd one
   like_on (b ∷ bs) [] ds one two = absurd one
-  like_on (b ∷ bs) (c ∷ cs) [] one two = absurd two
+  like_on _ _ _ one two = absurd two
 
   -- what goes on after the one goes on after the other
   pub record Carried (h k more : List Block) : Type 0 where
@@ -201,10 +198,9 @@ module _ (script : ScriptView) (cps : List CheckpointView) where
   pub ends_on : (xs ys zs : List OneTurn) → AllEndAs xs ys → AllEndAs ys zs → AllEndAs xs zs
   ends_on [] [] [] one two = tt
   ends_on (x ∷ xs) (y ∷ ys) (z ∷ zs) one two = (record { task_is = two.0.task_is ∙ one.0.task_is; executor_is = two.0.executor_is ∙ one.0.executor_is; exit_is = two.0.exit_is ∙ one.0.exit_is }, ends_on xs ys zs one.1 two.1)
-  ends_on [] [] (z ∷ zs) one two = absurd two
   ends_on [] (y ∷ ys) zs one two = absurd one
   ends_on (x ∷ xs) [] zs one two = absurd one
-  ends_on (x ∷ xs) (y ∷ ys) [] one two = absurd two
+  ends_on _ _ _ one two = absurd two
 
   -- a block of another task than these turns
 
@@ -215,8 +211,7 @@ module _ (script : ScriptView) (cps : List CheckpointView) where
   other_ends : (xs ys : List OneTurn) (b : Block) → AllEndAs xs ys → AllOther xs b → AllOther ys b
   other_ends [] [] b ends other = tt
   other_ends (x ∷ xs) (y ∷ ys) b ends other = (subst (λ (t : ℕ). IsOfOther t b) (sym ends.0.task_is) other.0, other_ends xs ys b ends.1 other.1)
-  other_ends [] (y ∷ ys) b ends other = absurd ends
-  other_ends (x ∷ xs) [] b ends other = absurd ends
+  other_ends _ _ b ends other = absurd ends
 
   module _ (hold : (e : ℕ) → all_hold (executor_invariants script e) (checkpoint_at cps e).fields ≡ true) where
     -- It stands after them too, in order; and they run after it.
@@ -376,8 +371,7 @@ module _ (script : ScriptView) (cps : List CheckpointView) (hold : (e : ℕ) →
     pub tried_ends : (xs ys : List OneTurn) → AllEndAs script cps xs ys → AllTried xs → AllTried ys
     tried_ends [] [] ends all = tt
     tried_ends (x ∷ xs) (y ∷ ys) ends all = (subst₂ Tried (sym ends.0.executor_is) (sym ends.0.exit_is) all.0, tried_ends xs ys ends.1 all.1)
-    tried_ends [] (y ∷ ys) ends all = absurd ends
-    tried_ends (x ∷ xs) [] ends all = absurd ends
+    tried_ends _ _ ends all = absurd ends
 
     pub tried_more : (xs ys : List OneTurn) → AllTried xs → AllTried ys → AllTried (xs ++ ys)
     tried_more [] ys all more = more

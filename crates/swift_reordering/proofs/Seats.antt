@@ -10,21 +10,14 @@ HasBegun log u = is_begun (stage_at log u) ≡ true
 -- what no begin says of a task leaves it begun only where it says nothing
 
 quiet_stage : (e : Event) (b : Bool) (s : Option JobStage) → begins e ≡ false → is_begun (later (if b then stage_in e else None) s) ≡ true → later (if b then stage_in e else None) s ≡ s
-quiet_stage e false s quiet is = refl
 quiet_stage (Begin t n env) true s quiet is = absurd (cc quiet)
 quiet_stage (Apply t n) true s quiet is = absurd (cc is)
 quiet_stage (Give t n resume) true s quiet is = absurd (cc is)
 quiet_stage (Wait t awaited) true s quiet is = absurd (cc is)
 quiet_stage (Next o g) true s quiet is = absurd (cc is)
 quiet_stage (Close o g) true s quiet is = absurd (cc is)
-quiet_stage (Root t p) true s quiet is = refl
-quiet_stage (Free t by p detached) true s quiet is = refl
-quiet_stage (Open o g) true s quiet is = refl
-quiet_stage (Child t o g p) true s quiet is = refl
-quiet_stage (Skip o g) true s quiet is = refl
-quiet_stage (CancelTask t) true s quiet is = refl
-quiet_stage (CancelGroup o g) true s quiet is = refl
-quiet_stage (End t ending) true s quiet is = refl
+quiet_stage e false s quiet is = refl
+quiet_stage _ _ s quiet is = refl
 
 -- a task that has begun in the end had begun before, and is at the same stage
 abbrev pub OnlyStays : List Event → ℕ → List Event → Type 0

@@ -51,12 +51,7 @@ TakesNone e = takes_own e ≡ false
 
 own_effect : (roots t : ℕ) (own other : Priority) (log : List Event) (e : EffectView) → TakesNone e → effect_events roots t own log e ≡ effect_events roots t other log e
 own_effect roots t own other log (spawning i None bindings) none = absurd (cc none)
-own_effect roots t own other log (spawning i (Some p) bindings) none = refl
-own_effect roots t own other log (detaching i p) none = refl
-own_effect roots t own other log opening none = refl
-own_effect roots t own other log (adding g unless i p bindings) none = refl
-own_effect roots t own other log (cancelling_task name) none = refl
-own_effect roots t own other log (cancelling_group g) none = refl
+own_effect roots t own other log _ none = refl
 
 own_after : (roots t : ℕ) (own other : Priority) (es : List EffectView) (log : List Event) → AllByRecursion TakesNone es → log_after roots t own log es ≡ log_after roots t other log es
 own_after roots t own other [] log all = refl
@@ -110,11 +105,7 @@ pub record TurnShown (hides : ℕ → Bool) (roots t n : ℕ) (own : Priority) (
 module _ (hides : ℕ → Bool) (none : (u : ℕ) → hides u ≡ false) where
   effect_none : (t : ℕ) (log : List Event) (e : EffectView) → EffectShown hides t log e
   effect_none t log (cancelling_task name) = none (named_task t name log).0
-  effect_none t log (spawning i p bindings) = tt
-  effect_none t log (detaching i p) = tt
-  effect_none t log opening = tt
-  effect_none t log (adding g unless i p bindings) = tt
-  effect_none t log (cancelling_group g) = tt
+  effect_none t log _ = tt
 
   effects_none : (roots t : ℕ) (own : Priority) (es : List EffectView) (log : List Event) → EffectsShown hides roots t own es log
   effects_none roots t own [] log = tt
@@ -122,12 +113,7 @@ module _ (hides : ℕ → Bool) (none : (u : ℕ) → hides u ≡ false) where
 
   exit_none : (t : ℕ) (log : List Event) (exit : ExitView) → ExitShown hides t log exit
   exit_none t log (waiting name) = none (named_task t name log).0
-  exit_none t log (calling i) = tt
-  exit_none t log (asking_next g) = tt
-  exit_none t log (closing g f) = tt
-  exit_none t log yielding = tt
-  exit_none t log (returning v) = tt
-  exit_none t log (failing f) = tt
+  exit_none t log _ = tt
 
   children_none : (us : List TaskId) → AllByRecursion (IsShown hides) us
   children_none [] = tt
@@ -167,11 +153,9 @@ module _ (sees : ℕ → Life → Life) (sight : IsSight sees) where
     same_job : (script : ScriptView) (t : ℕ) (e : EffectView) → effect_jobs script t a e ≡ effect_jobs script t b e
     same_job script t (spawning i p bindings) = ap (λ (n : ℕ). first_job script n i.method i.args bindings ∷ []) (seen_tasks sees sight a b same (root_count script))
     same_job script t (detaching i p) = ap (λ (n : ℕ). first_job script n i.method i.args [] ∷ []) (seen_tasks sees sight a b same (root_count script))
-    same_job script t opening = refl
     same_job script t (adding g unless i p bindings) =
         ap₂ (λ (x : Bool) (n : ℕ). if x then [] else first_job script n i.method i.args bindings ∷ []) (same_left_out t g unless) (seen_tasks sees sight a b same (root_count script))
-    same_job script t (cancelling_task name) = refl
-    same_job script t (cancelling_group g) = refl
+    same_job script t _ = refl
 
     -- exits
 
@@ -180,11 +164,7 @@ module _ (sees : ℕ → Life → Life) (sight : IsSight sees) where
         ap (λ (o : Option Ending). wait_events t (named_task t name a) o) (seen_ending sees sight a b same (named_task t name a).0 shown)
         ∙ ap (λ (u : TaskId). wait_events t u (life_of u.0 b).ending) (same_named t name)
     same_exit t (asking_next g) step shown new_a new_b = ap (next_events t g) (seen_next sees sight a b same t g new_a new_b)
-    same_exit t (closing g f) step shown new_a new_b = refl
-    same_exit t (calling i) step shown new_a new_b = refl
-    same_exit t yielding step shown new_a new_b = refl
-    same_exit t (returning v) step shown new_a new_b = refl
-    same_exit t (failing f) step shown new_a new_b = refl
+    same_exit t _ step shown new_a new_b = refl
 
     same_resume : (t : ℕ) (exit : ExitView) (step : Step) → ExitShown sight.hides t a exit → ChildrenShown sight.hides a → AreInPlace (a ++ exit_events t a exit step) → AreInPlace (b ++ exit_events t b exit step) → exit_resume t a exit step ≡ exit_resume t b exit step
     same_resume t (waiting name) step shown children new_a new_b =
@@ -192,21 +172,13 @@ module _ (sees : ℕ → Life → Life) (sight : IsSight sees) where
         ∙ ap (λ (u : TaskId). wait_resume (life_of u.0 b).ending) (same_named t name)
     same_resume t (asking_next g) step shown children new_a new_b = ap next_resume (seen_next sees sight a b same t g new_a new_b)
     same_resume t (closing g f) step shown children new_a new_b = ap close_resume (seen_close sees sight a b same t g children)
-    same_resume t (calling i) step shown children new_a new_b = refl
-    same_resume t yielding step shown children new_a new_b = refl
-    same_resume t (returning v) step shown children new_a new_b = refl
-    same_resume t (failing f) step shown children new_a new_b = refl
+    same_resume t _ step shown children new_a new_b = refl
 
     -- what follows
 
     same_owner : (o g : ℕ) (e : Ending) (s : Option JobStage) (f : AfterTurn) → ChildrenShown sight.hides a → wake_owner o g e s a f ≡ wake_owner o g e s b f
     same_owner o g e (Some (Closes closed)) f children = ap (λ (x : Closing). if closed == g then wake_closing o x f else f) (seen_close sees sight a b same o g children)
-    same_owner o g e (Some (Asks asked)) f children = refl
-    same_owner o g e (Some (Waits u)) f children = refl
-    same_owner o g e (Some Given) f children = refl
-    same_owner o g e (Some Applied) f children = refl
-    same_owner o g e (Some (Begun env)) f children = refl
-    same_owner o g e None f children = refl
+    same_owner o g e _ f children = refl
 
     same_wake : (p : Option (ℕ × ℕ)) (e : Ending) (f : AfterTurn) → ChildrenShown sight.hides a → wake_parent p e a f ≡ wake_parent p e b f
     same_wake None e f children = refl
@@ -220,10 +192,8 @@ module _ (sees : ℕ → Life → Life) (sight : IsSight sees) where
         ∙ same_wake (parent_of t b) e (wake_each (waiters_of t b) (resume_of e) f) children
 
     same_followed : (t n : ℕ) (frames : TaskView) (r : Option Resume) (step : Step) (f : AfterTurn) → ChildrenShown sight.hides a → followed t n frames r step a f ≡ followed t n frames r step b f
-    same_followed t n frames (Some resume) step f children = refl
     same_followed t n frames None (Ended e) f children = same_all t e f children
-    same_followed t n frames None (Run actor resume) f children = refl
-    same_followed t n frames None Await f children = refl
+    same_followed t n frames _ _ f children = refl
 
   -- effects, in order
 

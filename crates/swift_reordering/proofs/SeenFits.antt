@@ -14,21 +14,16 @@ module _ (sees : ℕ → Life → Life) (sight : IsSight sees) (a b : List Event
   seen_can_use c g = ap (λ (x : Bool). nat_lt g c.opened && not x) (seen_closed sees sight a b same t g)
 
   seen_fit : (c : Counters) (e : EffectView) → fits_effect script t a c e ≡ fits_effect script t b c e
-  seen_fit c (spawning i p bindings) = refl
-  seen_fit c (detaching i p) = refl
-  seen_fit c opening = refl
   seen_fit c (adding g unless i p bindings) = ap (λ (x : Bool). nat_lt 0 c.room && (x && can_run script i)) (seen_can_use c g)
   seen_fit c (cancelling_task name) = seen_can_name c name
   seen_fit c (cancelling_group g) = seen_can_use c g
+  seen_fit c _ = refl
 
   seen_fit_exit : (c : Counters) (exit : ExitView) → fits_exit script t a c exit ≡ fits_exit script t b c exit
-  seen_fit_exit c (calling i) = refl
   seen_fit_exit c (waiting name) = seen_can_name c name
   seen_fit_exit c (asking_next g) = seen_can_use c g
   seen_fit_exit c (closing g f) = seen_can_use c g
-  seen_fit_exit c yielding = refl
-  seen_fit_exit c (returning v) = refl
-  seen_fit_exit c (failing f) = refl
+  seen_fit_exit c _ = refl
 
   pub seen_fits : (es : List EffectView) (c : Counters) (exit : ExitView) → fits_turn script t a c es exit ≡ fits_turn script t b c es exit
   seen_fits [] c exit = seen_fit_exit c exit

@@ -13,15 +13,13 @@ module _ (variables : List ℤ) (bindings : List (ℕ × ℤ)) (f g : List (List
   here fields e = record { variables = variables; fields = fields; bindings = bindings; env = e }
 
   own_value : (t : Term) → term_is_own t ≡ true → ev t (here f env) ≡ ev t (here g other)
-  own_value (code.number n) own = refl
-  own_value (code.variable x) own = refl
   own_value (code.field p) own = absurd (false≢true own)
-  own_value (code.local l d) own = refl
   own_value code.priority own = absurd (false≢true own)
   own_value code.cancelled own = absurd (false≢true own)
   own_value (code.opposite t) own = ap (λ (o : Option ℤ). and_then o (λ x. within (neg_ℤ x))) (own_value t own)
   own_value (code.denial t) own = ap (λ (o : Option ℤ). and_then o (λ x. Some (flag (is_zero x)))) (own_value t own)
   own_value (code.binary op a b) own = (let parts = both (term_is_own a) (term_is_own b) own in ap₂ (λ (o u : Option ℤ). and_then o (λ x. joined op x u)) (own_value a parts.0) (own_value b parts.1))
+  own_value _ own = refl
 
   own_values : (ts : List Term) → terms_are_own ts ≡ true → evs ts (here f env) ≡ evs ts (here g other)
   own_values [] own = refl
@@ -94,30 +92,22 @@ module _ (outer : List (ℕ × ℤ)) (env other : Env) (f g : List (List ℤ)) (
 
   wait_same : (w : Wanted) (rest : Code) (s : TurnStateView) → wanted_is_own w ≡ true → s.effects ≡ [] → SameNext (wait_for (input env) w rest (on_fields f m s)) (wait_for (input other) w rest (on_fields g k s))
   wait_same (code.call c) rest s own none = invocation_same c _ _ s _ _ (values_of c.args s own) none (λ i. left_same (record s { todo = rest }) _ none)
-  wait_same (code.root r) rest s own none = left_same (record s { todo = rest }) _ none
-  wait_same (code.task h) rest s own none = left_same (record s { todo = rest }) _ none
-  wait_same (code.next h) rest s own none = left_same (record s { todo = rest }) _ none
+  wait_same _ rest s own none = left_same (record s { todo = rest }) _ none
 
   perform_same : (d : Operation) (rest : Code) (s : TurnStateView) → operation_is_silent d ≡ true → (ends_turn d || code_is_silent rest true) ≡ true → s.effects ≡ []
       → SameNext (perform (input env) d rest (on_fields f m s)) (perform (input other) d rest (on_fields g k s))
   perform_same (code.set_variable x t) rest s own more none = value_same _ _ s _ _ (value_of t s own) none (λ v. given_same (Some (Variable x)) rest s v refl more none)
-  perform_same (code.set_field p t) rest s own more none = absurd (false≢true own)
   perform_same (code.return t) rest s own more none = value_same _ _ s _ _ (value_of t s own) none (λ v. left_same s _ none)
   perform_same (code.throw t) rest s own more none = value_same _ _ s _ _ (value_of t s own) none (λ v. left_same s _ none)
-  perform_same code.check rest s own more none = absurd (false≢true own)
   perform_same code.yield rest s own more none = left_same (record s { todo = rest }) _ none
   perform_same (code.wait w) rest s own more none = wait_same w rest s own none
   perform_same (code.receive place o) rest s own more none = given_same place rest s (pos 0) (both (place_is_own place) _ own).0 more none
-  perform_same (code.spawn c p h) rest s own more none = absurd (false≢true own)
-  perform_same (code.detach c p h) rest s own more none = absurd (false≢true own)
-  perform_same (code.add h unless c p) rest s own more none = absurd (false≢true own)
-  perform_same (code.cancel c) rest s own more none = absurd (false≢true own)
-  perform_same (code.open_group h) rest s own more none = absurd (false≢true own)
   perform_same code.close_group rest s own more none = close_same s.groups rest s more none
   perform_same (code.bind l t) rest s own more none = value_same _ _ s _ _ (value_of t s own) none (λ v. goes_same (record s { todo = rest; own = (l, v) ∷ s.own }) more none)
   perform_same code.unbind rest s own more none = goes_same (record s { todo = rest; own = Turn.tail s.own }) more none
   perform_same code.assume rest s own more none = goes_same (record s { todo = rest }) more none
   perform_same code.isolated rest s own more none = left_same s _ none
+  perform_same _ rest s own more none = absurd (false≢true own)
 
   if_silent : (b : Bool) (x y : Code) → IsSilent x → IsSilent y → IsSilent (if b then x else y)
   if_silent true x y one two = one
@@ -154,9 +144,8 @@ module _ (outer : List (ℕ × ℤ)) (env other : Env) (f g : List (List ℤ)) (
     by_what (leaves s e) one two silent = record { state = s; exit = e; one = ap end_of one; two = ap end_of two; none = silent }
 
   limit_same : (here : NextAction) (s : TurnStateView) → FirstIsSilent here → s.effects ≡ [] → SameNext (at_limit here (on_fields f m s)) (at_limit here (on_fields g k s))
-  limit_same ends s is none = left_same s _ none
   limit_same (does code.close_group rest) s is none = close_same s.groups rest s is.1 none
-  limit_same here s is none = left_same s _ none
+  limit_same _ s is none = left_same s _ none
 
   on_same : (x y : AfterStatement) (go went : TurnStateView → Played) → SameNext x y → ((s : TurnStateView) → IsSilent s.todo → s.effects ≡ [] → SamePlay (go (on_fields f m s)) (went (on_fields g k s))) → SamePlay (on x go) (on y went)
   on_same x y go went same next = by_what same.what same.one same.two same.silent where

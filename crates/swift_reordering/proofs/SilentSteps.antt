@@ -85,9 +85,7 @@ goes_alone script p (q ∷ callers) outer (returning v) is = record { way = goes
 goes_alone script p (q ∷ callers) outer (failing f) is = record { way = goes (advanced script p (q ∷ callers) outer (failing f)).task (Raise f); over_is = refl; end_is = λ log held t n own free. plain_end log held t n _ _ }
 goes_alone script p [] outer (returning v) is = record { way = over (ending.Value v); over_is = refl; end_is = λ log held t n own free. ended_end log held t n (ending.Value v) free }
 goes_alone script p [] outer (failing f) is = record { way = over (ending.Fault f); over_is = refl; end_is = λ log held t n own free. ended_end log held t n (ending.Fault f) free }
-goes_alone script p callers outer (waiting x) is = absurd (false≢true is)
-goes_alone script p callers outer (asking_next g) is = absurd (false≢true is)
-goes_alone script p callers outer (closing g f) is = absurd (false≢true is)
+goes_alone script p callers outer _ is = absurd (false≢true is)
 
 -- where one job is in place of another, or none is
 pub record AfterAlone (s z : Standing) (t n : ℕ) (env : Env) (way : WayOut) : Type 0 where

@@ -8,25 +8,7 @@ module _ (op : Operation → Bool) (test : Term → Bool) where
   -- what an instruction does is so or not, whatever its followers stand for
   same_action : (at other : ℕ → Code) (a : Act) (next last : ℕ) → action_is op test (first_by at a next last) ≡ action_is op test (first_by other a next last)
   same_action at other acts.End next last = refl
-  same_action at other (acts.Test e) next last = refl
-  same_action at other (acts.SetVariable x e) next last = refl
-  same_action at other (acts.SetField p e) next last = refl
-  same_action at other (acts.Return e) next last = refl
-  same_action at other (acts.Throw e) next last = refl
-  same_action at other acts.Check next last = refl
-  same_action at other acts.Yield next last = refl
-  same_action at other (acts.Wait w) next last = refl
-  same_action at other (acts.Receive place e) next last = refl
-  same_action at other (acts.Spawn c p h) next last = refl
-  same_action at other (acts.Detach c p h) next last = refl
-  same_action at other (acts.Add g unless c p) next last = refl
-  same_action at other (acts.Cancel c) next last = refl
-  same_action at other (acts.Open h) next last = refl
-  same_action at other acts.Close next last = refl
-  same_action at other (acts.Bind l e) next last = refl
-  same_action at other acts.Unbind next last = refl
-  same_action at other acts.Assume next last = refl
-  same_action at other acts.Isolated next last = refl
+  same_action at other _ next last = refl
 
 -- where it does something, that goes on at a number
 goes_on_at : (at : ℕ → Code) (a : Act) (next last : ℕ) (d : Operation) (rest : Code) → does d rest ≡ first_by at a next last → (k : ℕ) × (at k ≡ rest)

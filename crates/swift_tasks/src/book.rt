@@ -1,6 +1,6 @@
 //! The book.
 
-ghost use Rattle.std.specs.Prelude.{◌≡◌, ◌≢◌, ℕ, ◌+◌, ◌<◌, ◌≤◌, ◌^◌, [], ◌∷◌, ◌++◌, None, Some, true, IfOk, IfErr, IfNone, IfSome, IsTrue, replicate};
+ghost use Rattle.std.specs.Prelude.{◌≡◌, ◌≢◌, ℕ, ◌+◌, ◌<◌, ◌≤◌, ◌^◌, [], ◌∷◌, ◌++◌, None, Some, true, IfOk, IfErr, IfNone, IfSome, IsTrue, replicate, slice_index_or};
 ghost use Rattle.std.specs.Arc.{arc_value};
 ghost use Rattle.std.specs.List.{AllZip};
 ghost use Rattle.swift_script.specs.Scripts.{root_count};
@@ -150,6 +150,18 @@ impl Book {
         ensures { result ≡ (life_of task.0 self.now.log).origin }
     {
         self.ledger.life(task).origin
+    }
+
+    /// What a task that waits here goes on with: the number of its next turn, and what runs it (our own). Nothing where it does not wait. It
+    /// takes no memory.
+    pub fn waiting(&self, task: TaskId) -> Option<(u32, &Body)>
+        ensures some { IfSome result (λ w. slice_index_or self.now.held task.0 None ≡ Some (record { number = w.0; frames = w.1.now.task })) }
+        ensures none { result ≡ None → slice_index_or self.now.held task.0 None ≡ None }
+    {
+        match self.held.get(task.0 as usize) {
+            Some(Some(waiting)) => Some((waiting.number, &waiting.body)),
+            _ => None,
+        }
     }
 
     /// Whether a task has closed each group that it has opened (SE-0304); false where it has opened more than 2^32. Time linear in these

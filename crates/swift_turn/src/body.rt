@@ -1,6 +1,6 @@
 //! A task's frames, as a future.
 
-ghost use Rattle.std.specs.Prelude.{◌≡◌, ℕ, ◌+◌, ◌<◌, ◌≤◌, ◌⊎◌, ◌↔◌, ◌∷◌, true, [], IsTrue, IfOk, OnOk, IfErr, OnErr, None, Some, IsSome, length};
+ghost use Rattle.std.specs.Prelude.{◌≡◌, ℕ, ◌+◌, ◌<◌, ◌≤◌, ◌⊎◌, ◌↔◌, ◌∷◌, true, [], IsTrue, IfOk, OnOk, IfErr, OnErr, None, Some, IsSome, length, map, reverse};
 ghost use Rattle.std.specs.Arc.{arc_value};
 ghost use Rattle.futures.specs.Poll.{IfReady, OnPending};
 ghost use Rattle.futures.specs.Task.{Covers, Keeps};
@@ -450,6 +450,14 @@ impl Body {
         ensures { IfRunning self.now.task.frames (λ p. p ≡ frame_view result.now) }
     {
         &self.inside.turn.frame
+    }
+
+    /// The frames that wait for the one that runs, the outermost first: none where the task has ended. Their counts of tasks and groups
+    /// are those from when they called; each gets the counts of the frame that runs when it goes on. It takes no memory.
+    pub fn callers(&self) -> &[Frame]
+        ensures { reverse (map frame_view result.now) ≡ callers_of self.now.task.frames }
+    {
+        self.inside.callers.frames()
     }
 
     /// A copy of the frame that runs, with the bindings that it has made. It costs and takes memory for its variables,

@@ -1,6 +1,6 @@
 //! The frames below the one that runs.
 
-ghost use Rattle.std.specs.Prelude.{◌≡◌, ◌↔◌, ◌∷◌, [], IsTrue, IfOk, OnOk, IfErr, length};
+ghost use Rattle.std.specs.Prelude.{◌≡◌, ◌↔◌, ◌∷◌, [], IsTrue, IfOk, OnOk, IfErr, length, map, reverse};
 ghost use Rattle.swift_interpreter.specs.Frames.{frame_view, frame_if};
 ghost use Rattle.swift_turn.specs.StackInside.{first_of, rest_of};
 
@@ -42,6 +42,13 @@ impl Stack {
             items.push(copy_of(alloc, frame)?)?;
         }
         Ok(Stack { items })
+    }
+
+    /// The frames, the outermost first.
+    pub fn frames(&self) -> &[Frame]
+        ensures { reverse (map frame_view result.now) ≡ self.now }
+    {
+        &self.items
     }
 
     pub fn len(&self) -> usize
