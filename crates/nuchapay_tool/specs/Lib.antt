@@ -3,6 +3,7 @@ pub mod Checks
 pub mod ChecksJson
 pub mod Colours
 pub mod InputInside
+pub mod Languages
 pub mod LayoutsInside
 pub mod Marks
 pub mod Pages

@@ -53,15 +53,15 @@ mod turn_names;
 mod words;
 
 pub use checks::{Checked, check};
-pub use checks_json::check_json;
+pub use checks_json::{FileRefusal, check_json, refused_file_json};
 pub use input::read_input;
 pub use laid::pretty;
 pub use page::{Page, ScriptPair, explain};
 pub use pages::page_of;
 pub use printed::print;
 pub use requests::{
-    OutcomePair, PictureFormat, Question, Request, RunForm, SavedPlace, SavedWord, ScheduleChoice,
-    SearchFormat, Source,
+    Input, Language, OutcomePair, PictureFormat, Question, Request, RunForm, SavedPlace, SavedWord,
+    ScheduleChoice, SearchFormat, Source,
 };
 pub use topic::{RunRefusal, Topic, TurnFault, find_topic};
 pub use turn_names::{TurnName, TurnWord, turn_name, turn_word};

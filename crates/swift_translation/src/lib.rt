@@ -56,4 +56,4 @@ pub use file::{SwiftScript, Translation, translate};
 pub use laws::names_are_told_apart;
 pub use place_text::{method_line, places_text};
 pub use places::MethodPlace;
-pub use refused::refusal_text;
+pub use refused::{refusal_help, refusal_text};

@@ -34,6 +34,11 @@ pub fn refusal_text(
     Ok(parts.as_slice().concat(alloc)?.into_bytes())
 }
 
+/// What to do about a refusal: a text of printable ASCII. Linear in the text.
+pub fn refusal_help(text: &[u8], refusal: Refusal) -> &'static str {
+    help_of(text, line_at(text, refusal.from), refusal)
+}
+
 // What to do.
 fn help_of(text: &[u8], line: Line<'_>, refusal: Refusal) -> &'static str {
     if is_do(text, refusal) {
