@@ -2,7 +2,8 @@
 
 use crate::output::{say_checked, tell};
 use nuchapay_tool::{
-    Checked, FileRefusal, Input, Language, Question, Source, read_input, refused_file_json,
+    Checked, FileRefusal, Input, Language, Question, Source, read_input, refused_file,
+    refused_file_json,
 };
 use std::alloc::AllocError;
 use std::fs::File;
@@ -10,9 +11,7 @@ use std::io;
 use swift_report::write_all;
 use swift_syntax::Refusal;
 use swift_tool::ToolFault;
-use swift_translation::{
-    MethodPlace, SwiftScript, Translation, refusal_help, refusal_text, translate,
-};
+use swift_translation::{MethodPlace, SwiftScript, Translation, refusal_help, translate};
 
 /// The text of a script, and from which lines of a Swift file its methods are.
 #[derive(Drop)]
@@ -28,7 +27,7 @@ pub struct ReadScript {
 pub enum NoScript {
     /// It could not be read.
     Unread(io::Error),
-    /// It is a text of Swift, this one, that the subset does not take. The second one says why, and where.
+    /// It is this text of Swift, which the subset does not take, and this says why.
     Refused(Vec<u8>, Refusal),
     /// No memory was left for the script that a Swift file becomes.
     Memory,
@@ -86,18 +85,28 @@ pub fn say_no_script(rt: &HostRuntime, name: &str, question: &Question<'_>, why:
             let _ = eprintln!(rt; "nuchapay: {name}: {error}");
             4
         }
-        NoScript::Refused(text, refusal) => match question {
-            Question::CheckJson => say_json(rt, name, &text, refusal),
-            _ => say_text(rt, name, &text, refusal),
-        },
+        NoScript::Refused(text, refusal) => {
+            let why = FileRefusal {
+                code: refusal.rule.name(),
+                title: refusal.rule.title(),
+                help: refusal_help(&text, refusal),
+                from: refusal.from,
+                to: refusal.to,
+            };
+            match question {
+                Question::CheckJson => say_json(rt, name, &text, why),
+                Question::Check(colour) => say_refused(rt, name, &text, *colour, why),
+                _ => say_refused(rt, name, &text, false, why),
+            }
+        }
         NoScript::Memory => tell(rt, Err(ToolFault::from(AllocError))),
     }
 }
 
-// Says on standard error why a text of Swift is refused. The status to end with.
-fn say_text(rt: &HostRuntime, name: &str, text: &[u8], refusal: Refusal) -> u8 {
-    match refusal_text(rt.alloc(), name, text, refusal) {
-        Ok(said) => match write_all(&mut rt.stderr(), &said) {
+// Says on standard error why a text of Swift is refused, with colours where this says so. The status to end with.
+fn say_refused(rt: &HostRuntime, name: &str, text: &[u8], colour: bool, why: FileRefusal) -> u8 {
+    match refused_file(rt.alloc(), name, text, colour, why) {
+        Ok(said) => match write_all(&mut rt.stderr(), said.as_bytes()) {
             Ok(()) => 3,
             Err(_) => 4,
         },
@@ -106,14 +115,7 @@ fn say_text(rt: &HostRuntime, name: &str, text: &[u8], refusal: Refusal) -> u8 {
 }
 
 // Says as JSON why a text of Swift is refused, on standard output. The status to end with.
-fn say_json(rt: &HostRuntime, name: &str, text: &[u8], refusal: Refusal) -> u8 {
-    let told = FileRefusal {
-        code: refusal.rule.name(),
-        title: refusal.rule.title(),
-        help: refusal_help(text, refusal),
-        from: refusal.from,
-        to: refusal.to,
-    };
-    let said = refused_file_json(rt.alloc(), name, text, told);
+fn say_json(rt: &HostRuntime, name: &str, text: &[u8], why: FileRefusal) -> u8 {
+    let said = refused_file_json(rt.alloc(), name, text, why);
     say_checked(rt, said.map(Checked::Refused))
 }

@@ -11,7 +11,7 @@ use Rattle.swift_script.specs.Refuses.{Refuses}
 use Rattle.swift_script.specs.Scripts.{ScriptView, actor_count, method_count, root_count}
 use Rattle.swift_script.specs.declared.fault.ScriptFault.{ScriptFault}
 use Rattle.nuchapay_tool.specs.declared.advice.Second.{Second}
-use Rattle.nuchapay_tool.specs.declared.checks_json.FileRefusal.{FileRefusal}
+use Rattle.nuchapay_tool.specs.declared.files.FileRefusal.{FileRefusal}
 use Rattle.nuchapay_tool.specs.declared.mark.LineMark.{LineMark}
 use Rattle.nuchapay_tool.specs.declared.page.Page.{Page}
 use Rattle.nuchapay_tool.specs.declared.checks.Checked.{Checked}

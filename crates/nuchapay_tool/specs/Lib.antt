@@ -2,6 +2,7 @@ pub mod Advised
 pub mod Checks
 pub mod ChecksJson
 pub mod Colours
+pub mod Files
 pub mod InputInside
 pub mod Languages
 pub mod LayoutsInside

@@ -10,6 +10,7 @@ ghost use Rattle.nuchapay_tool.specs.ChecksJson.{IsRefusedFileJson, IsRefusedJso
 
 use crate::advice::{Advice, Second, advise};
 use crate::checks::{Checked, help_of};
+use crate::files::FileRefusal;
 use crate::fixes::Change;
 use crate::json_text::{escaped_name, escaped_text};
 use crate::mark::{LineMark, mark_of};
@@ -38,21 +39,6 @@ pub fn check_json(alloc: Global, file: &str, text: &[u8]) -> Result<Checked, All
         }
         Err(fault) => Ok(Checked::Refused(refused_json(alloc, file, text, fault)?)),
     }
-}
-
-/// Why a file that would have become a script is refused (our own): texts of printable ASCII.
-#[derive(Clone, Copy)]
-pub struct FileRefusal {
-    /// The number of the rule that is broken.
-    pub code: &'static str,
-    /// What is wrong, in a word, without a quote or a backslash.
-    pub title: &'static str,
-    /// What to do.
-    pub help: &'static str,
-    /// The bytes to blame, in bytes from 0: the first one,
-    pub from: usize,
-    /// and the one after the last.
-    pub to: usize,
 }
 
 /// Says that a file is refused before there is a script, as `check_json` says it of a script, as a line of JSON. `text` is what stands in

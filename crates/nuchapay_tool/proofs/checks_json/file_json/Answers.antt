@@ -8,4 +8,4 @@ map_ok (Err e) P Q f is = tt
 
 pub returns : goal.returns
 returns c = map_ok c.concat.result _ _ (λ said is.
-  is ∙ (rw (c.as_slice.ensures, c.as_str.ensures.value, c.as_str-2.ensures.value, c.as_str-3.ensures.value, c.as_str-4.ensures.value, c.in_ok-code.ensures, c.in_ok-place.ensures, c.in_ok-said.ensures) refl)) c.concat.ensures.ok
+    is ∙ (rw (c.as_slice.ensures, c.as_str.ensures.value, c.as_str-2.ensures.value, c.as_str-3.ensures.value, c.as_str-4.ensures.value, c.in_ok-code.ensures, c.in_ok-place.ensures, c.in_ok-said.ensures) refl)) c.concat.ensures.ok
