@@ -4,7 +4,7 @@ pub mod ChecksJson
 pub mod Colours
 pub mod Files
 pub mod InputInside
-pub mod Languages
+pub mod LanguagesInside
 pub mod LayoutsInside
 pub mod Marks
 pub mod Pages

@@ -2,7 +2,7 @@
 
 ghost use Rattle.std.specs.Prelude.{◌≡◌, ◌≢◌, ◌≤◌, None, codes, IfOk, IfSome};
 ghost use Rattle.swift_types.specs.declared.limits.TheConstants.{WORKERS};
-ghost use Rattle.nuchapay_tool.specs.Languages.{language_by_source};
+ghost use Rattle.nuchapay_tool.specs.LanguagesInside.{language_by_source};
 ghost use Rattle.nuchapay_tool.specs.Requests.{HasCrew, IsOnCrew};
 ghost use Rattle.nuchapay_tool.specs.declared.requests.Language.TheVariants.{Script, Swift};
 ghost use Rattle.nuchapay_tool.specs.declared.requests.Source.TheVariants.{File, Stdin};

@@ -1,4 +1,4 @@
--- In which language a text is (our own).
+-- In which language a text is. No public clause names these. (Our own.)
 use Rattle.std.specs.Prelude.{ℕ, Bool, List, codes, nat_eq, if◌then◌else◌}
 use Rattle.std.specs.List.{ends_with}
 use Rattle.nuchapay_tool.specs.declared.requests.Language.{Language}
