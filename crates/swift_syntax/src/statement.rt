@@ -1,5 +1,9 @@
 //! Statements.
 
+ghost use Rattle.std.specs.Prelude.{◌≡◌, IsNone};
+ghost use Rattle.swift_syntax.specs.ReadersInside.{Adds, AddsStmt, Extends, IsBegun};
+ghost use Rattle.swift_syntax.specs.Statements.{SpellsBlock, SpellsRest};
+
 use crate::closure::{Closure, ClosureHead, HeadForm, closure_front, closure_stmt, head};
 use crate::expression::{bound, expression, test};
 use crate::limits::BLOCKS;
@@ -40,7 +44,10 @@ fn goes_on(reader: &mut Reader<'_>) -> bool {
     true
 }
 
-fn throw_stmt(reader: &mut Reader<'_>) -> usize {
+fn throw_stmt(reader: &mut Reader<'_>) -> usize
+    ensures spelled { IsNone reader.new.refused → IsBegun reader.old → AddsStmt reader.old reader.new reader.old.at result }
+    ensures extends { Extends reader.old reader.new }
+{
     let token = reader.take();
     if reader.here().begins_line {
         reader.refuse(Rule::ReturnLine, reader.at);
@@ -49,7 +56,10 @@ fn throw_stmt(reader: &mut Reader<'_>) -> usize {
     reader.stmt(StmtForm::Throw(value), token)
 }
 
-fn async_let(reader: &mut Reader<'_>) -> usize {
+fn async_let(reader: &mut Reader<'_>) -> usize
+    ensures spelled { IsNone reader.new.refused → IsBegun reader.old → AddsStmt reader.old reader.new reader.old.at result }
+    ensures extends { Extends reader.old reader.new }
+{
     reader.key(Word::Async);
     reader.key(Word::Let);
     let name = reader.name();
@@ -178,7 +188,10 @@ fn too_deep(reader: &mut Reader<'_>) -> usize {
 
 // An `if` with what may follow its `else`.
 #[cycle(statement)]
-fn conditional(reader: &mut Reader<'_>, blocks: u32) -> usize {
+fn conditional(reader: &mut Reader<'_>, blocks: u32) -> usize
+    ensures spelled { IsNone reader.new.refused → IsBegun reader.old → AddsStmt reader.old reader.new reader.old.at result }
+    ensures extends { Extends reader.old reader.new }
+{
     if blocks == 0 {
         return too_deep(reader);
     }
@@ -213,7 +226,10 @@ fn next_of(reader: &mut Reader<'_>) -> (usize, usize, bool) {
 
 // A `guard` or a `while`.
 #[cycle(statement)]
-fn tested(reader: &mut Reader<'_>, blocks: u32) -> usize {
+fn tested(reader: &mut Reader<'_>, blocks: u32) -> usize
+    ensures spelled { IsNone reader.new.refused → IsBegun reader.old → AddsStmt reader.old reader.new reader.old.at result }
+    ensures extends { Extends reader.old reader.new }
+{
     let is_guard = reader.is_key(Word::Guard);
     let token = reader.take();
     if !is_guard && reader.is_key(Word::Let) {
@@ -246,7 +262,10 @@ fn range(reader: &mut Reader<'_>) -> bool {
 
 // A `for`.
 #[cycle(statement)]
-fn for_in(reader: &mut Reader<'_>, blocks: u32) -> usize {
+fn for_in(reader: &mut Reader<'_>, blocks: u32) -> usize
+    ensures spelled { IsNone reader.new.refused → IsBegun reader.old → AddsStmt reader.old reader.new reader.old.at result }
+    ensures extends { Extends reader.old reader.new }
+{
     reader.take();
     let is_tried = reader.takes_key(Word::Try);
     let is_awaited = reader.takes_key(Word::Await);
@@ -266,7 +285,10 @@ fn for_in(reader: &mut Reader<'_>, blocks: u32) -> usize {
 
 // A `do` with its `catch`.
 #[cycle(statement)]
-fn do_catch(reader: &mut Reader<'_>, blocks: u32) -> usize {
+fn do_catch(reader: &mut Reader<'_>, blocks: u32) -> usize
+    ensures spelled { IsNone reader.new.refused → IsBegun reader.old → AddsStmt reader.old reader.new reader.old.at result }
+    ensures extends { Extends reader.old reader.new }
+{
     let token = reader.take();
     let body = block(reader, blocks);
     reader.key(Word::Catch);
@@ -279,7 +301,10 @@ fn do_catch(reader: &mut Reader<'_>, blocks: u32) -> usize {
 
 // A statement. Its place.
 #[cycle(statement)]
-fn statement(reader: &mut Reader<'_>, blocks: u32) -> usize {
+fn statement(reader: &mut Reader<'_>, blocks: u32) -> usize
+    ensures spelled { IsNone reader.new.refused → IsBegun reader.old → AddsStmt reader.old reader.new reader.old.at result }
+    ensures extends { Extends reader.old reader.new }
+{
     let token = reader.at;
     match reader.here().kind {
         TokenKind::Key(Word::Let | Word::Var) => {
@@ -342,7 +367,10 @@ fn changed_here(reader: &mut Reader<'_>, is_own: bool) -> Option<usize> {
 
 // The statements up to the closing brace, which is taken too. The first one's place, or 0.
 #[cycle(statement)]
-fn statements(reader: &mut Reader<'_>, blocks: u32) -> usize {
+fn statements(reader: &mut Reader<'_>, blocks: u32) -> usize
+    ensures spelled { IsNone reader.new.refused → IsBegun reader.old → Adds reader.old reader.new (λ s. SpellsRest s reader.old.at reader.new.at result) }
+    ensures extends { Extends reader.old reader.new }
+{
     if blocks == 0 {
         return too_deep(reader);
     }
@@ -369,12 +397,18 @@ fn statements(reader: &mut Reader<'_>, blocks: u32) -> usize {
 }
 
 #[cycle(statement)]
-fn block(reader: &mut Reader<'_>, blocks: u32) -> usize {
+fn block(reader: &mut Reader<'_>, blocks: u32) -> usize
+    ensures spelled { IsNone reader.new.refused → IsBegun reader.old → Adds reader.old reader.new (λ s. SpellsBlock s reader.old.at reader.new.at result) }
+    ensures extends { Extends reader.old reader.new }
+{
     reader.sign(Sign::OpenBrace);
     statements(reader, blocks)
 }
 
 /// A block. The place of its first statement, or 0.
-pub(crate) fn body(reader: &mut Reader<'_>) -> usize {
+pub(crate) fn body(reader: &mut Reader<'_>) -> usize
+    ensures spelled { IsNone reader.new.refused → IsBegun reader.old → Adds reader.old reader.new (λ s. SpellsBlock s reader.old.at reader.new.at result) }
+    ensures extends { Extends reader.old reader.new }
+{
     block(reader, BLOCKS)
 }
