@@ -3,4 +3,5 @@ pub mod Numbers
 pub mod ReadSoFar
 pub mod Refused
 pub mod Spelled
+pub mod Statements
 pub mod Unique

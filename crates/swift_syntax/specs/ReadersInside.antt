@@ -2,7 +2,7 @@
 use Rattle.std.specs.Prelude.{ℕ, ◌≡◌, ◌<◌, ◌++◌, Bool, true, false, List, [], ◌∷◌, IsNone, Some, length, slice_set}
 use Rattle.std.specs.List.{slice_get}
 use Rattle.swift_syntax.specs.Expressions.{after}
-use Rattle.swift_syntax.specs.Statements.{Source, SpellsStmt}
+use Rattle.swift_syntax.specs.Statements.{Lexed, Source, SpellsStmt}
 use Rattle.swift_syntax.specs.declared.reader.Reader.{Reader}
 use Rattle.swift_syntax.specs.declared.tree.Expr.{Expr}
 use Rattle.swift_syntax.specs.declared.tree.ExprForm.{ExprForm}
@@ -57,9 +57,13 @@ pub record IsPut (before after : Reader) (form : ExprForm) (token place : ℕ) :
 abbrev pub IsBegun : Reader → Type 0
 IsBegun r = 0 < length r.tree.value.stmts.items
 
+-- the text and the tokens of a reader
+abbrev pub lexed_of : Reader → Lexed
+lexed_of r = record { text = r.text.now; tokens = r.tokens.now }
+
 -- what a reader reads, with these statements in place of those of its tree
 abbrev pub source_with : Reader → List Stmt → Source
-source_with r stmts = record { text = r.text.now; tokens = r.tokens.now; exprs = r.tree.value.exprs.items; stmts = stmts }
+source_with r stmts = record { lexed = lexed_of r; exprs = r.tree.value.exprs.items; stmts = stmts }
 
 -- what a reader reads
 abbrev pub source_of : Reader → Source

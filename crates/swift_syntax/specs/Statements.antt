@@ -24,10 +24,14 @@ use Rattle.swift_syntax.specs.declared.tree.ValueType.TheVariants as types
 use Rattle.swift_syntax.specs.declared.word.Word.{Word}
 use Rattle.swift_syntax.specs.declared.word.Word.TheVariants as word
 
--- A text with its tokens, and the expressions and statements that were read of it.
-pub record Source : Type 0 where
+-- A text with its tokens.
+pub record Lexed : Type 0 where
   pub text : List ℕ
   pub tokens : List Token
+
+-- A text with its tokens, and the expressions and statements that were read of it.
+pub record Source : Type 0 where
+  pub lexed : Lexed
   pub exprs : List Expr
   pub stmts : List Stmt
 
@@ -48,60 +52,43 @@ pub data Want : Type 0 where
   the_word : List ℕ → Want
 
 -- The token at a place is what is wanted.
-abbrev pub Is : Source → ℕ → Want → Type 0
-Is s i (a_sign x) = kind_at s.tokens i ≡ kind.Sign x
-Is s i (a_key x) = kind_at s.tokens i ≡ kind.Key x
-Is s i a_name = kind_at s.tokens i ≡ kind.Name
-Is s i (the_word name) = spells_at s.text s.tokens i name ≡ true
+abbrev pub Is : Lexed → ℕ → Want → Type 0
+Is l i (a_sign x) = kind_at l.tokens i ≡ kind.Sign x
+Is l i (a_key x) = kind_at l.tokens i ≡ kind.Key x
+Is l i a_name = kind_at l.tokens i ≡ kind.Name
+Is l i (the_word name) = spells_at l.text l.tokens i name ≡ true
 
 -- The tokens from a place up to another one are those that are wanted, in order.
-abbrev pub Row : Source → List Want → ℕ → ℕ → Type 0
-Row s [] i j = i ≡ j
-Row s (x ∷ xs) i j = Is s i x × Row s xs (after i) j
+abbrev pub Row : Lexed → List Want → ℕ → ℕ → Type 0
+Row l [] i j = i ≡ j
+Row l (x ∷ xs) i j = Is l i x × Row l xs (after i) j
 
 -- whether the token at a place is the first one on its line
-abbrev pub begins_line : Source → ℕ → Bool
-begins_line s i = (token_at s.text s.tokens i).begins_line
-
--- The tokens from a place up to another one spell the expression at a place of the table.
-abbrev pub IsExpr : Source → ℕ → ℕ → ℕ → Type 0
-IsExpr s i j p = Reads (SpellsExpr s.tokens) s.exprs i j p
-
--- The same of a sum, which ends a range.
-abbrev pub IsSum : Source → ℕ → ℕ → ℕ → Type 0
-IsSum s i j p = Reads (SpellsOperands s.tokens 4) s.exprs i j p
-
--- Expressions with commas between them, up to one of these.
-pub data SpellsTests (s : Source) : ℕ → ℕ → ℕ → Type 0 where
-  one_test : {i j p : ℕ} → IsExpr s i j p → SpellsTests s i j p
-  next_test : {i j k p q r : ℕ} → SpellsTests s i j p → Is s j (a_sign sign.Comma) → IsExpr s (after j) k q → slice_get s.exprs r ≡ Some (record { form = expr.Both p q; token = j }) → SpellsTests s i k r
-
--- What stands between `if`, `guard` or `while` and its block: all of them.
-abbrev pub IsTest : Source → ℕ → ℕ → ℕ → Type 0
-IsTest s i j p = SpellsTests s i j p × (kind_at s.tokens j ≢ kind.Sign sign.Comma)
+abbrev pub begins_line : Lexed → ℕ → Bool
+begins_line l i = (token_at l.text l.tokens i).begins_line
 
 -- A type.
-pub data SpellsType (s : Source) : ℕ → ℕ → ValueType → Type 0 where
-  int : {i j : ℕ} → Row s (the_word (codes "Int") ∷ []) i j → SpellsType s i j types.Int
-  bool : {i j : ℕ} → Row s (the_word (codes "Bool") ∷ []) i j → SpellsType s i j types.Bool
-  void : {i j : ℕ} → Row s (the_word (codes "Void") ∷ []) i j → SpellsType s i j types.Void
-  unit : {i j : ℕ} → Row s (a_sign sign.Open ∷ a_sign sign.Close ∷ []) i j → SpellsType s i j types.Void
+pub data SpellsType (l : Lexed) : ℕ → ℕ → ValueType → Type 0 where
+  int : {i j : ℕ} → Row l (the_word (codes "Int") ∷ []) i j → SpellsType l i j types.Int
+  bool : {i j : ℕ} → Row l (the_word (codes "Bool") ∷ []) i j → SpellsType l i j types.Bool
+  void : {i j : ℕ} → Row l (the_word (codes "Void") ∷ []) i j → SpellsType l i j types.Void
+  unit : {i j : ℕ} → Row l (a_sign sign.Open ∷ a_sign sign.Close ∷ []) i j → SpellsType l i j types.Void
 
 -- Perhaps a type behind a colon.
-pub data SpellsAnnotation (s : Source) : ℕ → ℕ → Option ValueType → Type 0 where
-  no_type : {i : ℕ} → kind_at s.tokens i ≢ kind.Sign sign.Colon → SpellsAnnotation s i i None
-  typed : {i j : ℕ} {t : ValueType} → Is s i (a_sign sign.Colon) → SpellsType s (after i) j t → SpellsAnnotation s i j (Some t)
+pub data SpellsAnnotation (l : Lexed) : ℕ → ℕ → Option ValueType → Type 0 where
+  no_type : {i j : ℕ} → kind_at l.tokens i ≢ kind.Sign sign.Colon → i ≡ j → SpellsAnnotation l i j None
+  typed : {i j k : ℕ} {t : ValueType} → Row l (a_sign sign.Colon ∷ []) i j → SpellsType l j k t → SpellsAnnotation l i k (Some t)
 
 -- Perhaps a keyword.
-pub data SpellsPerhaps (s : Source) (x : Word) : ℕ → ℕ → Bool → Type 0 where
-  missing : {i : ℕ} → kind_at s.tokens i ≢ kind.Key x → SpellsPerhaps s x i i false
-  there : {i : ℕ} → Is s i (a_key x) → SpellsPerhaps s x i (after i) true
+pub data SpellsPerhaps (l : Lexed) (x : Word) : ℕ → ℕ → Bool → Type 0 where
+  missing : {i j : ℕ} → kind_at l.tokens i ≢ kind.Key x → i ≡ j → SpellsPerhaps l x i j false
+  there : {i j : ℕ} → Row l (a_key x ∷ []) i j → SpellsPerhaps l x i j true
 
 -- What separates statements: `;`, a new line, or the end of the block.
-pub data Separates (s : Source) : ℕ → ℕ → Type 0 where
-  semicolon : {i : ℕ} → Is s i (a_sign sign.Semicolon) → Separates s i (after i)
-  new_line : {i : ℕ} → begins_line s i ≡ true → Separates s i i
-  before_brace : {i : ℕ} → Is s i (a_sign sign.CloseBrace) → Separates s i i
+pub data Separates (l : Lexed) : ℕ → ℕ → Type 0 where
+  semicolon : {i j : ℕ} → Row l (a_sign sign.Semicolon ∷ []) i j → Separates l i j
+  new_line : {i j : ℕ} → begins_line l i ≡ true → i ≡ j → Separates l i j
+  before_brace : {i j : ℕ} → kind_at l.tokens i ≡ kind.Sign sign.CloseBrace → i ≡ j → Separates l i j
 
 -- whether nothing is returned where a token follows `return`
 abbrev pub ends_return : TokenKind → Bool
@@ -118,13 +105,13 @@ assigning_in (kind.Sign sign.MultiplyAssign) = Some assigning.Multiply
 assigning_in _ = None
 
 -- What becomes of a value, before it.
-pub data SpellsInto (s : Source) : ℕ → ℕ → Into → Type 0 where
-  by_let : {i j k l : ℕ} {t : Option ValueType} → Row s (a_key word.Let ∷ a_name ∷ []) i j → SpellsAnnotation s j k t → Row s (a_sign sign.Assign ∷ []) k l → SpellsInto s i l (into.Let (after i) t)
-  by_var : {i j k l : ℕ} {t : Option ValueType} → Row s (a_key word.Var ∷ a_name ∷ []) i j → SpellsAnnotation s j k t → Row s (a_sign sign.Assign ∷ []) k l → SpellsInto s i l (into.Var (after i) t)
-  by_return : {i j : ℕ} → Row s (a_key word.Return ∷ []) i j → begins_line s j ≡ false → SpellsInto s i j into.Return
-  by_name : {i j : ℕ} → Row s (a_name ∷ a_sign sign.Assign ∷ []) i j → SpellsInto s i j (into.Assign i)
-  let_go : {i j : ℕ} → Row s (the_word (codes "_") ∷ a_sign sign.Assign ∷ []) i j → SpellsInto s i j into.Nothing
-  nothing : {i : ℕ} → kind_at s.tokens (after i) ≢ kind.Sign sign.Assign → SpellsInto s i i into.Nothing
+pub data SpellsInto (l : Lexed) : ℕ → ℕ → Into → Type 0 where
+  by_let : {i j k m n : ℕ} {t : Option ValueType} → Row l (a_key word.Let ∷ []) i j → Row l (a_name ∷ []) j k → SpellsAnnotation l k m t → Row l (a_sign sign.Assign ∷ []) m n → SpellsInto l i n (into.Let j t)
+  by_var : {i j k m n : ℕ} {t : Option ValueType} → Row l (a_key word.Var ∷ []) i j → Row l (a_name ∷ []) j k → SpellsAnnotation l k m t → Row l (a_sign sign.Assign ∷ []) m n → SpellsInto l i n (into.Var j t)
+  by_return : {i j : ℕ} → Row l (a_key word.Return ∷ []) i j → begins_line l j ≡ false → SpellsInto l i j into.Return
+  by_name : {i j : ℕ} → Row l (a_name ∷ a_sign sign.Assign ∷ []) i j → SpellsInto l i j (into.Assign i)
+  let_go : {i j : ℕ} → Row l (the_word (codes "_") ∷ a_sign sign.Assign ∷ []) i j → SpellsInto l i j into.Nothing
+  not_kept : {i j : ℕ} → kind_at l.tokens (after i) ≢ kind.Sign sign.Assign → i ≡ j → SpellsInto l i j into.Nothing
 
 -- the token that a value is told by, where its statement begins at a place
 abbrev pub token_of : Into → ℕ → ℕ
@@ -134,45 +121,62 @@ token_of (into.Assign name) i = name
 token_of _ i = i
 
 -- What is assigned: a field behind `self.` where the flag says so, or a name.
-pub data SpellsTarget (s : Source) : ℕ → ℕ → Bool → Type 0 where
-  own : {i j : ℕ} → Row s (a_key word.Own ∷ a_sign sign.Dot ∷ []) i j → SpellsTarget s i j true
-  plain : {i : ℕ} → SpellsTarget s i i false
+pub data SpellsTarget (l : Lexed) : ℕ → ℕ → Bool → Type 0 where
+  own : {i j : ℕ} → Row l (a_key word.Own ∷ a_sign sign.Dot ∷ []) i j → SpellsTarget l i j true
+  plain : {i j : ℕ} → i ≡ j → SpellsTarget l i j false
 
 -- `..<` or `...`; the flag says whether the end is taken too.
-pub data SpellsRange (s : Source) : ℕ → ℕ → Bool → Type 0 where
-  below : {i j : ℕ} → Row s (a_sign sign.Below ∷ []) i j → SpellsRange s i j false
-  through : {i j : ℕ} → Row s (a_sign sign.Through ∷ []) i j → SpellsRange s i j true
+pub data SpellsRange (l : Lexed) : ℕ → ℕ → Bool → Type 0 where
+  below : {i j : ℕ} → Row l (a_sign sign.Below ∷ []) i j → SpellsRange l i j false
+  through : {i j : ℕ} → Row l (a_sign sign.Through ∷ []) i j → SpellsRange l i j true
 
--- The statements from .. to at place: the tokens from a place up to another one spell what stands at a place of the tables.
+-- The tokens from a place up to another one spell the expression at a place of the table.
+abbrev pub IsExpr : Source → ℕ → ℕ → ℕ → Type 0
+IsExpr s i j p = Reads (SpellsExpr s.lexed.tokens) s.exprs i j p
+
+-- The same of a sum, at an end of a range.
+abbrev pub IsSum : Source → ℕ → ℕ → ℕ → Type 0
+IsSum s i j p = Reads (SpellsOperands s.lexed.tokens 4) s.exprs i j p
+
+-- Expressions with commas between them, up to one of these.
+pub data SpellsTests (s : Source) : ℕ → ℕ → ℕ → Type 0 where
+  one_test : {i j p : ℕ} → IsExpr s i j p → SpellsTests s i j p
+  next_test : {i j k m p q r : ℕ} → SpellsTests s i j p → Row s.lexed (a_sign sign.Comma ∷ []) j k → IsExpr s k m q → slice_get s.exprs r ≡ Some (record { form = expr.Both p q; token = j }) → SpellsTests s i m r
+
+-- What stands between `if`, `guard` or `while` and its block: all of them.
+abbrev pub IsTest : Source → ℕ → ℕ → ℕ → Type 0
+IsTest s i j p = SpellsTests s i j p × (kind_at s.lexed.tokens j ≢ kind.Sign sign.Comma)
+
+-- The tokens from a place up to another one spell what stands at a place of the tables.
 mutual
   -- A statement of a form, with the token that it is told by, and with `await` and `try` before its closure where the flags say so.
   pub data SpellsStmt (s : Source) : ℕ → ℕ → StmtForm → ℕ → Bool → Bool → Type 0 where
-    valued : {i j k v : ℕ} {x : Into} → SpellsInto s i j x → IsExpr s j k v → SpellsStmt s i k (form.Value x v) (token_of x i) false false
-    assigned : {i j k v : ℕ} {own : Bool} {how : Assigning} → SpellsTarget s i j own → Is s j a_name → assigning_in (kind_at s.tokens (after j)) ≡ Some how → IsExpr s (after (after j)) k v → SpellsStmt s i k (form.Assign how own v) j false false
-    toggled : {i j k : ℕ} {own : Bool} → SpellsTarget s i j own → Row s (a_name ∷ a_sign sign.Dot ∷ the_word (codes "toggle") ∷ a_sign sign.Open ∷ a_sign sign.Close ∷ []) j k → SpellsStmt s i k (form.Toggle own) j false false
-    returned : {i j : ℕ} → Row s (a_key word.Return ∷ []) i j → ends_return (kind_at s.tokens j) ≡ true → SpellsStmt s i j form.Return i false false
-    thrown : {i j k v : ℕ} → Row s (a_key word.Throw ∷ []) i j → begins_line s j ≡ false → IsExpr s j k v → SpellsStmt s i k (form.Throw v) i false false
-    async_let : {i j k l m v : ℕ} {t : Option ValueType} → Row s (a_key word.Async ∷ a_key word.Let ∷ a_name ∷ []) i j → SpellsAnnotation s j k t → Row s (a_sign sign.Assign ∷ []) k l → IsExpr s l m v → SpellsStmt s i m (form.AsyncLet t v) (after (after i)) false false
-    if_else : {i j k l m test held failed : ℕ} → Row s (a_key word.If ∷ []) i j → IsTest s j k test → SpellsBlock s k l held → SpellsElse s l m failed → SpellsStmt s i m (form.If test held failed) i false false
-    guard : {i j k l m test body : ℕ} → Row s (a_key word.Guard ∷ []) i j → IsTest s j k test → Row s (a_key word.Else ∷ []) k l → SpellsBlock s l m body → SpellsStmt s i m (form.Guard test body) i false false
-    while_test : {i j k l test body : ℕ} → Row s (a_key word.While ∷ []) i j → IsTest s j k test → SpellsBlock s k l body → SpellsStmt s i l (form.While test body) i false false
-    while_next : {i j k l m body : ℕ} {tried : Bool} → Row s (a_key word.While ∷ a_key word.Let ∷ a_name ∷ a_sign sign.Assign ∷ []) i j → SpellsPerhaps s word.Try j k tried → Row s (a_key word.Await ∷ a_name ∷ a_sign sign.Dot ∷ the_word (codes "next") ∷ a_sign sign.Open ∷ a_sign sign.Close ∷ []) k l → SpellsBlock s l m body → SpellsStmt s i m (form.WhileNext (after k) tried body) (after (after i)) false false
-    for_range : {i j k l m n from to body : ℕ} {closed : Bool} → Row s (a_key word.For ∷ a_name ∷ a_key word.In ∷ []) i j → IsSum s j k from → SpellsRange s k l closed → IsSum s l m to → SpellsBlock s m n body → SpellsStmt s i n (form.For from to closed body) (after i) false false
-    for_await : {i j k l m body : ℕ} {tried : Bool} → Row s (a_key word.For ∷ []) i j → SpellsPerhaps s word.Try j k tried → Row s (a_key word.Await ∷ a_name ∷ a_key word.In ∷ a_name ∷ []) k l → SpellsBlock s l m body → SpellsStmt s i m (form.ForAwait (after (after (after k))) tried body) (after k) false false
-    do_catch : {i j k l m body caught : ℕ} → Row s (a_key word.Do ∷ []) i j → SpellsBlock s j k body → Row s (a_key word.Catch ∷ []) k l → SpellsBlock s l m caught → SpellsStmt s i m (form.DoCatch body caught) i false false
+    valued : {i j k v : ℕ} {x : Into} → SpellsInto s.lexed i j x → IsExpr s j k v → SpellsStmt s i k (form.Value x v) (token_of x i) false false
+    assigned : {i j k m n v : ℕ} {own : Bool} {how : Assigning} → SpellsTarget s.lexed i j own → Row s.lexed (a_name ∷ []) j k → assigning_in (kind_at s.lexed.tokens k) ≡ Some how → after k ≡ m → IsExpr s m n v → SpellsStmt s i n (form.Assign how own v) j false false
+    toggled : {i j k : ℕ} {own : Bool} → SpellsTarget s.lexed i j own → Row s.lexed (a_name ∷ a_sign sign.Dot ∷ the_word (codes "toggle") ∷ a_sign sign.Open ∷ a_sign sign.Close ∷ []) j k → SpellsStmt s i k (form.Toggle own) j false false
+    returned : {i j : ℕ} → Row s.lexed (a_key word.Return ∷ []) i j → ends_return (kind_at s.lexed.tokens j) ≡ true → SpellsStmt s i j form.Return i false false
+    thrown : {i j k v : ℕ} → Row s.lexed (a_key word.Throw ∷ []) i j → begins_line s.lexed j ≡ false → IsExpr s j k v → SpellsStmt s i k (form.Throw v) i false false
+    async_let : {i j k m n o v : ℕ} {t : Option ValueType} → Row s.lexed (a_key word.Async ∷ a_key word.Let ∷ []) i j → Row s.lexed (a_name ∷ []) j k → SpellsAnnotation s.lexed k m t → Row s.lexed (a_sign sign.Assign ∷ []) m n → IsExpr s n o v → SpellsStmt s i o (form.AsyncLet t v) j false false
+    if_else : {i j k m n test held failed : ℕ} → Row s.lexed (a_key word.If ∷ []) i j → IsTest s j k test → SpellsBlock s k m held → SpellsElse s m n failed → SpellsStmt s i n (form.If test held failed) i false false
+    guard : {i j k m n test body : ℕ} → Row s.lexed (a_key word.Guard ∷ []) i j → IsTest s j k test → Row s.lexed (a_key word.Else ∷ []) k m → SpellsBlock s m n body → SpellsStmt s i n (form.Guard test body) i false false
+    while_test : {i j k m test body : ℕ} → Row s.lexed (a_key word.While ∷ []) i j → IsTest s j k test → SpellsBlock s k m body → SpellsStmt s i m (form.While test body) i false false
+    while_next : {i j k m n o q body : ℕ} {tried : Bool} → Row s.lexed (a_key word.While ∷ a_key word.Let ∷ []) i j → Row s.lexed (a_name ∷ a_sign sign.Assign ∷ []) j k → SpellsPerhaps s.lexed word.Try k m tried → Row s.lexed (a_key word.Await ∷ []) m n → Row s.lexed (a_name ∷ a_sign sign.Dot ∷ the_word (codes "next") ∷ a_sign sign.Open ∷ a_sign sign.Close ∷ []) n o → SpellsBlock s o q body → SpellsStmt s i q (form.WhileNext n tried body) j false false
+    for_range : {i j k m n o q from to body : ℕ} {closed : Bool} → Row s.lexed (a_key word.For ∷ []) i j → Row s.lexed (a_name ∷ a_key word.In ∷ []) j k → IsSum s k m from → SpellsRange s.lexed m n closed → IsSum s n o to → SpellsBlock s o q body → SpellsStmt s i q (form.For from to closed body) j false false
+    for_await : {i j k m n o q body : ℕ} {tried : Bool} → Row s.lexed (a_key word.For ∷ []) i j → SpellsPerhaps s.lexed word.Try j k tried → Row s.lexed (a_key word.Await ∷ []) k m → Row s.lexed (a_name ∷ a_key word.In ∷ []) m n → Row s.lexed (a_name ∷ []) n o → SpellsBlock s o q body → SpellsStmt s i q (form.ForAwait n tried body) m false false
+    do_catch : {i j k m n body caught : ℕ} → Row s.lexed (a_key word.Do ∷ []) i j → SpellsBlock s j k body → Row s.lexed (a_key word.Catch ∷ []) k m → SpellsBlock s m n caught → SpellsStmt s i n (form.DoCatch body caught) i false false
 
   -- Perhaps an `else`: what stands in its block, or the `if` behind it.
   pub data SpellsElse (s : Source) : ℕ → ℕ → ℕ → Type 0 where
-    no_else : {i : ℕ} → kind_at s.tokens i ≢ kind.Key word.Else → SpellsElse s i i 0
-    else_block : {i j k p : ℕ} → Row s (a_key word.Else ∷ []) i j → SpellsBlock s j k p → SpellsElse s i k p
-    else_if : {i j k p : ℕ} {made : Stmt} → Row s (a_key word.Else ∷ []) i j → Is s j (a_key word.If) → SpellsStmt s j k made.form made.token made.is_awaited made.is_tried → slice_get s.stmts p ≡ Some made → 0 < p → made.end ≡ k → made.next ≡ 0 → SpellsElse s i k p
+    no_else : {i j : ℕ} → kind_at s.lexed.tokens i ≢ kind.Key word.Else → i ≡ j → SpellsElse s i j 0
+    else_block : {i j k p : ℕ} → Row s.lexed (a_key word.Else ∷ []) i j → SpellsBlock s j k p → SpellsElse s i k p
+    else_if : {i j k p : ℕ} {made : Stmt} → Row s.lexed (a_key word.Else ∷ []) i j → kind_at s.lexed.tokens j ≡ kind.Key word.If → SpellsStmt s j k made.form made.token made.is_awaited made.is_tried → slice_get s.stmts p ≡ Some made → 0 < p → made.end ≡ k → made.next ≡ 0 → SpellsElse s i k p
 
   -- A block: the place of its first statement, or 0.
   pub data SpellsBlock (s : Source) : ℕ → ℕ → ℕ → Type 0 where
-    opened : {i j k p : ℕ} → Row s (a_sign sign.OpenBrace ∷ []) i j → SpellsRest s j k p → SpellsBlock s i k p
+    opened : {i j k p : ℕ} → Row s.lexed (a_sign sign.OpenBrace ∷ []) i j → SpellsRest s j k p → SpellsBlock s i k p
 
   -- The statements up to the brace that closes their block: the place of the first one, or 0. Each names the place of the next one.
   pub data SpellsRest (s : Source) : ℕ → ℕ → ℕ → Type 0 where
-    closed : {i j : ℕ} → Row s (a_sign sign.CloseBrace ∷ []) i j → SpellsRest s i j 0
-    no_stmt : {i j k p : ℕ} → Row s (a_sign sign.Semicolon ∷ []) i j → SpellsRest s j k p → SpellsRest s i k p
-    one_stmt : {i j k l p : ℕ} {made : Stmt} → SpellsStmt s i j made.form made.token made.is_awaited made.is_tried → slice_get s.stmts p ≡ Some made → 0 < p → made.end ≡ j → Separates s j k → SpellsRest s k l made.next → SpellsRest s i l p
+    closed : {i j : ℕ} → Row s.lexed (a_sign sign.CloseBrace ∷ []) i j → SpellsRest s i j 0
+    no_stmt : {i j k p : ℕ} → Row s.lexed (a_sign sign.Semicolon ∷ []) i j → SpellsRest s j k p → SpellsRest s i k p
+    one_stmt : {i j k m p : ℕ} {made : Stmt} → SpellsStmt s i j made.form made.token made.is_awaited made.is_tried → slice_get s.stmts p ≡ Some made → 0 < p → made.end ≡ j → Separates s.lexed j k → SpellsRest s k m made.next → SpellsRest s i m p

@@ -4,7 +4,7 @@
 
 ghost use Rattle.std.specs.Prelude.{◌≡◌, ◌↔◌, true, false, IsNone, IsSome, IsTrue};
 ghost use Rattle.swift_syntax.specs.Expressions.{after, kind_at, token_at};
-ghost use Rattle.swift_syntax.specs.ReadersInside.{Extends, Grows, IsLinked, IsPut, IsStmtPut, source_of, taken, takes_if};
+ghost use Rattle.swift_syntax.specs.ReadersInside.{Extends, Grows, IsLinked, IsPut, IsStmtPut, lexed_of, taken, takes_if};
 ghost use Rattle.swift_syntax.specs.Statements.{Separates, SpellsAnnotation, SpellsType, spells_at};
 
 use crate::rule::{Breach, Rule};
@@ -266,7 +266,7 @@ impl<'a> Reader<'a> {
 
     /// Takes a type.
     pub(crate) fn value_type(&mut self) -> ValueType
-        ensures spelled { IsNone self.new.refused → SpellsType (source_of self.new) self.old.at self.new.at result }
+        ensures spelled { IsNone self.new.refused → SpellsType (lexed_of self.new) self.old.at self.new.at result }
         ensures grows { Grows self.old self.new }
     {
         if self.takes_word("Int") {
@@ -291,7 +291,7 @@ impl<'a> Reader<'a> {
 
     /// A type behind a colon, if there is one.
     pub(crate) fn annotation(&mut self) -> Option<ValueType>
-        ensures spelled { IsNone self.new.refused → SpellsAnnotation (source_of self.new) self.old.at self.new.at result }
+        ensures spelled { IsNone self.new.refused → SpellsAnnotation (lexed_of self.new) self.old.at self.new.at result }
         ensures grows { Grows self.old self.new }
     {
         if self.takes(Sign::Colon) {
@@ -303,7 +303,7 @@ impl<'a> Reader<'a> {
 
     /// Wants what separates statements and declarations: `;`, a new line, or the end of the block.
     pub(crate) fn separator(&mut self)
-        ensures spelled { IsNone self.new.refused → Separates (source_of self.new) self.old.at self.new.at }
+        ensures spelled { IsNone self.new.refused → Separates (lexed_of self.new) self.old.at self.new.at }
         ensures grows { Grows self.old self.new }
     {
         if self.takes(Sign::Semicolon) {
