@@ -4,4 +4,5 @@ pub mod ReadSoFar
 pub mod Refused
 pub mod Spelled
 pub mod Statements
+pub mod Steps
 pub mod Unique

@@ -3,6 +3,7 @@
 use Rattle.std.specs.Prelude.{ℕ, ◌≡◌, ◌≢◌, ◌<◌, Bool, true, false, ◌&&◌, ◌||◌, bytes_eq, codes, if◌then◌else◌, length, List, [], ◌∷◌, nat_le, Option, Some, None}
 use Rattle.std.specs.List.{slice_get, slice_range}
 use Rattle.swift_syntax.specs.Expressions.{Reads, SpellsExpr, SpellsOperands, after, kind_at, token_at}
+use Rattle.swift_syntax.specs.declared.closure.ClosureHead.{ClosureHead}
 use Rattle.swift_syntax.specs.declared.closure.HeadForm.{HeadForm}
 use Rattle.swift_syntax.specs.declared.closure.HeadForm.TheVariants as head
 use Rattle.swift_syntax.specs.declared.sign.Sign.{Sign}
@@ -59,9 +60,9 @@ Is l i a_name = kind_at l.tokens i ≡ kind.Name
 Is l i (the_word name) = spells_at l.text l.tokens i name ≡ true
 
 -- The tokens from a place up to another one are those that are wanted, in order.
-abbrev pub Row : Lexed → List Want → ℕ → ℕ → Type 0
-Row l [] i j = i ≡ j
-Row l (x ∷ xs) i j = Is l i x × Row l xs (after i) j
+pub data Row (l : Lexed) : List Want → ℕ → ℕ → Type 0 where
+  no_token : {i j : ℕ} → i ≡ j → Row l [] i j
+  next_token : {i j : ℕ} {x : Want} {xs : List Want} → Is l i x → Row l xs (after i) j → Row l (x ∷ xs) i j
 
 -- whether the token at a place is the first one on its line
 abbrev pub begins_line : Lexed → ℕ → Bool
@@ -130,6 +131,39 @@ pub data SpellsRange (l : Lexed) : ℕ → ℕ → Bool → Type 0 where
   below : {i j : ℕ} → Row l (a_sign sign.Below ∷ []) i j → SpellsRange l i j false
   through : {i j : ℕ} → Row l (a_sign sign.Through ∷ []) i j → SpellsRange l i j true
 
+-- `let NAME = await GROUP.next()`, perhaps with `try`, with the tokens of the name and of the group.
+pub data SpellsNext (l : Lexed) : ℕ → ℕ → ℕ → ℕ → Bool → Type 0 where
+  next_of : {i j k m n o : ℕ} {tried : Bool} → Row l (a_key word.Let ∷ []) i j → Row l (a_name ∷ a_sign sign.Assign ∷ []) j k → SpellsPerhaps l word.Try k m tried → Row l (a_key word.Await ∷ []) m n → Row l (a_name ∷ a_sign sign.Dot ∷ the_word (codes "next") ∷ a_sign sign.Open ∷ a_sign sign.Close ∷ []) n o → SpellsNext l i o j n tried
+
+-- Perhaps a priority in parentheses, with its token, or 0.
+pub data SpellsPriority (l : Lexed) : ℕ → ℕ → ℕ → Type 0 where
+  no_priority : {i j : ℕ} → kind_at l.tokens i ≢ kind.Sign sign.Open → i ≡ j → SpellsPriority l i j 0
+  of_priority : {i j k : ℕ} → Row l (a_sign sign.Open ∷ the_word (codes "priority") ∷ a_sign sign.Colon ∷ a_sign sign.Dot ∷ []) i j → Row l (a_name ∷ a_sign sign.Close ∷ []) j k → SpellsPriority l i k j
+
+-- Names with commas between them, and `] in`.
+pub data SpellsNames (l : Lexed) : ℕ → ℕ → Type 0 where
+  last_name : {i j : ℕ} → Row l (a_name ∷ a_sign sign.CloseBracket ∷ a_key word.In ∷ []) i j → SpellsNames l i j
+  one_name : {i j k : ℕ} → Row l (a_name ∷ a_sign sign.Comma ∷ []) i j → SpellsNames l j k → SpellsNames l i k
+
+-- The brace of a closure, on the line of what stands before it, with its list of names or its parameter; that one's token, or 0.
+pub data SpellsFront (l : Lexed) : ℕ → ℕ → ℕ → Type 0 where
+  listed : {i j k : ℕ} → begins_line l i ≡ false → Row l (a_sign sign.OpenBrace ∷ a_sign sign.OpenBracket ∷ []) i j → SpellsNames l j k → SpellsFront l i k 0
+  with_parameter : {i j k : ℕ} → begins_line l i ≡ false → Row l (a_sign sign.OpenBrace ∷ []) i j → Row l (a_name ∷ a_key word.In ∷ []) j k → SpellsFront l i k j
+  without : {i j : ℕ} → begins_line l i ≡ false → Row l (a_sign sign.OpenBrace ∷ []) i j → SpellsFront l i j 0
+
+-- what a closure becomes behind its head, and where its value goes
+abbrev pub closed_form : HeadForm → Into → ℕ → ℕ → StmtForm
+closed_form (head.Task is_own p) (into.Let name t) captures body = form.Task name (record { is_detached = is_own; priority = p; body = body; captures = captures })
+closed_form (head.Task is_own p) x captures body = form.Task 0 (record { is_detached = is_own; priority = p; body = body; captures = captures })
+closed_form (head.Add is_only p) x captures body = form.AddTask is_only (record { is_detached = false; priority = p; body = body; captures = captures })
+closed_form (head.Group t is_throwing) x captures body = form.Group x t is_throwing body
+closed_form (head.Bind of value) x captures body = form.Bind x of value body
+
+-- the token that it is told by: its head's, or the name of its group
+abbrev pub closed_token : HeadForm → ℕ → ℕ → ℕ
+closed_token (head.Group t is_throwing) own_token parameter = parameter
+closed_token h own_token parameter = own_token
+
 -- The tokens from a place up to another one spell the expression at a place of the table.
 abbrev pub IsExpr : Source → ℕ → ℕ → ℕ → Type 0
 IsExpr s i j p = Reads (SpellsExpr s.lexed.tokens) s.exprs i j p
@@ -147,11 +181,26 @@ pub data SpellsTests (s : Source) : ℕ → ℕ → ℕ → Type 0 where
 abbrev pub IsTest : Source → ℕ → ℕ → ℕ → Type 0
 IsTest s i j p = SpellsTests s i j p × (kind_at s.lexed.tokens j ≢ kind.Sign sign.Comma)
 
+-- What stands before a closure, with its token.
+pub data SpellsHead (s : Source) : ℕ → ℕ → HeadForm → ℕ → Type 0 where
+  task : {i j k p : ℕ} → Row s.lexed (the_word (codes "Task") ∷ []) i j → SpellsPriority s.lexed j k p → SpellsHead s i k (head.Task false p) i
+  detached : {i j k p : ℕ} → Row s.lexed (the_word (codes "Task") ∷ a_sign sign.Dot ∷ the_word (codes "detached") ∷ []) i j → SpellsPriority s.lexed j k p → SpellsHead s i k (head.Task true p) i
+  add : {i j k m p : ℕ} → Row s.lexed (a_name ∷ a_sign sign.Dot ∷ []) i j → Row s.lexed (the_word (codes "addTask") ∷ []) j k → SpellsPriority s.lexed k m p → SpellsHead s i m (head.Add false p) i
+  add_only : {i j k m p : ℕ} → Row s.lexed (a_name ∷ a_sign sign.Dot ∷ []) i j → Row s.lexed (the_word (codes "addTaskUnlessCancelled") ∷ []) j k → SpellsPriority s.lexed k m p → SpellsHead s i m (head.Add true p) i
+  group : {i j k m : ℕ} {t : ValueType} → Row s.lexed (the_word (codes "withTaskGroup") ∷ a_sign sign.Open ∷ the_word (codes "of") ∷ a_sign sign.Colon ∷ []) i j → SpellsType s.lexed j k t → Row s.lexed (a_sign sign.Dot ∷ a_key word.Own ∷ a_sign sign.Close ∷ []) k m → SpellsHead s i m (head.Group t false) i
+  throwing_group : {i j k m : ℕ} {t : ValueType} → Row s.lexed (the_word (codes "withThrowingTaskGroup") ∷ a_sign sign.Open ∷ the_word (codes "of") ∷ a_sign sign.Colon ∷ []) i j → SpellsType s.lexed j k t → Row s.lexed (a_sign sign.Dot ∷ a_key word.Own ∷ a_sign sign.Close ∷ []) k m → SpellsHead s i m (head.Group t true) i
+  bind : {i j k m n value : ℕ} → Row s.lexed (a_name ∷ a_sign sign.Dot ∷ a_sign sign.Dollar ∷ []) i j → Row s.lexed (a_name ∷ a_sign sign.Dot ∷ the_word (codes "withValue") ∷ a_sign sign.Open ∷ []) j k → IsExpr s k m value → Row s.lexed (a_sign sign.Close ∷ []) m n → SpellsHead s i n (head.Bind i value) j
+
+-- The same behind `try` and `await`, where the flags say so.
+pub data SpellsCovered (s : Source) : ℕ → ℕ → ClosureHead → Type 0 where
+  covered : {i j k m token : ℕ} {tried awaited : Bool} {h : HeadForm} → SpellsPerhaps s.lexed word.Try i j tried → SpellsPerhaps s.lexed word.Await j k awaited → SpellsHead s k m h token → SpellsCovered s i m (record { form = h; token = token; is_awaited = awaited; is_tried = tried })
+
 -- The tokens from a place up to another one spell what stands at a place of the tables.
 mutual
   -- A statement of a form, with the token that it is told by, and with `await` and `try` before its closure where the flags say so.
   pub data SpellsStmt (s : Source) : ℕ → ℕ → StmtForm → ℕ → Bool → Bool → Type 0 where
     valued : {i j k v : ℕ} {x : Into} → SpellsInto s.lexed i j x → IsExpr s j k v → SpellsStmt s i k (form.Value x v) (token_of x i) false false
+    enclosed : (captures : ℕ) {i j k m n parameter body : ℕ} {x : Into} {h : ClosureHead} → SpellsInto s.lexed i j x → SpellsCovered s j k h → SpellsFront s.lexed k m parameter → SpellsRest s m n body → SpellsStmt s i n (closed_form h.form x captures body) (closed_token h.form h.token parameter) h.is_awaited h.is_tried
     assigned : {i j k m n v : ℕ} {own : Bool} {how : Assigning} → SpellsTarget s.lexed i j own → Row s.lexed (a_name ∷ []) j k → assigning_in (kind_at s.lexed.tokens k) ≡ Some how → after k ≡ m → IsExpr s m n v → SpellsStmt s i n (form.Assign how own v) j false false
     toggled : {i j k : ℕ} {own : Bool} → SpellsTarget s.lexed i j own → Row s.lexed (a_name ∷ a_sign sign.Dot ∷ the_word (codes "toggle") ∷ a_sign sign.Open ∷ a_sign sign.Close ∷ []) j k → SpellsStmt s i k (form.Toggle own) j false false
     returned : {i j : ℕ} → Row s.lexed (a_key word.Return ∷ []) i j → ends_return (kind_at s.lexed.tokens j) ≡ true → SpellsStmt s i j form.Return i false false
@@ -160,7 +209,7 @@ mutual
     if_else : {i j k m n test held failed : ℕ} → Row s.lexed (a_key word.If ∷ []) i j → IsTest s j k test → SpellsBlock s k m held → SpellsElse s m n failed → SpellsStmt s i n (form.If test held failed) i false false
     guard : {i j k m n test body : ℕ} → Row s.lexed (a_key word.Guard ∷ []) i j → IsTest s j k test → Row s.lexed (a_key word.Else ∷ []) k m → SpellsBlock s m n body → SpellsStmt s i n (form.Guard test body) i false false
     while_test : {i j k m test body : ℕ} → Row s.lexed (a_key word.While ∷ []) i j → IsTest s j k test → SpellsBlock s k m body → SpellsStmt s i m (form.While test body) i false false
-    while_next : {i j k m n o q body : ℕ} {tried : Bool} → Row s.lexed (a_key word.While ∷ a_key word.Let ∷ []) i j → Row s.lexed (a_name ∷ a_sign sign.Assign ∷ []) j k → SpellsPerhaps s.lexed word.Try k m tried → Row s.lexed (a_key word.Await ∷ []) m n → Row s.lexed (a_name ∷ a_sign sign.Dot ∷ the_word (codes "next") ∷ a_sign sign.Open ∷ a_sign sign.Close ∷ []) n o → SpellsBlock s o q body → SpellsStmt s i q (form.WhileNext n tried body) j false false
+    while_next : {i j k m name group body : ℕ} {tried : Bool} → Row s.lexed (a_key word.While ∷ []) i j → SpellsNext s.lexed j k name group tried → SpellsBlock s k m body → SpellsStmt s i m (form.WhileNext group tried body) name false false
     for_range : {i j k m n o q from to body : ℕ} {closed : Bool} → Row s.lexed (a_key word.For ∷ []) i j → Row s.lexed (a_name ∷ a_key word.In ∷ []) j k → IsSum s k m from → SpellsRange s.lexed m n closed → IsSum s n o to → SpellsBlock s o q body → SpellsStmt s i q (form.For from to closed body) j false false
     for_await : {i j k m n o q body : ℕ} {tried : Bool} → Row s.lexed (a_key word.For ∷ []) i j → SpellsPerhaps s.lexed word.Try j k tried → Row s.lexed (a_key word.Await ∷ []) k m → Row s.lexed (a_name ∷ a_key word.In ∷ []) m n → Row s.lexed (a_name ∷ []) n o → SpellsBlock s o q body → SpellsStmt s i q (form.ForAwait n tried body) m false false
     do_catch : {i j k m n body caught : ℕ} → Row s.lexed (a_key word.Do ∷ []) i j → SpellsBlock s j k body → Row s.lexed (a_key word.Catch ∷ []) k m → SpellsBlock s m n caught → SpellsStmt s i n (form.DoCatch body caught) i false false
