@@ -17,7 +17,7 @@ use Rattle.swift_syntax.specs.declared.tree.ValueType.{ValueType}
 use Rattle.swift_syntax.specs.declared.word.Word.TheVariants as word
 use Rattle.swift_syntax.specs.Expressions.{Reads, SpellsExpr, SpellsOperands, SwiftTree, StandsAt, after, kind_at}
 use Rattle.swift_syntax.specs.ReadersInside.{Adds, Extends, Grows, IsBegun, lexed_of, source_with, taken}
-use Rattle.swift_syntax.specs.Statements.{IsExpr, IsSum, IsTest, Lexed, Row, Separates, Source, SpellsAnnotation, SpellsBlock, SpellsCovered, SpellsElse, SpellsFront, SpellsHead, SpellsInto, SpellsNext, SpellsPerhaps, SpellsPriority, SpellsRange, SpellsRest, SpellsStmt, SpellsTarget, SpellsTests, SpellsType, Want, a_key, a_name, a_sign, assigning_in, begins_line, ends_return, spells_at, the_word}
+use Rattle.swift_syntax.specs.Statements.{IsExpr, IsSum, IsTest, Lexed, Row, Separates, Source, SpellsBlock, SpellsCovered, SpellsDeclared, SpellsElse, SpellsFront, SpellsGroup, SpellsHead, SpellsInto, SpellsNext, SpellsPerhaps, SpellsPriority, SpellsRange, SpellsRest, SpellsStmt, SpellsTarget, SpellsTests, Want, a_key, a_name, a_sign, assigning_in, begins_line, ends_return, spells_at, the_word}
 use Rattle.swift_syntax.specs.Statements as swift
 use Rattle.swift_syntax.proofs.Grown.{extends_of, extends_on, get_more, stands_more}
 
@@ -67,8 +67,8 @@ tests_stay s t m (swift.next_test {j = j} {k = k} a r e g) = swift.next_test (te
 pub test_stays : (i j p : ℕ) → (s t : Source) → IsMore s t → IsTest s i j p → IsTest t i j p
 test_stays i j p s t m d = (tests_stay s t m d.0, lexed_stays (λ l. kind_at l.tokens j ≢ kind.Sign sign.Comma) s t m d.1)
 
-type_stays : (i j : ℕ) (x : ValueType) → (s t : Source) → IsMore s t → SpellsType s.lexed i j x → SpellsType t.lexed i j x
-type_stays i j x = lexed_stays (λ l. SpellsType l i j x)
+group_stays : (i j : ℕ) (x : ValueType) → (s t : Source) → IsMore s t → SpellsGroup s.lexed i j x → SpellsGroup t.lexed i j x
+group_stays i j x = lexed_stays (λ l. SpellsGroup l i j x)
 
 priority_stays : (i j p : ℕ) → (s t : Source) → IsMore s t → SpellsPriority s.lexed i j p → SpellsPriority t.lexed i j p
 priority_stays i j p = lexed_stays (λ l. SpellsPriority l i j p)
@@ -78,8 +78,8 @@ head_stays s t m (swift.task a b) = swift.task (row_stays _ _ _ s t m a) (priori
 head_stays s t m (swift.detached a b) = swift.detached (row_stays _ _ _ s t m a) (priority_stays _ _ _ s t m b)
 head_stays s t m (swift.add a b c) = swift.add (row_stays _ _ _ s t m a) (row_stays _ _ _ s t m b) (priority_stays _ _ _ s t m c)
 head_stays s t m (swift.add_only a b c) = swift.add_only (row_stays _ _ _ s t m a) (row_stays _ _ _ s t m b) (priority_stays _ _ _ s t m c)
-head_stays s t m (swift.group a b c) = swift.group (row_stays _ _ _ s t m a) (type_stays _ _ _ s t m b) (row_stays _ _ _ s t m c)
-head_stays s t m (swift.throwing_group a b c) = swift.throwing_group (row_stays _ _ _ s t m a) (type_stays _ _ _ s t m b) (row_stays _ _ _ s t m c)
+head_stays s t m (swift.group a b) = swift.group (row_stays _ _ _ s t m a) (group_stays _ _ _ s t m b)
+head_stays s t m (swift.throwing_group a b) = swift.throwing_group (row_stays _ _ _ s t m a) (group_stays _ _ _ s t m b)
 head_stays s t m (swift.bind a b e c) = swift.bind (row_stays _ _ _ s t m a) (row_stays _ _ _ s t m b) (expr_stays _ _ _ s t m e) (row_stays _ _ _ s t m c)
 
 pub covered_stays : (s t : Source) {i j : ℕ} {h : ClosureHead} → IsMore s t → SpellsCovered s i j h → SpellsCovered t i j h
@@ -93,7 +93,7 @@ mutual
   stmt_stays s t m (swift.toggled {i = i} {j = j} {k = k} {own = own} a b) = swift.toggled (lexed_stays (λ l. SpellsTarget l i j own) s t m a) (row_stays _ _ _ s t m b)
   stmt_stays s t m (swift.returned {j = j} a b) = swift.returned (row_stays _ _ _ s t m a) (lexed_stays (λ l. ends_return (kind_at l.tokens j) ≡ true) s t m b)
   stmt_stays s t m (swift.thrown {j = j} a b e) = swift.thrown (row_stays _ _ _ s t m a) (lexed_stays (λ l. begins_line l j ≡ false) s t m b) (expr_stays _ _ _ s t m e)
-  stmt_stays s t m (swift.async_let {k = k} {m = n} {t = w} a b c d e) = swift.async_let (row_stays _ _ _ s t m a) (row_stays _ _ _ s t m b) (lexed_stays (λ l. SpellsAnnotation l k n w) s t m c) (row_stays _ _ _ s t m d) (expr_stays _ _ _ s t m e)
+  stmt_stays s t m (swift.async_let {j = j} {k = k} {name = n} {t = w} a b e) = swift.async_let (row_stays _ _ _ s t m a) (lexed_stays (λ l. SpellsDeclared l j k n w) s t m b) (expr_stays _ _ _ s t m e)
   stmt_stays s t m (swift.if_else a b c d) = swift.if_else (row_stays _ _ _ s t m a) (test_stays _ _ _ s t m b) (block_stays s t m c) (else_stays s t m d)
   stmt_stays s t m (swift.guard a b c d) = swift.guard (row_stays _ _ _ s t m a) (test_stays _ _ _ s t m b) (row_stays _ _ _ s t m c) (block_stays s t m d)
   stmt_stays s t m (swift.while_test a b c) = swift.while_test (row_stays _ _ _ s t m a) (test_stays _ _ _ s t m b) (block_stays s t m c)

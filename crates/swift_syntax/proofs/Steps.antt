@@ -1,19 +1,23 @@
 -- What is read piece by piece is read as a whole.
-use Rattle.std.proofs.Common.{◌≡◌, ◌≢◌, ◌<◌, ℕ, Bool, true, false, List, [], ◌∷◌, ◌++◌, length, refl, sym, ap, subst, ◌∙◌, arith, append_assoc}
+use Rattle.std.proofs.Common.{◌≡◌, ◌≢◌, ◌<◌, ℕ, Bool, true, false, List, [], ◌∷◌, ◌++◌, length, refl, sym, ap, subst, ◌∙◌, arith, append_assoc, Some}
 use Rattle.std.proofs.lemmas.List.{append-nil, length-append}
 use Rattle.std.proofs.lemmas.Bool.{false≢true}
+use Rattle.std.specs.List.{slice_get}
 use Rattle.std.specs.Prelude.{IsNone, IsTrue, ◌↔◌}
 use Rattle.swift_syntax.specs.declared.reader.Reader.{Reader}
 use Rattle.swift_syntax.specs.declared.sign.Sign.{Sign}
 use Rattle.swift_syntax.specs.declared.token.TokenKind.TheVariants as kind
+use Rattle.swift_syntax.specs.declared.sign.Sign.TheVariants as sign
+use Rattle.swift_syntax.specs.declared.tree.ExprForm.{ExprForm}
+use Rattle.swift_syntax.specs.declared.tree.ExprForm.TheVariants as form
 use Rattle.swift_syntax.specs.declared.tree.Stmt.{Stmt}
 use Rattle.swift_syntax.specs.declared.tree.StmtForm.{StmtForm}
 use Rattle.swift_syntax.specs.declared.word.Word.{Word}
 use Rattle.swift_syntax.specs.Expressions.{SpellsExpr, SpellsOperands, Reads, after, kind_at}
-use Rattle.swift_syntax.specs.ReadersInside.{Adds, AddsStmt, Extends, Grows, IsBegun, IsStmtPut, lexed_of, source_with, taken, takes_if}
-use Rattle.swift_syntax.specs.Statements.{Is, IsExpr, Lexed, Row, Source, SpellsPerhaps, SpellsStmt, Want, a_key, a_name, a_sign, spells_at, the_word}
+use Rattle.swift_syntax.specs.ReadersInside.{Adds, AddsStmt, Extends, Grows, IsBegun, IsPut, IsStmtPut, lexed_of, source_with, taken, takes_if}
+use Rattle.swift_syntax.specs.Statements.{Is, IsExpr, Lexed, Row, Source, SpellsPerhaps, SpellsStmt, SpellsTests, Want, a_key, a_name, a_sign, spells_at, the_word}
 use Rattle.swift_syntax.specs.Statements as swift
-use Rattle.swift_syntax.proofs.Grown.{extends_of, extends_on, grows_on, grows_same}
+use Rattle.swift_syntax.proofs.Grown.{extends_of, extends_on, grows_on, grows_same, put_there}
 use Rattle.swift_syntax.proofs.Refused.{grows_taken}
 use Rattle.swift_syntax.proofs.Statements.{IsMore, lexed_stays, row_stays, stmt_stays}
 
@@ -27,7 +31,7 @@ pub record Step (r s : Reader) (P : Source → Type 0) : Type 0 where
   pub extends : Extends r s
   pub adds : IsNone s.refused → IsBegun r → Adds r s P
 
-lexed_on : (r s : Reader) → Extends r s → lexed_of s ≡ lexed_of r
+pub lexed_on : (r s : Reader) → Extends r s → lexed_of s ≡ lexed_of r
 lexed_on r s e =
     let first : lexed_of s ≡ (record { text = r.text.now; tokens = s.tokens.now }) = ap (λ t. record { text = t.now; tokens = s.tokens.now }) e.text in
     first ∙ ap (λ t. record { text = r.text.now; tokens = t.now }) e.tokens
@@ -79,8 +83,11 @@ pub step_of : (r s : Reader) {P : Source → Type 0} → Took r s P → Step r s
 step_of r s d = record { extends = extends_of d.grows; adds = λ n b. adds_of r s d n }
 
 -- nothing is taken
-pub took_none : (r s : Reader) → (IsNone s.refused → s ≡ r) → Grows r s → Took r s (λ a. Row a.lexed [] r.at s.at)
-took_none r s e g = record { grows = g; holds = λ n xs. swift.no_token (sym (ap (λ x. x.at) (e n))) }
+pub took_none : (r s : Reader) → (IsNone s.refused → s.at ≡ r.at) → Grows r s → Took r s (λ a. Row a.lexed [] r.at s.at)
+took_none r s e g = record { grows = g; holds = λ n xs. swift.no_token (sym (e n)) }
+
+pub took_same : (r s : Reader) → (IsNone s.refused → s ≡ r) → Grows r s → Took r s (λ a. Row a.lexed [] r.at s.at)
+took_same r s e g = took_none r s (λ n. ap (λ x. x.at) (e n)) g
 
 -- a token that is taken
 took_one : (r s : Reader) (w : Want) → (IsNone s.refused → Is (lexed_of r) r.at w × (s ≡ taken r)) → Grows r s → Took r s (λ a. Row a.lexed (w ∷ []) r.at s.at)
@@ -149,3 +156,60 @@ stmt_read r s t {f} {own} {p} {a} {b} step puts e n begun =
       end = sym put.at;
       spelled = λ xs l. subst (λ j. SpellsStmt (source_with t (xs ++ d.more)) r.at j f own a b) (sym put.at) (stmt_stays _ _ (same_read s t (xs ++ d.more) e) (d.holds xs l));
     }
+
+-- a statement that is read behind what adds none
+pub read_behind : (r s t : Reader) {i p : ℕ} → Grows r s → AddsStmt s t i p → AddsStmt r t i p
+read_behind r s t g d =
+    let same : s.tree.value.stmts.items ≡ r.tree.value.stmts.items = ap (λ v. v.items) g.stmts in
+    record {
+      more = d.more;
+      made = d.made;
+      stmts = rw same at d.stmts;
+      place_is = rw same at d.place_is;
+      next = d.next;
+      end = d.end;
+      spelled = λ xs l. d.spelled xs (l ∙ sym (ap length same));
+    }
+
+pub begun_behind : (r s : Reader) → Grows r s → IsBegun r → IsBegun s
+begun_behind r s g b = rw (ap (λ v. v.items) g.stmts) b
+
+-- what a function reads that puts nothing into a table
+pub took_call : (r s : Reader) (P : Lexed → ℕ → ℕ → Type 0) → (IsNone s.refused → P (lexed_of s) r.at s.at) → Grows r s → Took r s (λ a. P a.lexed r.at s.at)
+took_call r s P d g = took_lexed r s (λ l. P l r.at s.at) d g
+
+-- a token that stands on the line of what is before it
+abbrev pub IsOnLine : ℕ → ℕ → Source → Type 0
+IsOnLine i j a = Row a.lexed [] i j × (swift.begins_line a.lexed j ≡ false)
+
+pub line_stays : (i j : ℕ) → (s t : Source) → IsMore s t → IsOnLine i j s → IsOnLine i j t
+line_stays i j s t m d = (row_stays [] i j s t m d.0, lexed_stays (λ l. swift.begins_line l j ≡ false) s t m d.1)
+
+pub took_line : (r s : Reader) → (IsNone s.refused → s ≡ r) → (IsNone s.refused → swift.begins_line (lexed_of r) r.at ≡ false) → Grows r s → Took r s (IsOnLine r.at s.at)
+took_line r s e f g =
+    record { grows = g; holds = λ n xs. (swift.no_token (sym (ap (λ x. x.at) (e n))), subst (λ x. swift.begins_line (lexed_of x) x.at ≡ false) (sym (e n)) (f n)) }
+
+-- the pieces of a statement make it
+pub took_stmt : (r s : Reader) {P : Source → Type 0} {f : StmtForm} {own : ℕ} {x y : Bool} → ((a : Source) → P a → SpellsStmt a r.at s.at f own x y) → Took r s P → Step r s (λ a. SpellsStmt a r.at s.at f own x y)
+took_stmt r s make d = step_of r s (took_as make d)
+
+pub stmt_of : (r s : Reader) {P : Source → Type 0} {f : StmtForm} {own : ℕ} {x y : Bool} → ((a : Source) → P a → SpellsStmt a r.at s.at f own x y) → Step r s P → Step r s (λ a. SpellsStmt a r.at s.at f own x y)
+stmt_of r s make d = step_as make d
+
+no_row : (l : Lexed) {i j : ℕ} → Row l [] i j → i ≡ j
+no_row l (swift.no_token e) = e
+
+pub line_first : (l : Lexed) {i j : ℕ} → Row l [] i j → swift.begins_line l j ≡ false → swift.begins_line l i ≡ false
+line_first l {i} {j} d e = subst (λ k. swift.begins_line l k ≡ false) (sym (no_row l d)) e
+
+-- an expression that is put
+abbrev pub IsPutAt : ℕ → ℕ → ℕ → ExprForm → ℕ → Source → Type 0
+IsPutAt i j p f t a = Row a.lexed [] i j × (slice_get a.exprs p ≡ Some (record { form = f; token = t }))
+
+pub took_put : (r s : Reader) {f : ExprForm} {t p : ℕ} → (IsNone s.refused → IsPut r s f t p) → Grows r s → Took r s (IsPutAt r.at s.at p f t)
+took_put r s put g = record { grows = g; holds = λ n xs. (swift.no_token (sym (put n).at), put_there (put n)) }
+
+pub tests_on : (a : Source) {i j k m n p q r t : ℕ} → SpellsTests a i j p → Row a.lexed (a_sign sign.Comma ∷ []) j k → IsExpr a k m q → IsPutAt m n r (form.Both p q) t a → t ≡ j → SpellsTests a i n r
+tests_on a {i = i} {j = j} {p = p} {q = q} {r = r} tests comma value put e =
+    let there : slice_get a.exprs r ≡ Some (record { form = form.Both p q; token = j }) = subst (λ x. slice_get a.exprs r ≡ Some (record { form = form.Both p q; token = x })) e put.1 in
+    subst (λ x. SpellsTests a i x r) (no_row a.lexed put.0) (swift.next_test tests comma value there)

@@ -105,10 +105,14 @@ assigning_in (kind.Sign sign.SubtractAssign) = Some assigning.Subtract
 assigning_in (kind.Sign sign.MultiplyAssign) = Some assigning.Multiply
 assigning_in _ = None
 
+-- A name that is declared, perhaps with a type, and its `=`.
+pub data SpellsDeclared (l : Lexed) : ℕ → ℕ → ℕ → Option ValueType → Type 0 where
+  declared : {i j k m : ℕ} {t : Option ValueType} → Row l (a_name ∷ []) i j → SpellsAnnotation l j k t → Row l (a_sign sign.Assign ∷ []) k m → SpellsDeclared l i m i t
+
 -- What becomes of a value, before it.
 pub data SpellsInto (l : Lexed) : ℕ → ℕ → Into → Type 0 where
-  by_let : {i j k m n : ℕ} {t : Option ValueType} → Row l (a_key word.Let ∷ []) i j → Row l (a_name ∷ []) j k → SpellsAnnotation l k m t → Row l (a_sign sign.Assign ∷ []) m n → SpellsInto l i n (into.Let j t)
-  by_var : {i j k m n : ℕ} {t : Option ValueType} → Row l (a_key word.Var ∷ []) i j → Row l (a_name ∷ []) j k → SpellsAnnotation l k m t → Row l (a_sign sign.Assign ∷ []) m n → SpellsInto l i n (into.Var j t)
+  by_let : {i j k name : ℕ} {t : Option ValueType} → Row l (a_key word.Let ∷ []) i j → SpellsDeclared l j k name t → SpellsInto l i k (into.Let name t)
+  by_var : {i j k name : ℕ} {t : Option ValueType} → Row l (a_key word.Var ∷ []) i j → SpellsDeclared l j k name t → SpellsInto l i k (into.Var name t)
   by_return : {i j : ℕ} → Row l (a_key word.Return ∷ []) i j → begins_line l j ≡ false → SpellsInto l i j into.Return
   by_name : {i j : ℕ} → Row l (a_name ∷ a_sign sign.Assign ∷ []) i j → SpellsInto l i j (into.Assign i)
   let_go : {i j : ℕ} → Row l (the_word (codes "_") ∷ a_sign sign.Assign ∷ []) i j → SpellsInto l i j into.Nothing
@@ -151,6 +155,10 @@ pub data SpellsFront (l : Lexed) : ℕ → ℕ → ℕ → Type 0 where
   with_parameter : {i j k : ℕ} → begins_line l i ≡ false → Row l (a_sign sign.OpenBrace ∷ []) i j → Row l (a_name ∷ a_key word.In ∷ []) j k → SpellsFront l i k j
   without : {i j : ℕ} → begins_line l i ≡ false → Row l (a_sign sign.OpenBrace ∷ []) i j → SpellsFront l i j 0
 
+-- The type of the results of a group, in parentheses.
+pub data SpellsGroup (l : Lexed) : ℕ → ℕ → ValueType → Type 0 where
+  group_of : {i j k m : ℕ} {t : ValueType} → Row l (a_sign sign.Open ∷ the_word (codes "of") ∷ a_sign sign.Colon ∷ []) i j → SpellsType l j k t → Row l (a_sign sign.Dot ∷ a_key word.Own ∷ a_sign sign.Close ∷ []) k m → SpellsGroup l i m t
+
 -- what a closure becomes behind its head, and where its value goes
 abbrev pub closed_form : HeadForm → Into → ℕ → ℕ → StmtForm
 closed_form (head.Task is_own p) (into.Let name t) captures body = form.Task name (record { is_detached = is_own; priority = p; body = body; captures = captures })
@@ -187,8 +195,8 @@ pub data SpellsHead (s : Source) : ℕ → ℕ → HeadForm → ℕ → Type 0 w
   detached : {i j k p : ℕ} → Row s.lexed (the_word (codes "Task") ∷ a_sign sign.Dot ∷ the_word (codes "detached") ∷ []) i j → SpellsPriority s.lexed j k p → SpellsHead s i k (head.Task true p) i
   add : {i j k m p : ℕ} → Row s.lexed (a_name ∷ a_sign sign.Dot ∷ []) i j → Row s.lexed (the_word (codes "addTask") ∷ []) j k → SpellsPriority s.lexed k m p → SpellsHead s i m (head.Add false p) i
   add_only : {i j k m p : ℕ} → Row s.lexed (a_name ∷ a_sign sign.Dot ∷ []) i j → Row s.lexed (the_word (codes "addTaskUnlessCancelled") ∷ []) j k → SpellsPriority s.lexed k m p → SpellsHead s i m (head.Add true p) i
-  group : {i j k m : ℕ} {t : ValueType} → Row s.lexed (the_word (codes "withTaskGroup") ∷ a_sign sign.Open ∷ the_word (codes "of") ∷ a_sign sign.Colon ∷ []) i j → SpellsType s.lexed j k t → Row s.lexed (a_sign sign.Dot ∷ a_key word.Own ∷ a_sign sign.Close ∷ []) k m → SpellsHead s i m (head.Group t false) i
-  throwing_group : {i j k m : ℕ} {t : ValueType} → Row s.lexed (the_word (codes "withThrowingTaskGroup") ∷ a_sign sign.Open ∷ the_word (codes "of") ∷ a_sign sign.Colon ∷ []) i j → SpellsType s.lexed j k t → Row s.lexed (a_sign sign.Dot ∷ a_key word.Own ∷ a_sign sign.Close ∷ []) k m → SpellsHead s i m (head.Group t true) i
+  group : {i j k : ℕ} {t : ValueType} → Row s.lexed (the_word (codes "withTaskGroup") ∷ []) i j → SpellsGroup s.lexed j k t → SpellsHead s i k (head.Group t false) i
+  throwing_group : {i j k : ℕ} {t : ValueType} → Row s.lexed (the_word (codes "withThrowingTaskGroup") ∷ []) i j → SpellsGroup s.lexed j k t → SpellsHead s i k (head.Group t true) i
   bind : {i j k m n value : ℕ} → Row s.lexed (a_name ∷ a_sign sign.Dot ∷ a_sign sign.Dollar ∷ []) i j → Row s.lexed (a_name ∷ a_sign sign.Dot ∷ the_word (codes "withValue") ∷ a_sign sign.Open ∷ []) j k → IsExpr s k m value → Row s.lexed (a_sign sign.Close ∷ []) m n → SpellsHead s i n (head.Bind i value) j
 
 -- The same behind `try` and `await`, where the flags say so.
@@ -205,7 +213,7 @@ mutual
     toggled : {i j k : ℕ} {own : Bool} → SpellsTarget s.lexed i j own → Row s.lexed (a_name ∷ a_sign sign.Dot ∷ the_word (codes "toggle") ∷ a_sign sign.Open ∷ a_sign sign.Close ∷ []) j k → SpellsStmt s i k (form.Toggle own) j false false
     returned : {i j : ℕ} → Row s.lexed (a_key word.Return ∷ []) i j → ends_return (kind_at s.lexed.tokens j) ≡ true → SpellsStmt s i j form.Return i false false
     thrown : {i j k v : ℕ} → Row s.lexed (a_key word.Throw ∷ []) i j → begins_line s.lexed j ≡ false → IsExpr s j k v → SpellsStmt s i k (form.Throw v) i false false
-    async_let : {i j k m n o v : ℕ} {t : Option ValueType} → Row s.lexed (a_key word.Async ∷ a_key word.Let ∷ []) i j → Row s.lexed (a_name ∷ []) j k → SpellsAnnotation s.lexed k m t → Row s.lexed (a_sign sign.Assign ∷ []) m n → IsExpr s n o v → SpellsStmt s i o (form.AsyncLet t v) j false false
+    async_let : {i j k m name v : ℕ} {t : Option ValueType} → Row s.lexed (a_key word.Async ∷ a_key word.Let ∷ []) i j → SpellsDeclared s.lexed j k name t → IsExpr s k m v → SpellsStmt s i m (form.AsyncLet t v) name false false
     if_else : {i j k m n test held failed : ℕ} → Row s.lexed (a_key word.If ∷ []) i j → IsTest s j k test → SpellsBlock s k m held → SpellsElse s m n failed → SpellsStmt s i n (form.If test held failed) i false false
     guard : {i j k m n test body : ℕ} → Row s.lexed (a_key word.Guard ∷ []) i j → IsTest s j k test → Row s.lexed (a_key word.Else ∷ []) k m → SpellsBlock s m n body → SpellsStmt s i n (form.Guard test body) i false false
     while_test : {i j k m test body : ℕ} → Row s.lexed (a_key word.While ∷ []) i j → IsTest s j k test → SpellsBlock s k m body → SpellsStmt s i m (form.While test body) i false false

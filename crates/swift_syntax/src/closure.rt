@@ -3,7 +3,7 @@
 ghost use Rattle.std.specs.Prelude.{◌≡◌, ◌↔◌, IfNone, IfSome, IsNone, IsTrue};
 ghost use Rattle.swift_syntax.specs.Expressions.{kind_at};
 ghost use Rattle.swift_syntax.specs.ReadersInside.{Adds, Grows, lexed_of};
-ghost use Rattle.swift_syntax.specs.Statements.{SpellsCovered, SpellsFront, SpellsHead, SpellsNames, SpellsPerhaps, SpellsPriority, closed_form, closed_token};
+ghost use Rattle.swift_syntax.specs.Statements.{SpellsCovered, SpellsFront, SpellsGroup, SpellsHead, SpellsNames, SpellsPerhaps, SpellsPriority, closed_form, closed_token};
 
 use crate::expression::expression;
 use crate::reader::Reader;
@@ -113,12 +113,11 @@ fn task_head(reader: &mut Reader<'_>) -> HeadForm
     ensures grows { Grows reader.old reader.new }
 {
     reader.word("Task");
-    let is_detached = reader.takes(Sign::Dot);
-    if is_detached {
+    if reader.takes(Sign::Dot) {
         reader.word("detached");
+        return HeadForm::Task(true, priority(reader));
     }
-    let priority = priority(reader);
-    HeadForm::Task(is_detached, priority)
+    HeadForm::Task(false, priority(reader))
 }
 
 fn add_head(reader: &mut Reader<'_>) -> HeadForm
@@ -127,30 +126,44 @@ fn add_head(reader: &mut Reader<'_>) -> HeadForm
 {
     reader.name();
     reader.sign(Sign::Dot);
-    let only = reader.is_word("addTaskUnlessCancelled");
-    reader.name();
-    let priority = priority(reader);
-    HeadForm::Add(only, priority)
+    if reader.is_word("addTaskUnlessCancelled") {
+        reader.word("addTaskUnlessCancelled");
+        return HeadForm::Add(true, priority(reader));
+    }
+    reader.word("addTask");
+    HeadForm::Add(false, priority(reader))
 }
 
-fn group_head(reader: &mut Reader<'_>) -> HeadForm
-    ensures spelled { IsNone reader.new.refused → Adds reader.old reader.new (λ s. SpellsHead s reader.old.at reader.new.at result reader.old.at) }
+// Takes the type of the results of a group, in parentheses.
+fn group_type(reader: &mut Reader<'_>) -> ValueType
+    ensures spelled { IsNone reader.new.refused → SpellsGroup (lexed_of reader.new) reader.old.at reader.new.at result }
     ensures grows { Grows reader.old reader.new }
 {
-    let is_throwing = reader.is_word("withThrowingTaskGroup");
-    reader.name();
     reader.sign(Sign::Open);
     reader.word("of");
     reader.sign(Sign::Colon);
     let found = reader.value_type();
     reader.sign(Sign::Dot);
     reader.key(Word::Own);
-    if reader.takes(Sign::Comma) {
+    if reader.is_sign(Sign::Comma) {
         // The type of its result would have to be compared; Swift infers it.
-        reader.refuse(Rule::NotYet, reader.at);
+        reader.refuse(Rule::NotYet, reader.at.saturating_add(1));
+        return found;
     }
     reader.sign(Sign::Close);
-    HeadForm::Group(found, is_throwing)
+    found
+}
+
+fn group_head(reader: &mut Reader<'_>) -> HeadForm
+    ensures spelled { IsNone reader.new.refused → Adds reader.old reader.new (λ s. SpellsHead s reader.old.at reader.new.at result reader.old.at) }
+    ensures grows { Grows reader.old reader.new }
+{
+    if reader.is_word("withThrowingTaskGroup") {
+        reader.word("withThrowingTaskGroup");
+        return HeadForm::Group(group_type(reader), true);
+    }
+    reader.word("withTaskGroup");
+    HeadForm::Group(group_type(reader), false)
 }
 
 fn bind_head(reader: &mut Reader<'_>) -> (HeadForm, usize)
@@ -257,25 +270,29 @@ pub(crate) fn closure_front(reader: &mut Reader<'_>) -> Closure
     ensures spelled { IsNone reader.new.refused → SpellsFront (lexed_of reader.new) reader.old.at reader.new.at result.parameter }
     ensures grows { Grows reader.old reader.new }
 {
-    let mut found = Closure {
-        captures: 0,
-        parameter: 0,
-        body: 0,
-    };
-    if reader.here().begins_line {
-        reader.refuse(Rule::NewStatement, reader.at);
-    }
+    reader.on_line(Rule::NewStatement);
     reader.sign(Sign::OpenBrace);
     if reader.takes(Sign::OpenBracket) {
-        found.captures = captured(reader);
-        return found;
+        return opened(captured(reader), 0);
     }
     let next = reader.at.saturating_add(1);
     if is_key_at(reader, next, Word::In) {
-        found.parameter = reader.name();
+        let parameter = reader.name();
         reader.key(Word::In);
+        return opened(0, parameter);
     }
-    found
+    opened(0, 0)
+}
+
+// A closure without statements.
+fn opened(captures: usize, parameter: usize) -> Closure
+    ensures { result ≡ record { captures = captures; parameter = parameter; body = 0 } }
+{
+    Closure {
+        captures,
+        parameter,
+        body: 0,
+    }
 }
 
 /// The statement of a closure with what stands before it, and its token.

@@ -5,7 +5,7 @@
 ghost use Rattle.std.specs.Prelude.{◌≡◌, ◌↔◌, true, false, IsNone, IsSome, IsTrue};
 ghost use Rattle.swift_syntax.specs.Expressions.{after, kind_at, token_at};
 ghost use Rattle.swift_syntax.specs.ReadersInside.{Extends, Grows, IsLinked, IsPut, IsStmtPut, lexed_of, taken, takes_if};
-ghost use Rattle.swift_syntax.specs.Statements.{Separates, SpellsAnnotation, SpellsType, spells_at};
+ghost use Rattle.swift_syntax.specs.Statements.{Separates, SpellsAnnotation, SpellsType, begins_line, spells_at};
 
 use crate::rule::{Breach, Rule};
 use crate::sign::Sign;
@@ -240,8 +240,20 @@ impl<'a> Reader<'a> {
         ensures taken { IsNone self.new.refused → (spells_at self.old.text.now self.old.tokens.now self.old.at name.now ≡ true) × (self.new ≡ taken self.old) }
         ensures grows { Grows self.old self.new }
     {
-        if !self.takes_word(name) {
+        if !self.is_word(name) {
             self.unexpected();
+        }
+        self.name();
+    }
+
+    /// Wants the next token on the line of what stands before it.
+    pub(crate) fn on_line(&mut self, rule: Rule)
+        ensures same { IsNone self.new.refused → self.new ≡ self.old }
+        ensures line { IsNone self.new.refused → begins_line (lexed_of self.old) self.old.at ≡ false }
+        ensures grows { Grows self.old self.new }
+    {
+        if self.here().begins_line {
+            self.refuse(rule, self.at);
         }
     }
 

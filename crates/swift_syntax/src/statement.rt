@@ -3,7 +3,7 @@
 ghost use Rattle.std.specs.Prelude.{◌≡◌, true, false, IfNone, IfSome, IsFalse, IsNone, IsSome, IsTrue, ℕ};
 ghost use Rattle.swift_syntax.specs.Expressions.{kind_at};
 ghost use Rattle.swift_syntax.specs.ReadersInside.{Adds, AddsStmt, Extends, Grows, IsBegun, IsStmtPut, lexed_of};
-ghost use Rattle.swift_syntax.specs.Statements.{SpellsBlock, SpellsElse, SpellsInto, SpellsNext, SpellsRange, SpellsRest, SpellsTarget, assigning_in, begins_line, closed_form, closed_token, ends_return};
+ghost use Rattle.swift_syntax.specs.Statements.{SpellsBlock, SpellsDeclared, SpellsElse, SpellsInto, SpellsNext, SpellsRange, SpellsRest, SpellsTarget, assigning_in, begins_line, closed_form, closed_token, ends_return};
 ghost use Rattle.swift_syntax.specs.Statements as statements;
 
 use crate::closure::{Closure, ClosureHead, HeadForm, closure_front, closure_stmt, head};
@@ -13,7 +13,7 @@ use crate::reader::Reader;
 use crate::rule::Rule;
 use crate::sign::Sign;
 use crate::token::TokenKind;
-use crate::tree::{Assigning, Into, StmtForm};
+use crate::tree::{Assigning, Into, StmtForm, ValueType};
 use crate::word::Word;
 
 // How the sign at a place assigns, if it does.
@@ -62,9 +62,7 @@ fn throw_stmt(reader: &mut Reader<'_>) -> usize
 {
     let token = reader.at;
     reader.key(Word::Throw);
-    if reader.here().begins_line {
-        reader.refuse(Rule::ReturnLine, reader.at);
-    }
+    reader.on_line(Rule::ReturnLine);
     let value = expression(reader);
     reader.stmt(StmtForm::Throw(value), token)
 }
@@ -132,17 +130,40 @@ fn into_of(reader: &mut Reader<'_>) -> Into
     ensures grows { Grows reader.old reader.new }
 {
     if reader.is_word("_") && reader.is_sign_ahead(1, Sign::Assign) {
-        reader.take();
+        reader.word("_");
         want_even(reader);
-        reader.take();
+        reader.sign(Sign::Assign);
         return Into::Nothing;
     }
     if reader.is_sign_ahead(1, Sign::Assign) {
         let name = reader.name();
-        reader.take();
+        reader.sign(Sign::Assign);
         return Into::Assign(name);
     }
     Into::Nothing
+}
+
+// Refuses a name without a value.
+fn want_value(reader: &mut Reader<'_>, name: usize)
+    ensures same { IsNone reader.new.refused → reader.new ≡ reader.old }
+    ensures grows { Grows reader.old reader.new }
+{
+    if !reader.is_sign(Sign::Assign) {
+        reader.refuse(Rule::NotYet, name);
+    }
+}
+
+// A name that is declared, perhaps with a type, up to its `=`.
+fn declared_name(reader: &mut Reader<'_>) -> (usize, Option<ValueType>)
+    ensures spelled { IsNone reader.new.refused → SpellsDeclared (lexed_of reader.new) reader.old.at reader.new.at result.0 result.1 }
+    ensures grows { Grows reader.old reader.new }
+{
+    let name = reader.name();
+    let found = reader.annotation();
+    want_value(reader, name);
+    want_even(reader);
+    reader.sign(Sign::Assign);
+    (name, found)
 }
 
 // `let` or `var` up to its `=`.
@@ -150,22 +171,13 @@ fn declared(reader: &mut Reader<'_>) -> Into
     ensures spelled { IsNone reader.new.refused → SpellsInto (lexed_of reader.new) reader.old.at reader.new.at result }
     ensures grows { Grows reader.old reader.new }
 {
-    let is_var = reader.takes_key(Word::Var);
-    if !is_var {
-        reader.key(Word::Let);
+    if reader.takes_key(Word::Var) {
+        let (name, found) = declared_name(reader);
+        return Into::Var(name, found);
     }
-    let name = reader.name();
-    let found = reader.annotation();
-    if !reader.is_sign(Sign::Assign) {
-        reader.refuse(Rule::NotYet, name);
-    }
-    want_even(reader);
-    reader.sign(Sign::Assign);
-    if is_var {
-        Into::Var(name, found)
-    } else {
-        Into::Let(name, found)
-    }
+    reader.key(Word::Let);
+    let (name, found) = declared_name(reader);
+    Into::Let(name, found)
 }
 
 // The token that a value is told by.
@@ -345,6 +357,21 @@ fn do_catch(reader: &mut Reader<'_>, blocks: u32) -> usize
     reader.stmt(StmtForm::DoCatch(body, caught), token)
 }
 
+// A `return`, perhaps with a value.
+#[cycle(statement)]
+fn returned(reader: &mut Reader<'_>, blocks: u32) -> usize
+    ensures spelled { IsNone reader.new.refused → IsBegun reader.old → AddsStmt reader.old reader.new reader.old.at result }
+    ensures extends { Extends reader.old reader.new }
+{
+    let token = reader.at;
+    reader.key(Word::Return);
+    if goes_on(reader) {
+        valued(reader, blocks, Into::Return, token)
+    } else {
+        reader.stmt(StmtForm::Return, token)
+    }
+}
+
 // A statement. Its place.
 #[cycle(statement)]
 fn statement(reader: &mut Reader<'_>, blocks: u32) -> usize
@@ -363,14 +390,7 @@ fn statement(reader: &mut Reader<'_>, blocks: u32) -> usize
         TokenKind::Key(Word::Do) => do_catch(reader, blocks),
         TokenKind::Key(Word::Async) => async_let(reader),
         TokenKind::Key(Word::Throw) => throw_stmt(reader),
-        TokenKind::Key(Word::Return) => {
-            reader.take();
-            if goes_on(reader) {
-                valued(reader, blocks, Into::Return, token)
-            } else {
-                reader.stmt(StmtForm::Return, token)
-            }
-        }
+        TokenKind::Key(Word::Return) => returned(reader, blocks),
         _ => match simple(reader) {
             Some(place) => place,
             None => {
@@ -381,6 +401,19 @@ fn statement(reader: &mut Reader<'_>, blocks: u32) -> usize
     }
 }
 
+// Takes the `self.` before a field that is assigned, if it stands at the front.
+fn target(reader: &mut Reader<'_>) -> bool
+    ensures spelled { SpellsTarget (lexed_of reader.new) reader.old.at reader.new.at result }
+    ensures grows { Grows reader.old reader.new }
+{
+    if reader.is_key(Word::Own) && reader.is_sign_ahead(1, Sign::Dot) {
+        reader.take();
+        reader.take();
+        return true;
+    }
+    false
+}
+
 // An assignment or a toggle of a field by `self`, or of a name, if one stands at the front.
 fn simple(reader: &mut Reader<'_>) -> Option<usize>
     ensures spelled { IsNone reader.new.refused → IfSome result (λ p. AddsStmt reader.old reader.new reader.old.at p) }
@@ -389,10 +422,7 @@ fn simple(reader: &mut Reader<'_>) -> Option<usize>
     ensures extends { Extends reader.old reader.new }
 {
     let at = reader.at;
-    let is_own = reader.is_key(Word::Own) && reader.is_sign_ahead(1, Sign::Dot);
-    if is_own {
-        reader.at = at.saturating_add(2);
-    }
+    let is_own = target(reader);
     match changed_here(reader, is_own) {
         Some(place) => Some(place),
         None => {

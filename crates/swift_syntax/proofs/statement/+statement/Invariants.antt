@@ -19,6 +19,9 @@ decreases-for_in l = l.blocks * 8 + 2
 abbrev pub decreases-do_catch : goal.decreases-do_catch
 decreases-do_catch l = l.blocks * 8 + 2
 
+abbrev pub decreases-returned : goal.decreases-returned
+decreases-returned l = l.blocks * 8 + 2
+
 abbrev pub decreases-statement : goal.decreases-statement
 decreases-statement l = l.blocks * 8 + 7
 
