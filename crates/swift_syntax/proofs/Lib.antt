@@ -1,3 +1,4 @@
+pub mod Chains
 pub mod Grown
 pub mod Numbers
 pub mod ReadSoFar

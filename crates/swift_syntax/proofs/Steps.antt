@@ -15,7 +15,7 @@ use Rattle.swift_syntax.specs.declared.tree.StmtForm.{StmtForm}
 use Rattle.swift_syntax.specs.declared.word.Word.{Word}
 use Rattle.swift_syntax.specs.Expressions.{SpellsExpr, SpellsOperands, Reads, after, kind_at}
 use Rattle.swift_syntax.specs.ReadersInside.{Adds, AddsStmt, Extends, Grows, IsBegun, IsPut, IsStmtPut, lexed_of, source_with, taken, takes_if}
-use Rattle.swift_syntax.specs.Statements.{Is, IsExpr, Lexed, Row, Source, SpellsPerhaps, SpellsStmt, SpellsTests, Want, a_key, a_name, a_sign, spells_at, the_word}
+use Rattle.swift_syntax.specs.Statements.{Is, IsExpr, IsSum, IsTest, Lexed, Row, Source, SpellsPerhaps, SpellsStmt, SpellsTests, Want, a_key, a_name, a_sign, spells_at, the_word}
 use Rattle.swift_syntax.specs.Statements as swift
 use Rattle.swift_syntax.proofs.Grown.{extends_of, extends_on, grows_on, grows_same, put_there}
 use Rattle.swift_syntax.proofs.Refused.{grows_taken}
@@ -37,7 +37,7 @@ lexed_on r s e =
     first ∙ ap (λ t. record { text = r.text.now; tokens = t.now }) e.tokens
 
 -- what a later reader reads, with more statements
-more_read : (r s : Reader) (xs ys : List Stmt) → Extends r s → IsMore (source_with r xs) (source_with s (xs ++ ys))
+pub more_read : (r s : Reader) (xs ys : List Stmt) → Extends r s → IsMore (source_with r xs) (source_with s (xs ++ ys))
 more_read r s xs ys e = record { lexed = lexed_on r s e; more_exprs = e.more; exprs = e.exprs; more_stmts = ys; stmts = refl }
 
 same_read : (r s : Reader) (xs : List Stmt) → Extends r s → IsMore (source_with r xs) (source_with s xs)
@@ -213,3 +213,17 @@ pub tests_on : (a : Source) {i j k m n p q r t : ℕ} → SpellsTests a i j p �
 tests_on a {i = i} {j = j} {p = p} {q = q} {r = r} tests comma value put e =
     let there : slice_get a.exprs r ≡ Some (record { form = form.Both p q; token = j }) = subst (λ x. slice_get a.exprs r ≡ Some (record { form = form.Both p q; token = x })) e put.1 in
     subst (λ x. SpellsTests a i x r) (no_row a.lexed put.0) (swift.next_test tests comma value there)
+
+pub took_sum : (r s : Reader) (p : ℕ) → (IsNone s.refused → Reads (SpellsOperands s.tokens.now 4) s.tree.value.exprs.items r.at s.at p) → Grows r s → Took r s (λ a. IsSum a r.at s.at p)
+took_sum r s p d g = record { grows = g; holds = λ n xs. d n }
+
+-- what is read of a statement by a call that puts statements
+pub step_call : (r s : Reader) {P : Source → Type 0} → (IsNone s.refused → IsBegun r → Adds r s P) → Extends r s → Step r s P
+step_call r s d e = record { extends = e; adds = d }
+
+pub test_read : (r s : Reader) {p : ℕ} → (IsNone s.refused → Adds r s (λ a. IsTest a r.at s.at p)) → Grows r s → Step r s (λ a. IsTest a r.at s.at p)
+test_read r s d g = record { extends = extends_of g; adds = λ n b. d n }
+
+-- a row of tokens, and what is read behind it
+pub row_also : (r s t : Reader) {ws : List Want} {Q : Source → Type 0} → Took r s (λ a. Row a.lexed ws r.at s.at) → Step s t Q → Step r t (λ a. Row a.lexed ws r.at s.at × Q a)
+row_also r s t {ws} d e = also r s t (row_stays ws r.at s.at) (step_of r s d) e

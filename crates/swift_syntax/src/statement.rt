@@ -340,6 +340,16 @@ fn for_in(reader: &mut Reader<'_>, blocks: u32) -> usize
     reader.stmt(StmtForm::For(from, to, is_closed, body), name)
 }
 
+// Refuses a pattern behind `catch`.
+fn want_no_pattern(reader: &mut Reader<'_>)
+    ensures same { IsNone reader.new.refused → reader.new ≡ reader.old }
+    ensures grows { Grows reader.old reader.new }
+{
+    if !reader.is_sign(Sign::OpenBrace) {
+        reader.refuse(Rule::CatchPattern, reader.at);
+    }
+}
+
 // A `do` with its `catch`.
 #[cycle(statement)]
 fn do_catch(reader: &mut Reader<'_>, blocks: u32) -> usize
@@ -350,9 +360,7 @@ fn do_catch(reader: &mut Reader<'_>, blocks: u32) -> usize
     reader.key(Word::Do);
     let body = block(reader, blocks);
     reader.key(Word::Catch);
-    if !reader.is_sign(Sign::OpenBrace) {
-        reader.refuse(Rule::CatchPattern, reader.at);
-    }
+    want_no_pattern(reader);
     let caught = block(reader, blocks);
     reader.stmt(StmtForm::DoCatch(body, caught), token)
 }
