@@ -1,5 +1,5 @@
 -- What the methods, invariants and expectations of a file become. (Our own.)
-use Rattle.std.specs.Prelude.{ℕ, zero, ◌≡◌, ◌==◌, ◌++◌, ◌&&◌, Bool, true, false, not, List, [], ◌∷◌, length, nat_le, slice_range}
+use Rattle.std.specs.Prelude.{ℕ, ◌≡◌, ◌==◌, ◌&&◌, if◌then◌else◌, Bool, true, false, not, List, [], ◌∷◌, length, nat_le, slice_range}
 use Rattle.swift_syntax.specs.Expressions.{after}
 use Rattle.swift_syntax.specs.declared.token.Token.{Token}
 use Rattle.swift_syntax.specs.declared.tree.ExpectDecl.{ExpectDecl}
@@ -123,4 +123,4 @@ pub record IsCodeOf (text : List ℕ) (tokens : List Token) (tree : Tree) (code 
   pub main : InOrder MethodDecl LowersMethod (length tree.methods.items) tree.mains.items c d
   pub invariants : AsksAll InvariantDecl AsksInvariant tree.invariants.items d e code.invariants.items
   pub expectations : AsksAll ExpectDecl AsksExpectation tree.expectations.items e f code.expectations.items
-  pub code : HasPut f code
+  pub is_put : HasPut f code

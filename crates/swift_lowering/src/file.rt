@@ -1,10 +1,10 @@
 //! Whole files.
 
-ghost use Rattle.std.specs.Prelude.{◌≡◌, ℕ, All, IfSome, IsNone, length};
+ghost use Rattle.std.specs.Prelude.{◌≡◌, ◌++◌, ◌∷◌, [], ℕ, All, IfSome, IsNone, length};
 ghost use Rattle.swift_syntax.specs.Places.{IsBlamedIn, IsTokenOf};
 ghost use Rattle.swift_expressions.specs.Instructions.{KeepsRefusal};
 ghost use Rattle.swift_expressions.specs.States.{Becomes, state_of};
-ghost use Rattle.swift_lowering.specs.Files.{AsksAll, AsksExpectation, AsksInvariant, BeginsMain, BeginsMethod, InOrder, IsAsked, IsCodeOf, LowersBody, LowersMethod, TakesParam, in_method, params_of, placed};
+ghost use Rattle.swift_lowering.specs.Files.{AsksAll, AsksExpectation, AsksInvariant, BeginsMain, BeginsMethod, InOrder, IsAsked, IsCodeOf, LowersBody, LowersMethod, TakesParam, has_result, in_method, is_returned, params_of};
 
 use crate::alone::lone_value;
 use crate::checks::{check_globals, check_members, check_starts, check_whole};
@@ -30,7 +30,7 @@ pub struct Lowered {
 }
 
 // The parameters of a method.
-fn params_of<'a>(tree: &'a Box<Tree>, method: MethodDecl) -> &'a [ParamDecl]
+fn params_of(tree: &Box<Tree>, method: MethodDecl) -> &[ParamDecl]
     ensures { result.now ≡ params_of tree.now.value method }
 {
     tree.params
@@ -43,9 +43,8 @@ fn declare_param(lowering: &mut Lowering<'_>, param: ParamDecl)
     ensures takes { (place : ℕ) → IsNone lowering.new.refused → TakesParam place param (state_of lowering.old) (state_of lowering.new) }
     ensures refused { KeepsRefusal lowering.old lowering.new }
 {
-    if standing_at(lowering, param.name).is_some() {
-        lowering.refuse(Rule::NameTwice, param.name);
-    }
+    let is_twice = standing_at(lowering, param.name).is_some();
+    lowering.refuse_where(is_twice, Rule::NameTwice, param.name);
     let variable = lowering.variable(param.name, true);
     let kind = kind_of(param.value_type);
     declare(lowering, param.name, variable, kind, false);
@@ -62,23 +61,47 @@ fn declare_params(lowering: &mut Lowering<'_>, method: MethodDecl)
     }
 }
 
+// Whether something is returned.
+fn has_result(kind: Kind) -> bool
+    ensures { result ≡ has_result kind }
+{
+    match kind {
+        Kind::Void => false,
+        Kind::Int | Kind::Bool | Kind::Urgency => true,
+    }
+}
+
+// Whether a body is but a value, at this place where that is not 0, which is what its method returns.
+fn is_returned(method: MethodDecl, lone: usize) -> bool
+    ensures { result ≡ is_returned method lone }
+{
+    lone != 0 && has_result(kind_of(method.result))
+}
+
+// Refuses a method with a value that may end without one.
+fn want_return(lowering: &mut Lowering<'_>, method: MethodDecl)
+    ensures state { Becomes lowering.new (state_of lowering.old) }
+    ensures refused { KeepsRefusal lowering.old lowering.new }
+{
+    if has_result(kind_of(method.result)) && !exits(lowering, method.body) {
+        lowering.refuse(Rule::NoReturn, method.end);
+    }
+}
+
 // The body of a method: a value alone is what is returned.
 fn method_body(lowering: &mut Lowering<'_>, method: MethodDecl)
     ensures body { IsNone lowering.new.refused → LowersBody method (state_of lowering.old) (state_of lowering.new) }
     ensures refused { KeepsRefusal lowering.old lowering.new }
 {
-    let wanted = kind_of(method.result);
     let lone = lone_value(lowering, method.body);
-    if lone != 0 && wanted != Kind::Void {
+    if is_returned(method, lone) {
         let found = expression(lowering, lone);
-        want(lowering, found, wanted, method.name);
+        want(lowering, found, kind_of(method.result), method.name);
         lowering.put(Instruction::Return(found.value));
         return;
     }
     body_statements(lowering, method.body);
-    if wanted != Kind::Void && !exits(lowering, method.body) {
-        lowering.refuse(Rule::NoReturn, method.end);
-    }
+    want_return(lowering, method);
 }
 
 // A method begins, or `main`, as the unit at its place.
@@ -171,6 +194,17 @@ fn lower_invariant(lowering: &mut Lowering<'_>, invariant: InvariantDecl) -> usi
     lower_test(lowering, invariant.test)
 }
 
+// Puts a value behind others.
+fn keep_value(lowering: &mut Lowering<'_>, values: &mut Vec<usize>, value: usize)
+    ensures kept { IsNone lowering.new.refused → values.new.items ≡ values.old.items ++ value ∷ [] }
+    ensures state { Becomes lowering.new (state_of lowering.old) }
+    ensures refused { KeepsRefusal lowering.old lowering.new }
+{
+    if values.push(value).is_err() {
+        lowering.refuse(Rule::Memory, 0);
+    }
+}
+
 // The values of invariants.
 fn lower_invariants(
     alloc: Global,
@@ -183,9 +217,7 @@ fn lower_invariants(
     let mut values = Vec::new(alloc);
     for invariant in invariants.iter() {
         let value = lower_invariant(lowering, *invariant);
-        if values.push(value).is_err() {
-            lowering.refuse(Rule::Memory, 0);
-        }
+        keep_value(lowering, &mut values, value);
     }
     values
 }
@@ -212,9 +244,7 @@ fn lower_expectations(
     let mut values = Vec::new(alloc);
     for expectation in expectations.iter() {
         let value = lower_expectation(lowering, *expectation);
-        if values.push(value).is_err() {
-            lowering.refuse(Rule::Memory, 0);
-        }
+        keep_value(lowering, &mut values, value);
     }
     values
 }
@@ -232,11 +262,11 @@ pub fn lower(alloc: Global, text: &[u8], tokens: &[Token], tree: &Box<Tree>) -> 
 }
 
 // The instructions of a file, and the first rule that it breaks.
-fn lower_all(
+fn lower_all<'a>(
     alloc: Global,
-    text: &[u8],
-    tokens: &[Token],
-    tree: &Box<Tree>,
+    text: &'a [u8],
+    tokens: &'a [Token],
+    tree: &'a Box<Tree>,
 ) -> (Code, Option<Breach>)
     ensures code { IsNone result.1 → IsCodeOf text.now tokens.now tree.now.value result.0 }
 {
@@ -251,7 +281,8 @@ fn lower_all(
     let invariants = lower_invariants(alloc, &mut lowering, &tree.invariants);
     let expectations = lower_expectations(alloc, &mut lowering, &tree.expectations);
     check_whole(&mut lowering);
-    lowering.code.invariants = invariants;
-    lowering.code.expectations = expectations;
-    (lowering.code, lowering.refused)
+    let mut code = lowering.code;
+    code.invariants = invariants;
+    code.expectations = expectations;
+    (code, lowering.refused)
 }
