@@ -1,5 +1,5 @@
 -- What steps in order put.
-use Rattle.std.proofs.Common.{◌≡◌, ◌<◌, ◌≤◌, ◌+◌, ℕ, Bool, true, false, List, [], ◌∷◌, ◌++◌, length, get_or, drop, sym, ap, subst, ◌∙◌, append_assoc}
+use Rattle.std.proofs.Common.{◌≡◌, ◌<◌, ◌≤◌, ◌+◌, ℕ, Bool, true, false, Option, Some, None, IsNone, is_some, rules, List, [], ◌∷◌, ◌++◌, length, get_or, drop, sym, ap, subst, ◌∙◌, append_assoc}
 use Rattle.std.proofs.lemmas.List.{drop_all, drop_more}
 use Rattle.swift_syntax.specs.Expressions.{after}
 use Rattle.swift_syntax.specs.declared.tree.MethodDecl.{MethodDecl}
@@ -68,3 +68,16 @@ method_lowered {s} {r} {u} {v} {w} {unit = unit} {from} {to} {m = m} begins take
   body = body;
   state = ends ∙ ap (λ (n : ℕ). with_bounds unit n to m.end w) at_from ∙ ap (λ (n : ℕ). with_bounds unit (length s.instructions) n m.end w) (at_to ∙ ap (λ (x : State). length x.instructions) leaves) ∙ ap (with_bounds unit (length s.instructions) (length v.instructions) m.end) leaves;
 }
+
+-- what is made of a value is none only where that is
+pub none_before : {A B : Type 0} (a : Option A) (b : Option B) → is_some b ≡ is_some a → IsNone b → IsNone a
+none_before None b e n = search rules
+none_before (Some x) None e n = absurd (cc)
+none_before (Some x) (Some y) e n = n
+
+-- the same steps for the same list
+pub ordered_of : {A : Type 0} (Step : ℕ → A → State → State → Type 0) {place : ℕ} {xs ys : List A} {r s t : State} → xs ≡ ys → r ≡ s → InOrder A Step place xs r t → InOrder A Step place ys s t
+ordered_of {A} Step {place} {xs} {ys} {r} {s} {t} e same h = subst (λ (zs : List A). InOrder A Step place zs s t) e (subst (λ (x : State). InOrder A Step place xs x t) same h)
+
+pub asked_of : {A : Type 0} (Asks : A → State → State → ℕ → Type 0) {xs ys : List A} {s t : State} {values : List ℕ} → xs ≡ ys → AsksAll A Asks xs s t values → AsksAll A Asks ys s t values
+asked_of {A} Asks {xs} {ys} {s} {t} {values} e h = subst (λ (zs : List A). AsksAll A Asks zs s t values) e h

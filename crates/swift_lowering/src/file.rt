@@ -270,14 +270,16 @@ fn lower_all<'a>(
 ) -> (Code, Option<Breach>)
     ensures code { IsNone result.1 → IsCodeOf text.now tokens.now tree.now.value result.0 }
 {
+    let methods: &[MethodDecl] = &tree.methods;
+    let mains: &[MethodDecl] = &tree.mains;
     let mut lowering = Lowering::new(alloc, text, tokens, tree);
     check_globals(&mut lowering);
     check_members(&mut lowering);
     check_starts(&mut lowering);
-    begin_methods(&mut lowering, &tree.methods);
-    begin_main(&mut lowering, &tree.mains);
-    lower_each(&mut lowering, 0, &tree.methods);
-    lower_each(&mut lowering, tree.methods.len(), &tree.mains);
+    begin_methods(&mut lowering, methods);
+    begin_main(&mut lowering, mains);
+    lower_each(&mut lowering, 0, methods);
+    lower_each(&mut lowering, methods.len(), mains);
     let invariants = lower_invariants(alloc, &mut lowering, &tree.invariants);
     let expectations = lower_expectations(alloc, &mut lowering, &tree.expectations);
     check_whole(&mut lowering);
