@@ -1,13 +1,13 @@
--- What becomes of a Swift file, and what is said of one that is refused.
+-- What becomes of a Swift file, and what helps where one is refused.
 pub mod ActorTexts
 pub mod BlockTexts
 pub mod Bodies
+pub mod Lines
 pub mod MethodPlaces
 pub mod MethodTexts
 pub mod MistakesInside
 pub mod Names
 pub mod PlaceTexts
-pub mod Refusals
 pub mod Returns
 pub mod ScriptTexts
 pub mod Sources
