@@ -55,7 +55,8 @@ follows s es ns ms e x place log some at is entries entries_len entries_capacity
     let beside = log.numbers_room in
     let marked = log.marks_room some in
     let places = log.places in
-    let limit = log.limit in
+    let entries_few = log.few_entries in
+    let numbers_few = log.few_numbers in
     record {
       within = subst (λ (xs : List LogEntry). All (IsWithin (length ns.items)) xs) (sym entries)
           (subst (λ (ms : List ℤ). All (IsWithin (length ms)) (s.entries.items ++ x ∷ [])) (sym numbers) (all_within s.numbers.items s.entries.items e x place log.within at is));
@@ -64,8 +65,9 @@ follows s es ns ms e x place log some at is entries entries_len entries_capacity
       entries_room = omega (arith, some, room, entries_len, entries_capacity);
       numbers_room = omega (arith, some, beside, few, numbers_len, numbers_capacity);
       marks_room = λ more. omega (arith, some, marked, marks_capacity);
-      places = omega (arith, some, places, few, numbers_len);
-      limit = omega (arith, some, limit);
+      few_entries = omega (arith, entries_few, entries_len);
+      few_numbers = omega (arith, numbers_few, few, numbers_len);
+      places = omega (arith, some, places);
     }
 
 pub stands_too : (s : Inside) (es : Vec LogEntry) (e : Event) → IsLog s → 0 < s.room → IsJoined s.entries.items e es.items → vec_len es ≡ vec_len s.entries → vec_capacity es ≡ vec_capacity s.entries
@@ -75,7 +77,8 @@ stands_too s es e log some joined entries_len entries_capacity =
     let beside = log.numbers_room in
     let marked = log.marks_room some in
     let places = log.places in
-    let limit = log.limit in
+    let entries_few = log.few_entries in
+    let numbers_few = log.few_numbers in
     record {
       within = joined.within (length s.numbers.items) log.within;
       len = ap (λ n. n + 1) log.len ∙ sym (counted s.entries.items es.items e (joined.events []));
@@ -83,6 +86,7 @@ stands_too s es e log some joined entries_len entries_capacity =
       entries_room = omega (arith, some, room, entries_len, entries_capacity);
       numbers_room = omega (arith, some, beside);
       marks_room = λ more. omega (arith, some, marked);
+      few_entries = omega (arith, entries_few, entries_len);
+      few_numbers = omega (arith, numbers_few);
       places = omega (arith, some, places);
-      limit = omega (arith, some, limit);
     }

@@ -97,8 +97,8 @@ fn event_from(entries: &[LogEntry], numbers: &[i64], mark: Mark, place: usize) -
     requires within { place < length (events_in numbers.now entries.now) }
     ensures { (d : Event) → result ≡ slice_index_or (events_in numbers.now entries.now) place d }
 {
-    let mut rest = place - mark.start;
-    for at in mark.entry..entries.len() {
+    let mut rest = place - mark.start as usize;
+    for at in mark.entry as usize..entries.len() {
         let entry = entries[at];
         let width = entry.width();
         if rest < width {
@@ -153,7 +153,7 @@ impl EventLog {
         self.room
     }
 
-    /// The event at a place, from 0 for the oldest. Constant time: at most 34 entries are looked at.
+    /// The event at a place, from 0 for the oldest. Constant time: at most 18 entries are looked at.
     pub fn event(&self, place: usize) -> Event
         requires { place < length self.now.events }
         ensures { (d : Event) → result ≡ slice_index_or self.now.events place d }
@@ -163,9 +163,8 @@ impl EventLog {
     }
 
     /// Makes room, so that the next `events` calls of `push` find memory. It changes nothing else. An `Err` says that so much is
-    /// not to be had, which is also said where more than 2^32 numbers would have to be kept, or where there are more than 2^62
-    /// events; the log is then as it was. Constant time where there is room already, else time that is linear in what is kept and
-    /// in `events`.
+    /// not to be had, which is also said where more than 2^32 events would have to be kept; the log is then as it was. Constant
+    /// time where there is room already, else time that is linear in what is kept and in `events`.
     pub fn reserve(&mut self, events: usize) -> Result<(), AllocError>
         ensures ok { OnOk result (self.new ≡ record self.old { room = max self.old.room events }) }
         ensures err { OnErr result (self.new ≡ self.old) }
@@ -173,8 +172,7 @@ impl EventLog {
         if events <= self.room {
             return Ok(());
         }
-        let numbers = self.numbers.len();
-        if self.len > 1 << 62 || numbers > 1 << 32 || events > (1 << 32) - numbers {
+        if events > (1 << 32) - self.len {
             return Err(AllocError);
         }
         let marks = marks_among(self.len + events).saturating_sub(self.marks.len());

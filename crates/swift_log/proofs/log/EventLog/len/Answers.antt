@@ -11,6 +11,6 @@ returns-clause-len c =
 pub returns-clause-limit : goal.returns-clause-limit
 returns-clause-limit c =
     let s = c.self.inside in
-    let limit = c.self.invariant.limit in
+    let limit = c.self.invariant.places in
     let is = c.self.invariant.len ∙ sym (length_events s.numbers.items s.entries.items) ∙ ap (λ (v : LogView). length v.events) c.self.view_is in
     omega (arith, limit, is)
