@@ -1,5 +1,5 @@
 -- Histories of one key lead alike, and outcomes of one key are one but for their schedules.
-use Rattle.swift_explorer.proofs.Prelude.{◌≡◌, ℕ, zero, suc, ◌+◌, ◌≤◌, ℤ, Bool, false, List, [], ◌∷◌, ◌++◌, length, map, reverse, refl, sym, ◌∙◌, ap, ap₂, subst, arith, inl, inr, Option, Some, None, slice_get, slice_index_or, option_map, cases_lt, length-map, reverse-reverse, rows_of, Resume, ScriptView, executor_count, root_count, FrameView, TaskView, tasks_of, RecordView, Block, checkpoint_at, fields_of, records_of, JobFacts, WaitingTaskView, starts, jobs_held, Digest, digest_of, LeadAlike, tasks_of_is, option_numbers, list_numbers, number_numbers, flag_numbers, resume_numbers, origin_numbers, ending_numbers, bindings_numbers, fields_numbers, frame_numbers, digest_numbers, NextTurn, SearchedHistory, RunOutcome, given_at, given_view, IsHistory, has_records, rows_at, IsKeyFor, IsNumbered, ReadyView, body_numbers, end_numbers, frames_left, job_left, job_numbers, outcome_bytes, ready_numbers, ready_view, rest_numbers, rest_of, task_left, with_counts}
+use Rattle.swift_explorer.proofs.Prelude.{◌≡◌, ℕ, zero, suc, ◌+◌, ◌≤◌, ℤ, Bool, false, List, [], ◌∷◌, ◌++◌, length, map, refl, sym, ◌∙◌, ap, ap₂, subst, arith, inl, inr, Option, Some, None, slice_get, slice_index_or, option_map, cases_lt, length-map, rows_of, Resume, ScriptView, executor_count, root_count, FrameView, TaskView, tasks_of, RecordView, Block, checkpoint_at, fields_of, records_of, JobFacts, WaitingTaskView, starts, jobs_held, Digest, digest_of, LeadAlike, tasks_of_is, option_numbers, list_numbers, number_numbers, flag_numbers, resume_numbers, origin_numbers, ending_numbers, bindings_numbers, fields_numbers, frame_numbers, digest_numbers, NextTurn, SearchedHistory, RunOutcome, given_at, given_view, IsHistory, has_records, rows_at, IsKeyFor, IsNumbered, ReadyView, body_numbers, end_numbers, frames_left, job_left, job_numbers, outcome_bytes, ready_numbers, ready_view, rest_numbers, rest_of, task_left, with_counts}
 use Rattle.swift_types.specs.declared.outcome.Resume.TheVariants.{Go}
 use Rattle.swift_history.specs.Replay.{replay}
 use Rattle.swift_laws.proofs.HistoriesApplied.{there}
@@ -56,19 +56,16 @@ record SameParts (w x : List JobFacts) (u v : List Bool) (f i : List (List (List
   ready : g ≡ h
   rest : r ≡ s
 
-same_reversed : {A : Type 0} (xs ys : List A) → reverse xs ≡ reverse ys → xs ≡ ys
-same_reversed xs ys e = sym (reverse-reverse xs) ∙ ap (λ l. reverse l) e ∙ reverse-reverse ys
-
 rest_read : (w x : List JobFacts) (u v : List Bool) (f i : List (List (List ℤ))) (g h : List (Option ReadyView)) (r s : List ℤ) → rest_numbers w u f g ++ r ≡ rest_numbers x v i h ++ s → SameParts w x u v f i g h r s
 rest_read w x u v f i g h r s e =
     let jobs : List JobFacts → List ℤ = list_numbers job_numbers in
     let flags : List Bool → List ℤ = list_numbers flag_numbers in
     let ready : List (Option ReadyView) → List ℤ = list_numbers (option_numbers ready_numbers) in
-    let one = peel jobs (list_code job_numbers job_code) (reverse w) (reverse x) (flags u ++ (fields_numbers f ++ ready (reverse g))) (flags v ++ (fields_numbers i ++ ready (reverse h))) r s e in
-    let two = peel flags (list_code flag_numbers flag_code) u v (fields_numbers f ++ ready (reverse g)) (fields_numbers i ++ ready (reverse h)) r s one.1 in
-    let three = peel fields_numbers fields_code f i (ready (reverse g)) (ready (reverse h)) r s two.1 in
-    let four = (list_code (option_numbers ready_numbers) (option_code ready_numbers ready_code)).read (reverse g) (reverse h) r s three.1 in
-    record { waiting = same_reversed w x one.0; used = two.0; fields = three.0; ready = same_reversed g h four.0; rest = four.1 }
+    let one = peel jobs (list_code job_numbers job_code) w x (flags u ++ (fields_numbers f ++ ready g)) (flags v ++ (fields_numbers i ++ ready h)) r s e in
+    let two = peel flags (list_code flag_numbers flag_code) u v (fields_numbers f ++ ready g) (fields_numbers i ++ ready h) r s one.1 in
+    let three = peel fields_numbers fields_code f i (ready g) (ready h) r s two.1 in
+    let four = (list_code (option_numbers ready_numbers) (option_code ready_numbers ready_code)).read g h r s three.1 in
+    record { waiting = one.0; used = two.0; fields = three.0; ready = four.0; rest = four.1 }
 
 -- waiting tasks are known by their jobs and by how many places there are
 

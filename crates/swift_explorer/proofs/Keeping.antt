@@ -1,8 +1,7 @@
 -- A history is kept, where none is that has its key.
-use Rattle.swift_explorer.proofs.Prelude.{◌≡◌, ◌⊎◌, ◌<◌, ◌≤◌, ℕ, ℤ, true, false, List, [], ◌∷◌, ◌++◌, length, refl, sym, subst, ap, ◌∙◌, arith, inl, inr, IfSome, Option, Some, nat_eq, slice_get, Contains, get, arc_value, false≢true, length_push, ScriptView, Move, Block, SearchedHistory, NodeView, KeyCode, Search, KeptHistory, IsAsBefore, IsCopy, IsHistory, IsPath, IsKeyFor, IsNumbered, IsCode, GoOn, Grows, HasGrown, HasLike, IsTrue, IsKept, IsSound, Keeps, LeadsTo, MayGoOn, path_after, paths_of}
+use Rattle.swift_explorer.proofs.Prelude.{◌≡◌, ◌⊎◌, ◌<◌, ◌≤◌, ℕ, ℤ, true, false, List, [], ◌∷◌, ◌++◌, length, refl, sym, subst, ap, ◌∙◌, arith, inl, inr, Some, nat_eq, slice_get, Contains, get, arc_value, false≢true, length_push, ScriptView, Move, Block, SearchedHistory, NodeView, KeyCode, Search, KeptHistory, IsAsBefore, IsHistory, IsPath, IsKeyFor, IsNumbered, IsCode, GoOn, Grows, HasGrown, HasLike, IsTrue, IsKept, IsSound, Keeps, LeadsTo, MayGoOn, path_after, paths_of}
 use Rattle.swift_explorer.specs.QueueInside.{AreHistories, WasThere}
 use Rattle.swift_explorer.proofs.Alike.{alike_keys}
-use Rattle.swift_explorer.proofs.Copies.{path_copied}
 use Rattle.swift_explorer.proofs.Growing.{grown_full, grown_left, grown_none, grown_on, grown_parts, kept_grown, sound_full, sound_left, sound_parts}
 use Rattle.swift_explorer.proofs.PartsKnown.{same_code}
 use Rattle.swift_explorer.proofs.Nodes.{on_push, path_here, paths_grow}
@@ -81,13 +80,13 @@ below_not limit n is lt = omega (arith, is, lt)
 module _ (x : Search) (history : SearchedHistory) (numbers : List ℤ) (code : KeyCode) (n : NodeView) (nodes : List NodeView) (sound : IsSound (arc_value x.script) x) (numbered : IsNumbered history numbers)
     (is_code : IsCode x.parts code numbers) (may : MayGoOn (paths_of x.nodes) n.before) (p : IsPath (arc_value x.script) (path_after (paths_of x.nodes) n.before n.moves) history)
     (nodes_are : nodes ≡ x.nodes ++ n ∷ []) (room : length x.nodes < x.limit)
-    (z : Search) (place : ℕ) (kept : Option KeptHistory) (keys_are : (c : KeyCode) → Contains z.keys.keys c → Contains x.keys.keys c ⊎ (code ≡ c)) (place_is : place ≡ length x.nodes) (copied : IfSome kept (λ k. IsCopy history k.history))
-    (there : (q : ℕ) (k : KeptHistory) → get nat_eq z.histories q ≡ Some k → WasThere (get nat_eq x.histories) place kept q k) where
+    (z : Search) (place : ℕ) (keys_are : (c : KeyCode) → Contains z.keys.keys c → Contains x.keys.keys c ⊎ (code ≡ c)) (place_is : place ≡ length x.nodes)
+    (there : (q : ℕ) (k : KeptHistory) → get nat_eq z.histories q ≡ Some k → WasThere (get nat_eq x.histories) place (record { history = history }) q k) where
   abbrev script : ScriptView
   script = arc_value x.script
 
   abbrev y : Search
-  y = record x { nodes = nodes; keys = z.keys; histories = z.histories; sums = z.sums }
+  y = record x { nodes = nodes; keys = z.keys; histories = z.histories }
 
   abbrev path : List Move
   path = path_after (paths_of x.nodes) n.before n.moves
@@ -124,7 +123,7 @@ module _ (x : Search) (history : SearchedHistory) (numbers : List ℤ) (code : K
     | inr new ↦ (
       path,
       subst (λ (i : ℕ). slice_get (paths_of y.nodes) i ≡ Some path) (sym (new.0 ∙ place_is)) here,
-      path_copied script path history k.history (subst (λ (o : Option KeptHistory). IfSome o (λ k. IsCopy history k.history)) new.1 copied) p,
+      subst (λ (k : KeptHistory). IsPath script path k.history) new.1 p,
     )
   ]
 

@@ -80,13 +80,6 @@ turn_goes_on whole t script outer (p ∷ callers) (q ∷ others) rows rows' resu
 
 -- of the frame that runs
 
--- once it is left, the task goes on only where it has a caller
-pub left_over : (script : ScriptView) (fs : List FrameView) (outer : List (ℕ × ℤ)) (task : TaskView) (step : Step) (v : ℤ) → HasFrames fs → AdvancesTo script fs outer (returning v) (record { task = task; step = step })
-    → HasFrames task.frames → HasFrames (callers_of fs)
-left_over script [] outer task step v has after runs = has
-left_over script (p ∷ []) outer task step v has after runs = subst (λ (a : Advanced). HasFrames a.task.frames) after runs
-left_over script (p ∷ q ∷ callers) outer task step v has after runs = tt
-
 -- or it has ended, and is a root that no line names
 pub returns_on : (script : ScriptView) (t : ℕ) (callers : List FrameView) (v : ℤ) → HasFrames callers ⊎ IsUnnamed script t → GoesOnAtOnce script t callers (returning v)
 returns_on script t [] v (inl has) = absurd has

@@ -1,5 +1,5 @@
 -- Keys of histories and of outcomes. No public clause names these.
-use Rattle.std.specs.Prelude.{◌≡◌, ℕ, ℤ, Bool, Option, List, [], ◌∷◌, ◌++◌, length, map, reverse}
+use Rattle.std.specs.Prelude.{◌≡◌, ℕ, ℤ, Bool, Option, List, [], ◌∷◌, ◌++◌, length, map}
 use Rattle.std.specs.Option.{option_map}
 use Rattle.script_code.specs.Seen.{rows_of}
 use Rattle.swift_types.specs.declared.outcome.Ending.{Ending}
@@ -62,10 +62,10 @@ abbrev pub job_numbers : JobFacts → List ℤ
 job_numbers j = number_numbers j.task ++ (number_numbers j.number ++ (resume_numbers j.resume ++ body_numbers j.frames))
 
 -- The numbers of all but the digest: what the tasks that wait will go on with, which executors have run a turn, the fields, and what the
--- other tasks go on with. Tasks come from the last one.
+-- other tasks go on with.
 abbrev pub rest_numbers : List JobFacts → List Bool → List (List (List ℤ)) → List (Option ReadyView) → List ℤ
 rest_numbers waiting used fields ready =
-    list_numbers job_numbers (reverse waiting) ++ (list_numbers flag_numbers used ++ (fields_numbers fields ++ list_numbers (option_numbers ready_numbers) (reverse ready)))
+    list_numbers job_numbers waiting ++ (list_numbers flag_numbers used ++ (fields_numbers fields ++ list_numbers (option_numbers ready_numbers) ready))
 
 -- the numbers of a history that is followed, without its digest
 abbrev pub rest_of : SearchedHistory → List ℤ

@@ -6,8 +6,8 @@ use Rattle.swift_explorer.specs.declared.queue.KeptHistory.{KeptHistory}
 use Rattle.swift_explorer.specs.HistoryInside.{IsPath}
 
 -- what stands at `q` was there before, or is what was put to `place`
-abbrev pub WasThere : (ℕ → Option KeptHistory) → ℕ → Option KeptHistory → ℕ → KeptHistory → Type 0
-WasThere before place kept q k = (before q ≡ Some k) ⊎ ((q ≡ place) × (kept ≡ Some k))
+abbrev pub WasThere : (ℕ → Option KeptHistory) → ℕ → KeptHistory → ℕ → KeptHistory → Type 0
+WasThere before place kept q k = (before q ≡ Some k) ⊎ ((q ≡ place) × (kept ≡ k))
 
 -- each history is one to which the steps at its place lead
 abbrev pub AreHistories : ScriptView → List (List Move) → (ℕ → Option KeptHistory) → Type 0

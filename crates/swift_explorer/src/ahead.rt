@@ -38,38 +38,30 @@ pub(crate) enum TurnAhead {
     Lost,
 }
 
-// Whether the frame that runs has a caller. It takes memory for a copy of the body.
-fn has_caller(body: &Body) -> Result<bool, AllocError>
-    requires { IsRunning body.now }
-    ensures { IfOk result (λ has. IsTrue has → HasFrames (callers_of body.now.task.frames)) }
+// Whether the frame that runs has a caller.
+fn has_caller(body: &Body) -> bool
+    ensures { IsTrue result → HasFrames (callers_of body.now.task.frames) }
 {
-    let mut left = body.copy()?;
-    let _step = left.advance_with(Exit::Return(0))?;
-    Ok(left.is_running())
+    !body.callers().is_empty()
 }
 
 // Whether the frame that runs may be left unseen: it has a caller, or its task is a root that no line of the script names.
-fn leaves_unseen(body: &Body, script: &Script, task: TaskId) -> Result<bool, AllocError>
-    requires { IsRunning body.now }
-    ensures { IfOk result (λ leaves. IsTrue leaves → HasFrames (callers_of body.now.task.frames) ⊎ IsUnnamed script.now task.0) }
+fn leaves_unseen(body: &Body, script: &Script, task: TaskId) -> bool
+    ensures { IsTrue result → HasFrames (callers_of body.now.task.frames) ⊎ IsUnnamed script.now task.0 }
 {
-    if has_caller(body)? {
-        return Ok(true);
-    }
-    Ok(root_is_unnamed(script, task))
+    has_caller(body) || root_is_unnamed(script, task)
 }
 
 // Whether a task goes on at once after a turn that ends so, or has ended and is a root that no line of the script names; and no invariant
 // is broken by it.
-fn goes_on(body: &Body, exit: &Exit, script: &Script, task: TaskId) -> Result<bool, AllocError>
-    requires { IsRunning body.now }
-    ensures { IfOk result (λ goes. IsTrue goes → GoesOnAtOnce script.now task.0 (callers_of body.now.task.frames) (exit_view exit.now)) }
+fn goes_on(body: &Body, exit: &Exit, script: &Script, task: TaskId) -> bool
+    ensures { IsTrue result → GoesOnAtOnce script.now task.0 (callers_of body.now.task.frames) (exit_view exit.now) }
 {
     match exit {
-        Exit::Call(_) | Exit::Yield => Ok(true),
-        Exit::Fault(Fault::Invariant) => Ok(false),
+        Exit::Call(_) | Exit::Yield => true,
+        Exit::Fault(Fault::Invariant) => false,
         Exit::Return(_) | Exit::Fault(_) => leaves_unseen(body, script, task),
-        Exit::Wait(_) | Exit::Next(_) | Exit::Close(_, _) => Ok(false),
+        Exit::Wait(_) | Exit::Next(_) | Exit::Close(_, _) => false,
     }
 }
 
@@ -111,7 +103,7 @@ impl SearchedHistory {
         else {
             return Err(AllocError);
         };
-        let goes = goes_on(&ready.body, &exit, &self.steps.script, task)?;
+        let goes = goes_on(&ready.body, &exit, &self.steps.script, task);
         ready.body.put_back(frame);
         put(&mut self.steps.tasks, task, ready)?;
         Ok(goes)

@@ -193,7 +193,6 @@ impl Exploration {
             ends: _,
             broken,
             histories: _,
-            sums: _,
             is_complete,
             met_limit,
             ran_short,

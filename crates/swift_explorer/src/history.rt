@@ -25,7 +25,6 @@ use crate::frames::{put_jobs, put_ready};
 use crate::keys::{LogDigest, put_fields, put_flags};
 use crate::moves::Move;
 use crate::outcome::{End, RunOutcome};
-use crate::sums::with_call;
 use std::alloc::{AllocError, Global};
 use std::sync::Arc;
 use swift_events::Origin;
@@ -57,8 +56,6 @@ pub struct SearchedHistory {
     pub journals: Vec<Journal>,
     // What was read of the log for the key.
     pub digest: LogDigest,
-    // The sum of its calls. Nothing rests on it but time.
-    pub calls: u64,
 }
 
 // The fields of each executor at the start.
@@ -119,7 +116,6 @@ impl SearchedHistory {
             used,
             journals: Vec::new(alloc),
             digest,
-            calls: 0,
         })
     }
 
@@ -145,7 +141,6 @@ impl SearchedHistory {
             used,
             journals: Vec::new(self.steps.alloc),
             digest,
-            calls: self.calls,
         })
     }
 
@@ -205,7 +200,6 @@ impl SearchedHistory {
         }
         self.used[turn.place] = true;
         write_turn(&mut self.journals, &turn, before)?;
-        self.calls = with_call(self.calls, &turn);
         let told = told(&turn.exit);
         if self.steps.apply_played(turn)? {
             Ok(told)
@@ -408,41 +402,19 @@ impl SearchedHistory {
         }))
     }
 
-    /// What decides how it may go on, as numbers, in place of those that were there, and where parts of them end. It gives the history up.
-    pub fn into_key(self, key: &mut Vec<i64>, cuts: &mut Vec<usize>) -> Result<(), AllocError>
-        requires { IsRead self.digest self.steps.book.log }
-        ensures { OnOk result (IsNumbered self key.new.items) }
+    /// What decides how it may go on, as numbers, in place of those that were there, and where parts of them end.
+    pub fn put_key(&self, key: &mut Vec<i64>, cuts: &mut Vec<usize>) -> Result<(), AllocError>
+        requires { IsRead self.now.digest self.now.steps.book.log }
+        ensures { OnOk result (IsNumbered self.now key.new.items) }
     {
-        let SearchedHistory {
-            steps,
-            used,
-            journals: _,
-            digest,
-            calls: _,
-        } = self;
-        let OpenHistory {
-            alloc,
-            script: _,
-            book,
-            tasks,
-            fields,
-            roots: _,
-            jobs,
-        } = steps;
-        spend_all(jobs);
-        book.facts();
-        let (log, mut waiting) = book.close();
-        drop(log);
+        self.steps.book.facts();
         key.clear();
         cuts.clear();
-        let put = put_jobs(key, cuts, &mut waiting);
-        spend_all(waiting);
-        put?;
-        put_flags(key, &used)?;
-        put_fields(key, cuts, &fields)?;
-        put_ready(key, cuts, tasks)?;
-        digest.put_digest(alloc, key, cuts)?;
-        Ok(())
+        put_jobs(key, cuts, &self.steps.book)?;
+        put_flags(key, &self.used)?;
+        put_fields(key, cuts, &self.steps.fields)?;
+        put_ready(key, cuts, &self.steps.tasks)?;
+        self.digest.put_digest(self.steps.alloc, key, cuts)
     }
 
     /// Gives the history up.
@@ -452,7 +424,6 @@ impl SearchedHistory {
             used: _,
             journals: _,
             digest: _,
-            calls: _,
         } = self;
         steps.close();
     }
@@ -467,7 +438,6 @@ impl SearchedHistory {
             used: _,
             journals,
             digest: _,
-            calls: _,
         } = self;
         let OpenHistory {
             alloc,

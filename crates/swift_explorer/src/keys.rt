@@ -13,7 +13,7 @@ pub mod laws;
 // Small values.
 mod values;
 
-pub use frames::{put_bindings, put_fields, put_flags, put_frame};
+pub use frames::{put_bindings, put_fields, put_flags, put_frame, put_frame_as};
 pub use key::pack;
 pub(crate) use log_digest::LogDigest;
 pub use values::{put_ending, put_flag, put_number, put_origin, put_resume};

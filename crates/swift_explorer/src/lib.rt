@@ -41,8 +41,6 @@ mod schedule;
 mod search;
 // Which instructions are silent.
 mod silent;
-// Sums of histories, which tell whether one seems to be new.
-mod sums;
 // Texts of what a search has found.
 mod text;
 // Roots that no line names.

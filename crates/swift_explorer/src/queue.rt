@@ -3,7 +3,6 @@
 ghost use Rattle.std.specs.Prelude.{◌≡◌, ◌==◌, ℕ, if◌then◌else◌, nat_eq, IfSome, OnOk, Some, None};
 ghost use Rattle.std.specs.HashMap.{get};
 ghost use Rattle.swift_explorer.specs.declared.queue.KeptHistory.{KeptHistory};
-ghost use Rattle.swift_explorer.specs.HistoryInside.{IsCopy};
 ghost use Rattle.swift_explorer.specs.QueueInside.{WasThere};
 
 use crate::history::SearchedHistory;
@@ -36,35 +35,17 @@ impl KeptHistory {
     }
 }
 
-/// A copy of a history, where that seems to be a new one and there is room for one more. None, too, where no memory is left for it: it is
-/// followed again then.
-pub fn spare_copy(
-    histories: &HashMap<usize, KeptHistory>,
-    seems_known: bool,
-    history: &SearchedHistory,
-) -> Option<KeptHistory>
-    ensures { IfSome result (λ kept. IsCopy history.now kept.history) }
-{
-    if seems_known || histories.len() >= HISTORIES {
-        return None;
-    }
-    match history.copy() {
-        Ok(history) => Some(KeptHistory { history }),
-        Err(_) => None,
-    }
-}
-
-/// Puts a history to the others, where there is one. Out of memory, what was there means nothing.
+/// Puts a history to the others, where there is room for one more. Out of memory, what was there means nothing.
 pub fn put_history(
     histories: &mut HashMap<usize, KeptHistory>,
     place: usize,
-    kept: Option<KeptHistory>,
+    kept: KeptHistory,
 ) -> Result<(), AllocError>
     ensures { OnOk result ((q : ℕ) (k : KeptHistory) → get nat_eq histories.new q ≡ Some k → WasThere (get nat_eq histories.old) place kept q k) }
 {
-    let Some(kept) = kept else {
+    if histories.len() >= HISTORIES {
         return Ok(());
-    };
+    }
     histories.insert(place, kept)?;
     Ok(())
 }

@@ -25,8 +25,7 @@ use crate::marks::{AwayMarks, MarkKind, away_marks, methods_marks};
 use crate::moves::Move;
 use crate::outcome::{End, RunOutcome};
 use crate::parts::{KeyCode, KeyParts};
-use crate::queue::{KeptHistory, put_history, spare_copy, take_history};
-use crate::sums::SeenSums;
+use crate::queue::{KeptHistory, put_history, take_history};
 use std::alloc::{AllocError, Global};
 use std::collections::{HashMap, HashSet};
 use std::sync::Arc;
@@ -58,8 +57,6 @@ pub(crate) struct Search {
     pub(crate) broken: Option<Vec<Move>>,
     // Histories of nodes that it has not gone on from, by the node's place.
     pub(crate) histories: HashMap<usize, KeptHistory>,
-    // Sums of the histories that were kept.
-    pub(crate) sums: SeenSums,
     // Whether no history was left out, and each step after those that it has gone on from was tried.
     pub(crate) is_complete: bool,
     // Whether a history was left out since as many were kept as may be.
@@ -116,22 +113,6 @@ fn outcome_key(alloc: Global, outcome: &RunOutcome) -> Result<Key, AllocError>
     Ok(Key {
         bytes: pack(alloc, &key)?,
     })
-}
-
-// A history that was read for its key. Where there is no memory, it is given up.
-fn read_whole(history: SearchedHistory) -> Result<SearchedHistory, AllocError>
-    requires { IsSomeHistory history }
-    ensures same { IfOk result (IsAsBefore history) }
-    ensures read { IfOk result (λ next. IsRead next.digest next.steps.book.log) }
-{
-    let mut next = history;
-    match next.read_on() {
-        Err(fault) => {
-            next.close();
-            Err(fault)
-        }
-        Ok(()) => Ok(next),
-    }
 }
 
 // Follows these steps.
@@ -333,7 +314,6 @@ impl Search {
             ends: KeySet::new(alloc),
             broken: None,
             histories: HashMap::new(alloc),
-            sums: SeenSums::new(alloc)?,
             is_complete: true,
             met_limit: false,
             ran_short: false,
@@ -341,13 +321,13 @@ impl Search {
     }
 
     // The code of what decides how a history may go on.
-    fn code_of(&mut self, history: SearchedHistory) -> Result<KeyCode, AllocError>
-        requires { IsRead history.digest history.steps.book.log }
+    fn code_of(&mut self, history: &SearchedHistory) -> Result<KeyCode, AllocError>
+        requires { IsRead history.now.digest history.now.steps.book.log }
         ensures rest { self.new ≡ record self.old { parts = self.new.parts; key = self.new.key; cuts = self.new.cuts } }
         ensures grown { OnOk result (Grows self.old.parts self.new.parts) }
-        ensures code { IfOk result (λ code. (numbers : List ℤ) × IsNumbered history numbers × IsCode self.new.parts code numbers) }
+        ensures code { IfOk result (λ code. (numbers : List ℤ) × IsNumbered history.now numbers × IsCode self.new.parts code numbers) }
     {
-        history.into_key(&mut self.key, &mut self.cuts)?;
+        history.put_key(&mut self.key, &mut self.cuts)?;
         self.parts.code(&self.key, &self.cuts)
     }
 
@@ -363,10 +343,9 @@ impl Search {
         requires sound { IsSound (arc_value self.old.script) self.old }
         ensures keeps { OnOk result (Keeps self.old self.new history) }
     {
-        let next = read_whole(history)?;
-        let sum = next.sum();
-        let spare = spare_copy(&self.histories, self.sums.has(sum), &next);
-        let code = self.code_of(next)?;
+        let mut kept = KeptHistory { history };
+        kept.history.read_on()?;
+        let code = self.code_of(&kept.history)?;
         if self.keys.contains(&code) {
             return Ok(());
         }
@@ -378,8 +357,7 @@ impl Search {
         self.keys.insert(code)?;
         let place = self.nodes.len();
         self.nodes.push(before, &moves)?;
-        self.sums.note(sum);
-        put_history(&mut self.histories, place, spare)
+        put_history(&mut self.histories, place, kept)
     }
 
     // Writes the first turn that breaks an invariant: what a step does last after these.

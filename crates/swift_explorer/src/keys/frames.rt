@@ -98,9 +98,14 @@ fn put_fault_if(key: &mut Vec<i64>, fault: Option<Fault>) -> Result<(), AllocErr
     }
 }
 
-/// A frame.
-pub fn put_frame(key: &mut Vec<i64>, frame: &Frame) -> Result<(), AllocError>
-    ensures { OnOk result (key.new.items ≡ key.old.items ++ frame_numbers (frame_view frame.now)) }
+/// A frame, with other counts of tasks and groups.
+pub fn put_frame_as(
+    key: &mut Vec<i64>,
+    frame: &Frame,
+    made: u64,
+    opened: u64,
+) -> Result<(), AllocError>
+    ensures { OnOk result (key.new.items ≡ key.old.items ++ frame_numbers (record (frame_view frame.now) { made = made; opened = opened })) }
 {
     put_number(key, frame.method.0)?;
     put_number(key, frame.instruction)?;
@@ -109,9 +114,16 @@ pub fn put_frame(key: &mut Vec<i64>, frame: &Frame) -> Result<(), AllocError>
     put_own(key, &frame.own)?;
     put_groups(key, &frame.groups)?;
     put_fault_if(key, frame.pending)?;
-    put_wide(key, frame.made)?;
-    put_wide(key, frame.opened)?;
+    put_wide(key, made)?;
+    put_wide(key, opened)?;
     Ok(())
+}
+
+/// A frame.
+pub fn put_frame(key: &mut Vec<i64>, frame: &Frame) -> Result<(), AllocError>
+    ensures { OnOk result (key.new.items ≡ key.old.items ++ frame_numbers (frame_view frame.now)) }
+{
+    put_frame_as(key, frame, frame.made, frame.opened)
 }
 
 fn put_rows(key: &mut Vec<i64>, rows: &[Vec<i64>]) -> Result<(), AllocError>

@@ -1,11 +1,11 @@
-use Rattle.swift_explorer.proofs.Prelude.{◌∙◌, ap, sym, inl, inr, Some, nat_eq}
+use Rattle.swift_explorer.proofs.Prelude.{sym, inl, inr, nat_eq}
 use Rattle.std.proofs.Common.{eqb-true}
 use Rattle.swift_explorer.proofs.HistoriesTaken.{filled}
 use Rattle.swift_explorer.proofs.queue.put_history.Goals as goal
 
 pub returns : goal.returns
 returns c = λ q k at.
-    elim (filled (nat_eq c.args.place q) _ _ c.in-Some.kept (c.in_ok-insert.ensures.updates.0 q) k at) [
+    elim (filled (nat_eq c.args.place q) _ _ c.args.kept (c.in_ok-insert.ensures.updates.0 q) k at) [
       | inl old ↦ inl old
-      | inr new ↦ inr (sym (eqb-true c.args.place q new.0), c.in-Some.is ∙ ap Some new.1)
+      | inr new ↦ inr (sym (eqb-true c.args.place q new.0), new.1)
     ]

@@ -46,5 +46,5 @@ returns-clause-alone c = λ is.
           (let same : g ≡ k = ap (λ (o : Option NextTurn). unwrap_or o g) (sym was ∙ given) in
           subst (λ (h : NextTurn). TurnGoesOn (arc_value x.steps.script) t.0 h.body.script h.body.task.frames h.body.task.outer (rows_of copy.items) h.resume) same
           (turn_goes_on (arc_value x.steps.script) t.0 g.body.script g.body.task.outer g.body.task.frames c.replay_turn.new.body.task.frames (rows_of copy.items) (rows_of outcome.fields.items) g.resume (effect_views outcome.effects.items) (exit_view outcome.exit) c.in-Ok.ensures.turn
-          (subst (λ (s : ScriptView). GoesOnAtOnce s t.0 (callers_of c.replay_turn.new.body.task.frames) (exit_view outcome.exit)) own (c.in_ok-goes.ensures is)))),
+          (subst (λ (s : ScriptView). GoesOnAtOnce s t.0 (callers_of c.replay_turn.new.body.task.frames) (exit_view outcome.exit)) own (c.goes_on-goes.ensures is)))),
     ))

@@ -12,11 +12,6 @@ write_turn-requires c =
     let plays = some_of _ _ (Plays c.args.self.now.steps c.play.new.self) c.in-Some.is c.in_ok-turn.ensures.plays in
     subst HasFrames (sym plays.last) tt
 
-pub with_call-self-requires : goal.with_call-self-requires
-with_call-self-requires c =
-    let plays = some_of _ _ (Plays c.args.self.now.steps c.play.new.self) c.in-Some.is c.in_ok-turn.ensures.plays in
-    subst HasFrames (sym plays.last) tt
-
 pub apply_played-requires : goal.apply_played-requires
 apply_played-requires c = (c.args.self.now.steps, some_of _ _ (Plays c.args.self.now.steps c.play.new.self) c.in-Some.is c.in_ok-turn.ensures.plays)
 
