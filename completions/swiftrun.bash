@@ -1,6 +1,7 @@
 # What bash completes after swiftrun, written by tools/completions.py.
 _swiftrun() {
-    local word=${COMP_WORDS[COMP_CWORD]} before=${COMP_WORDS[COMP_CWORD - 1]} each at place=0 words='' files=''
+    local word=${COMP_WORDS[COMP_CWORD]} before=${COMP_WORDS[COMP_CWORD - 1]} each at place=0 words=''
+    local -a files=()
     local command='swiftrun'
     if [[ $word == = ]]; then word=''; elif [[ $before == = ]]; then before=${COMP_WORDS[COMP_CWORD - 2]}; fi
     for ((at = 1; at < COMP_CWORD; at++)); do
@@ -21,7 +22,7 @@ _swiftrun() {
     esac
     if [[ $files ]]; then
         compopt -o filenames 2>/dev/null
-        mapfile -t COMPREPLY < <(compgen -f -X "!$files" -- "$word"; compgen -d -- "$word")
+        mapfile -t COMPREPLY < <(for each in "${files[@]}"; do compgen -f -X "!$each" -- "$word"; done; compgen -d -- "$word")
     else
         mapfile -t COMPREPLY < <(compgen -W "$words" -- "$word")
     fi

@@ -37,6 +37,9 @@ class Program(NamedTuple):
     commands: tuple[Command, ...] = ()
 
 
+LANGUAGE = Option(
+    "language", "Reads a text in this language, whatever its name is; without it a name that ends in .swift is of Swift", "LANGUAGE", ("script", "swift")
+)
 WORKERS = Option("workers", "Runs the tasks on N threads, from 1 to 8", "N", tuple("12345678"))
 QUIET = Option("quiet", "Leaves the journals out of the report")
 LIMIT = Option("limit", "Keeps at most N states, from 1 to 10000000", "N")
@@ -60,6 +63,7 @@ NUCHAPAY = (
     Command(
         "run", "Runs a script, and prints the journal of each executor, how each task ended, and the fields", ("[FILE]",),
         (
+            LANGUAGE,
             WORKERS,
             QUIET,
             Option("values", "Says below each turn which fields it changed"),
@@ -69,11 +73,12 @@ NUCHAPAY = (
     ),
     Command(
         "why", "Runs a script, and explains one of its turns: what it began with, what it did to the fields, and who changed them meanwhile",
-        ("<FILE>", "[TURN]"), (WORKERS, *SCHEDULES),
+        ("<FILE>", "[TURN]"), (LANGUAGE, WORKERS, *SCHEDULES),
     ),
     Command(
         "check", "Says whether a script is accepted; else why not, where, and what to do", ("[FILE]",),
         (
+            LANGUAGE,
             Option("color", "Colours what is said of a refusal: always or never", "WHEN", ("always", "never")),
             Option("format", "Says it as text, or as JSON for an editor, on standard output", "FORMAT", ("text", "json")),
         ),
@@ -81,20 +86,21 @@ NUCHAPAY = (
     Command("explain", "Explains a refusal or a fault, with a script for which it comes, and the same one mended", ("<TOPIC>",)),
     Command(
         "print", "Prints the printed form of a script, which is the same for texts that spell one script", ("[FILE]",),
-        (Option("pretty", "Lays the script out: indented, one statement on a line"),),
+        (LANGUAGE, Option("pretty", "Lays the script out: indented, one statement on a line")),
     ),
     Command(
         "show", "Runs a script, and shows the run as a picture", ("[FILE]",),
-        (WORKERS, Option("format", "A picture, a page for a browser, or a trace for Perfetto and chrome://tracing", "FORMAT", ("svg", "html", "trace")), *SCHEDULES),
+        (LANGUAGE, WORKERS, Option("format", "A picture, a page for a browser, or a trace for Perfetto and chrome://tracing", "FORMAT", ("svg", "html", "trace")), *SCHEDULES),
     ),
     Command(
         "swift", "Prints a script as a Swift program, for Swift's own runtime", ("[FILE]",),
-        (Option("plain", "Prints it as somebody would write it, without a runtime"),),
+        (LANGUAGE, Option("plain", "Prints it as somebody would write it, without a runtime")),
     ),
     Command(
         "explore",
         "Lists outcomes that some order of turns leads to, each with its schedule, and says whether each is as expected", ("[FILE]",),
         (
+            LANGUAGE,
             LIMIT,
             Option("broken", "Prints the schedule to a turn that an invariant undoes, and nothing else"),
             Option("schedule", "Runs the schedule of outcome K again, and prints the whole report", "K"),
@@ -124,6 +130,8 @@ PROGRAMS = (
         ),
     ),
 )
+# How the name of a file ends that a command takes, behind the dot.
+ENDINGS = ("actors", "swift")
 # What each command takes.
 HELP = Option("help", "Print help")
 
@@ -149,16 +157,17 @@ def bash_values(command):
     """By an option with a value, what that may be."""
     for option in command.options:
         if option.value:
-            taken = "files='*'" if option.value == "FILE" else f"words='{' '.join(option.words)}'"
+            taken = "files=('*')" if option.value == "FILE" else f"words='{' '.join(option.words)}'"
             yield f"        {command.name}:--{option.name}) {taken} ;;"
 
 
 def bash_words(command, program):
     """By the word that is completed, and how many operands stand before it, what it may be."""
+    globs = " ".join(f"'*.{ending}'" for ending in ENDINGS)
     yield f"                {command.name}:-*) words='{' '.join('--' + option.name for option in options_of(command))}' ;;"
     for place, operand in enumerate(command.operands):
         if is_script(operand):
-            yield f"                {command.name}:*:{place}) files='*.actors' ;;"
+            yield f"                {command.name}:*:{place}) files=({globs}) ;;"
         elif words_of(operand, program):
             yield f"                {command.name}:*:{place}) words='{' '.join(words_of(operand, program))}' ;;"
 
@@ -175,7 +184,8 @@ def bash(program):
     return "\n".join([
         heading(program, "bash"),
         f"_{program.name}() {{",
-        "    local word=${COMP_WORDS[COMP_CWORD]} before=${COMP_WORDS[COMP_CWORD - 1]} each at place=0 words='' files=''",
+        "    local word=${COMP_WORDS[COMP_CWORD]} before=${COMP_WORDS[COMP_CWORD - 1]} each at place=0 words=''",
+        "    local -a files=()",
         f"    local command='{'' if program.commands else program.name}'",
         "    if [[ $word == = ]]; then word=''; elif [[ $before == = ]]; then before=${COMP_WORDS[COMP_CWORD - 2]}; fi",
         "    for ((at = 1; at < COMP_CWORD; at++)); do",
@@ -197,7 +207,7 @@ def bash(program):
         "    esac",
         "    if [[ $files ]]; then",
         "        compopt -o filenames 2>/dev/null",
-        "        mapfile -t COMPREPLY < <(compgen -f -X \"!$files\" -- \"$word\"; compgen -d -- \"$word\")",
+        "        mapfile -t COMPREPLY < <(for each in \"${files[@]}\"; do compgen -f -X \"!$each\" -- \"$word\"; done; compgen -d -- \"$word\")",
         "    else",
         "        mapfile -t COMPREPLY < <(compgen -W \"$words\" -- \"$word\")",
         "    fi",
@@ -214,13 +224,14 @@ def quoted(text):
 
 def zsh_arguments(command, program):
     """The words for _arguments of a command."""
+    endings = "|".join(ENDINGS)
     for option in options_of(command):
         text = option.text.replace("[", "\\[").replace("]", "\\]")
         taken = "_files" if option.value == "FILE" else f"({' '.join(option.words)})"
         value = "".join(f":{each}:{taken}" for each in option.value.split())
         yield quoted(f"--{option.name}{'=' if len(option.value.split()) == 1 else ''}[{text}]{value}")
     for place, operand in enumerate(command.operands, 1):
-        what = '_files -g "*.actors"' if is_script(operand) else f"({' '.join(words_of(operand, program))})"
+        what = f'_files -g "*.({endings})"' if is_script(operand) else f"({' '.join(words_of(operand, program))})"
         yield quoted(f"{place}:{operand.strip('[]<>')}:{what}")
 
 
@@ -251,13 +262,14 @@ def zsh(program):
 
 def fish_arguments(command, program, condition):
     """The lines for what a command takes."""
+    suffixes = "; ".join(f"__fish_complete_suffix .{ending}" for ending in ENDINGS)
     begin = f"complete -c {program.name}" + (f" -n {quoted(condition)}" if condition else "")
     for option in options_of(command):
         value = f" -x -a {quoted(' '.join(option.words))}" if option.words else " -r -F" if option.value == "FILE" else " -x" if option.value else ""
         yield f"{begin} -l {option.name}{value} -d {quoted(option.text)}"
     for operand in command.operands:
         if is_script(operand):
-            yield f"{begin} -k -a '(__fish_complete_suffix .actors)'"
+            yield f"{begin} -k -a '({suffixes})'"
         elif words_of(operand, program):
             yield f"{begin} -a {quoted(' '.join(words_of(operand, program)))}"
 

@@ -143,6 +143,7 @@ class Completions(unittest.TestCase):
         self.assertEqual(sorted(self.complete("nuchapay", "run", "--workers", "2", "account")), ["account.actors", "account_fixed.actors"])
         self.assertEqual(self.complete("nuchapay", "why", "races/late"), ["races/late_cancel.actors"])
         self.assertEqual(self.complete("nuchapay", "check", "rac"), ["races"])
+        self.assertEqual(self.complete("nuchapay", "check", "swift/account."), ["swift/account.swift"])
         self.assertEqual(self.complete("nuchapay", "explore", "--diff", "1", "2", "rac"), ["races"])
         self.assertEqual(self.complete("nuchapay", "why", "account.actors", ""), [])
         self.assertEqual(self.complete("nuchapay", "why", "-", ""), [])

@@ -4,7 +4,7 @@
     tools/examples.py SWIFTRUN NUCHAPAY [NAME..]        each example, or those whose names these are
 
 An example is examples/NAME.actors, or NAME.actors in a folder there, which swiftrun is given as its standard input. Those of the folder
-nuchapay are for that program: each NAME.args there is one, and NAME.actors need not be there. The others are run by `nuchapay run` too,
+nuchapay are for that program: each NAME.args there is one, and NAME.actors or NAME.swift need not be there. The others are run by `nuchapay run` too,
 with the script's name as an argument: it has to do the same, under its own name. A program runs in the folder of the example.
 
 NAME.out is its standard output, NAME.err its standard error (nothing, where they are missing), NAME.args its arguments (none; what stands
@@ -42,6 +42,11 @@ def names():
     return sorted(found)
 
 
+def given_to(name):
+    """The standard input of an example."""
+    return content(name, ".actors") or content(name, ".swift") or b""
+
+
 def is_second(name):
     return os.path.basename(os.path.dirname(name)) == SECOND
 
@@ -72,7 +77,7 @@ def faults(words, given, name):
 
 def all_faults(first, second, name):
     """What is otherwise where an example is run as it has to be."""
-    given = content(name, ".actors") or b""
+    given = given_to(name)
     if is_second(name):
         yield from faults([second, *arguments(name)], given, name)
     else:

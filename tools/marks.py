@@ -10,7 +10,7 @@ that is shown.
 Each file of examples/nuchapay/mistakes is a text with a mistake, then a line `== says` with all that has to be said of it, and where a fix is
 offered a line `== fixed` with the text that the fix gives. What `--format json` says has to have the same number, place and texts, and a
 text that was fixed has to be accepted, or refused further on. Where its name begins with `swift_`, the text is that of a file
-mistake.swift, and no more is compared than what is said. Status 0 where all agrees.
+mistake.swift, and no fix is offered. Status 0 where all agrees.
 """
 import json
 import os
@@ -60,9 +60,9 @@ def mistakes():
     return [Mistake(name) for name in sorted(os.listdir(MISTAKES))]
 
 
-def diagnostic(program, text):
+def diagnostic(program, text, *words):
     """What `nuchapay check --format json` says of a text that is refused; none where it is accepted."""
-    ran = subprocess.run([program, "check", "--format", "json"], input=text, capture_output=True, check=False)
+    ran = subprocess.run([program, "check", "--format", "json", *words], input=text, capture_output=True, check=False)
     told = json.loads(ran.stdout)
     if ran.stderr or told["file"] != "<stdin>" or ran.returncode != (0 if told["accepted"] else 3):
         raise ValueError(f"it ends with {ran.returncode}, and says {ran.stdout!r} and {ran.stderr!r}")
@@ -78,9 +78,8 @@ def place_faults(text, found):
         yield "its line and column are not those of its bytes"
 
 
-def told_faults(mistake, found):
+def told_faults(text, found):
     """What of JSON is not as the text that is said has it."""
-    text = mistake.says.decode()
     seconds = re.findall(r"(?m)^note: (.*)\n *--> <stdin>:(\d+):(\d+)$", text)
     second = found["second"]
     wanted = [(second["label"], str(second["line"]), str(second["column"]))] if second else []
@@ -113,13 +112,19 @@ def swift_faults(program, mistake):
             file.write(mistake.text)
         ran = subprocess.run([program, "check", "mistake.swift"], cwd=folder, capture_output=True, check=False)
     if (ran.returncode, ran.stdout, ran.stderr) != (3, b"", mistake.says):
-        yield f"{mistake.name}: it ends with {ran.returncode}, and says\n{ran.stderr.decode(errors='replace')}"
+        yield f"it ends with {ran.returncode}, and says\n{ran.stderr.decode(errors='replace')}"
+        return
+    found = diagnostic(program, mistake.text, "--language", "swift")
+    yield from place_faults(mistake.text, found)
+    yield from told_faults(mistake.says.decode().replace("mistake.swift", "<stdin>"), found)
+    if found["fix"]:
+        yield "a fix is offered"
 
 
 def mistake_faults(program, mistake):
     """What is otherwise with what is said of a mistake."""
     if mistake.name.startswith("swift_"):
-        yield from swift_faults(program, mistake)
+        yield from (f"{mistake.name}: {fault}" for fault in swift_faults(program, mistake))
         return
     ended, out, _ = said(program, mistake.text)
     told = subprocess.run([program, "check"], input=mistake.text, capture_output=True, check=False).stderr
@@ -129,7 +134,7 @@ def mistake_faults(program, mistake):
     found = diagnostic(program, mistake.text)
     for part in filter(None, (found, found["second"], found["fix"])):
         yield from (f"{mistake.name}: {fault}" for fault in place_faults(mistake.text, part))
-    yield from (f"{mistake.name}: {fault}" for fault in told_faults(mistake, found))
+    yield from (f"{mistake.name}: {fault}" for fault in told_faults(mistake.says.decode(), found))
     yield from (f"{mistake.name}: {fault}" for fault in fix_faults(program, mistake, found))
 
 

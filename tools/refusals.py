@@ -35,7 +35,7 @@ SECONDS = 60
 # What is said of a run in which nothing was written.
 UNREAD = "nothing was written"
 # The refusal of a script for which there is no memory, as `check --format json` says it.
-NO_MEMORY = b'"code":"S14"'
+NO_MEMORY = (b'"code":"S14"', b'"code":"W26"')
 # What a program says that has no memory for a script, for a run, for its words, or for what it reads.
 SAYS = (b"%s: line 0: S14 no memory\n", b"%s: N2 no memory\n", b"%s: no memory for the words\n", b"%s: <stdin>: out of memory\n")
 # The same, as the kit's reader of words has it.
@@ -118,7 +118,7 @@ class Case:
 
 def is_told(done):
     """Whether a run says that there is no memory: on standard error alone, or as the refusal of a script in JSON."""
-    return (done.stdout == b"" and b"memory" in done.stderr) or NO_MEMORY in done.stdout
+    return (done.stdout == b"" and b"memory" in done.stderr) or any(told in done.stdout for told in NO_MEMORY)
 
 
 class Command(Case):
@@ -127,7 +127,7 @@ class Command(Case):
     def __init__(self, program, library, name):
         self.words, self.folder = [program, *examples.arguments(name)], os.path.dirname(name)
         self.library = library
-        self.given = examples.content(name, ".actors") or b""
+        self.given = examples.given_to(name)
         self.wanted = tuple(examples.content(name, ending) or b"" for ending in (".out", ".err"))
         self.status = int(examples.content(name, ".status") or b"0")
 

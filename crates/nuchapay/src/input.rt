@@ -1,13 +1,17 @@
 //! The text of a script.
 
-use crate::output::tell;
-use nuchapay_tool::{Source, read_input};
+use crate::output::{say_checked, tell};
+use nuchapay_tool::{
+    Checked, FileRefusal, Input, Language, Question, Source, read_input, refused_file,
+    refused_file_json,
+};
 use std::alloc::AllocError;
 use std::fs::File;
 use std::io;
 use swift_report::write_all;
+use swift_syntax::Refusal;
 use swift_tool::ToolFault;
-use swift_translation::{MethodPlace, SwiftScript, Translation, refusal_text, translate};
+use swift_translation::{MethodPlace, SwiftScript, Translation, refusal_help, translate};
 
 /// The text of a script, and from which lines of a Swift file its methods are.
 #[derive(Drop)]
@@ -23,8 +27,8 @@ pub struct ReadScript {
 pub enum NoScript {
     /// It could not be read.
     Unread(io::Error),
-    /// It is a Swift file that the subset does not take. This says why, and where.
-    Refused(Vec<u8>),
+    /// It is this text of Swift, which the subset does not take, and this says why.
+    Refused(Vec<u8>, Refusal),
     /// No memory was left for the script that a Swift file becomes.
     Memory,
 }
@@ -49,25 +53,16 @@ pub fn name_of(source: Source<'_>) -> &str {
     }
 }
 
-/// Whether a file of this name is read as Swift.
-pub fn is_swift(name: &str) -> bool {
-    name.ends_with(".swift")
-}
-
-/// A script; of a Swift file that which it becomes.
-pub fn script(rt: &HostRuntime, source: Source<'_>) -> Result<ReadScript, NoScript> {
-    let text = text_of(rt, source)?;
-    let name = name_of(source);
-    if !is_swift(name) {
+/// A script; of a text of Swift that which it becomes.
+pub fn script(rt: &HostRuntime, input: Input<'_>) -> Result<ReadScript, NoScript> {
+    let text = text_of(rt, input.source)?;
+    if input.language == Language::Script {
         let places = Vec::new(rt.alloc());
         return Ok(ReadScript { text, places });
     }
     match translate(rt.alloc(), &text)? {
         Translation::Script(SwiftScript { text, places }) => Ok(ReadScript { text, places }),
-        Translation::Refused(refusal) => {
-            let said = refusal_text(rt.alloc(), name, &text, refusal)?;
-            Err(NoScript::Refused(said))
-        }
+        Translation::Refused(refusal) => Err(NoScript::Refused(text, refusal)),
     }
 }
 
@@ -82,18 +77,45 @@ fn text_of(rt: &HostRuntime, source: Source<'_>) -> io::Result<Vec<u8>> {
     }
 }
 
-/// Says why there is no script, with the system's word where it could not be read. The status to end with.
-pub fn say_no_script(rt: &HostRuntime, source: Source<'_>, why: NoScript) -> u8 {
+/// Says why there is no script to answer this question about, with the system's word where it could not be read. Where the question wants
+/// a refusal as JSON, standard output has it, and else standard error. The status to end with.
+pub fn say_no_script(rt: &HostRuntime, name: &str, question: &Question<'_>, why: NoScript) -> u8 {
     match why {
         NoScript::Unread(error) => {
-            let name = name_of(source);
             let _ = eprintln!(rt; "nuchapay: {name}: {error}");
             4
         }
-        NoScript::Refused(said) => match write_all(&mut rt.stderr(), &said) {
+        NoScript::Refused(text, refusal) => {
+            let why = FileRefusal {
+                code: refusal.rule.name(),
+                title: refusal.rule.title(),
+                help: refusal_help(&text, refusal),
+                from: refusal.from,
+                to: refusal.to,
+            };
+            match question {
+                Question::CheckJson => say_json(rt, name, &text, why),
+                Question::Check(colour) => say_refused(rt, name, &text, *colour, why),
+                _ => say_refused(rt, name, &text, false, why),
+            }
+        }
+        NoScript::Memory => tell(rt, Err(ToolFault::from(AllocError))),
+    }
+}
+
+// Says on standard error why a text of Swift is refused, with colours where this says so. The status to end with.
+fn say_refused(rt: &HostRuntime, name: &str, text: &[u8], colour: bool, why: FileRefusal) -> u8 {
+    match refused_file(rt.alloc(), name, text, colour, why) {
+        Ok(said) => match write_all(&mut rt.stderr(), said.as_bytes()) {
             Ok(()) => 3,
             Err(_) => 4,
         },
-        NoScript::Memory => tell(rt, Err(ToolFault::from(AllocError))),
+        Err(fault) => tell(rt, Err(ToolFault::from(fault))),
     }
+}
+
+// Says as JSON why a text of Swift is refused, on standard output. The status to end with.
+fn say_json(rt: &HostRuntime, name: &str, text: &[u8], why: FileRefusal) -> u8 {
+    let said = refused_file_json(rt.alloc(), name, text, why);
+    say_checked(rt, said.map(Checked::Refused))
 }

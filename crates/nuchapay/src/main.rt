@@ -44,8 +44,8 @@ mod values;
 use crate::difference_answers::{say_difference, say_saved_difference};
 use crate::explore::explored;
 use crate::explore_swift::explored_swift;
-use crate::input::{is_swift, name_of, say_no_script, script};
-use crate::output::{tell, write_out, write_said};
+use crate::input::{name_of, say_no_script, script};
+use crate::output::{say_checked, tell, write_out, write_said};
 use crate::places::ScriptFile;
 use crate::schedule_answers::{say_broken, say_saved, say_scheduled};
 use crate::scheduled::broken_line;
@@ -55,8 +55,8 @@ use crate::turn_answers::say_turn;
 use crate::values::{explained_turn, report_of};
 use explorer_page::SearchHeading;
 use nuchapay_tool::{
-    Checked, Question, Request, SearchFormat, Topic, check, check_json, explain, page_of, pretty,
-    print, request,
+    Checked, Language, Question, Request, SearchFormat, Topic, check, check_json, explain, page_of,
+    pretty, print, request,
 };
 use std::alloc::{AllocError, AllocGlobal};
 use std::env;
@@ -107,16 +107,17 @@ where
 {
     match request {
         Request::Explain(topic) => tell(host, write_page(host, topic)),
-        Request::Ask(source, question) => match script(host, source) {
+        Request::Ask(input, question) => match script(host, input) {
             Ok(read) => {
                 let file = ScriptFile {
-                    name: name_of(source),
+                    name: name_of(input.source),
+                    language: input.language,
                     text: &read.text,
                     places: &read.places,
                 };
                 answer_of(host, rt, file, question)
             }
-            Err(why) => say_no_script(host, source, why),
+            Err(why) => say_no_script(host, name_of(input.source), &question, why),
         },
     }
 }
@@ -128,6 +129,7 @@ where
 {
     let out = &mut host.stdout();
     let ScriptFile { name, text, .. } = file;
+    let is_swift = file.language == Language::Swift;
     match question {
         Question::Run(workers, quiet) => tell(host, run_text(rt, text, workers, quiet, &Open, out)),
         Question::RunJson(workers, quiet) => {
@@ -142,7 +144,7 @@ where
         Question::Check(colour) => say_check(host, name, text, colour),
         Question::CheckJson => say_checked(host, check_json(host.alloc(), name, text)),
         // What a Swift file becomes is laid out, and says from which lines each method is.
-        Question::Print(_) if is_swift(name) => tell(host, write_out(host, text)),
+        Question::Print(_) if is_swift => tell(host, write_out(host, text)),
         Question::Print(is_pretty) => tell(host, write_printed(host, text, is_pretty)),
         Question::Show(workers, format) => {
             tell(host, show_run(rt, text, name, workers, format, out))
@@ -160,7 +162,7 @@ where
         } => {
             let heading = SearchHeading { name, text };
             let keeps = save.is_some();
-            let found = if is_swift(name) {
+            let found = if is_swift {
                 explored_swift(
                     host,
                     heading,
@@ -201,18 +203,6 @@ fn say_check(rt: &HostRuntime, name: &str, text: &[u8], colour: bool) -> u8 {
         Ok(Checked::Refused(said)) => match write_all(&mut rt.stderr(), said.as_bytes()) {
             Ok(()) => 3,
             Err(_) => 4,
-        },
-        Err(fault) => tell(rt, Err(ToolFault::from(fault))),
-    }
-}
-
-// Says as JSON whether a text is a script, on standard output. The status to end with.
-fn say_checked(rt: &HostRuntime, checked: Result<Checked, AllocError>) -> u8 {
-    match checked {
-        Ok(Checked::Accepted(said)) => tell(rt, write_out(rt, said.as_bytes())),
-        Ok(Checked::Refused(said)) => match write_all(&mut rt.stdout(), said.as_bytes()) {
-            Ok(()) => 3,
-            Err(fault) => tell(rt, Err(ToolFault::from(fault))),
         },
         Err(fault) => tell(rt, Err(ToolFault::from(fault))),
     }

@@ -2,6 +2,8 @@
 
 use crate::places::{ScriptFile, methods_text};
 use crate::values::Said;
+use nuchapay_tool::Checked;
+use std::alloc::AllocError;
 use swift_report::write_all;
 use swift_tool::{ToolFault, status};
 
@@ -17,6 +19,18 @@ pub fn tell(rt: &HostRuntime, ended: Result<bool, ToolFault>) -> u8 {
 pub fn write_out(rt: &HostRuntime, text: &[u8]) -> Result<bool, ToolFault> {
     write_all(&mut rt.stdout(), text)?;
     Ok(true)
+}
+
+/// Says on standard output what a check says as JSON. The status to end with.
+pub fn say_checked(rt: &HostRuntime, checked: Result<Checked, AllocError>) -> u8 {
+    match checked {
+        Ok(Checked::Accepted(said)) => tell(rt, write_out(rt, said.as_bytes())),
+        Ok(Checked::Refused(said)) => match write_all(&mut rt.stdout(), said.as_bytes()) {
+            Ok(()) => 3,
+            Err(fault) => tell(rt, Err(ToolFault::from(fault))),
+        },
+        Err(fault) => tell(rt, Err(ToolFault::from(fault))),
+    }
 }
 
 /// Writes what is said of a run, and behind it from which lines of a Swift file each method is: nothing before there is memory for both.

@@ -1,5 +1,6 @@
 //! From which lines of a Swift file turns are.
 
+use nuchapay_tool::Language;
 use std::alloc::{AllocError, Global};
 use std::str;
 use swift_translation::{MethodPlace, method_line, places_text};
@@ -9,6 +10,8 @@ use swift_translation::{MethodPlace, method_line, places_text};
 pub struct ScriptFile<'a> {
     /// What the file is called.
     pub name: &'a str,
+    /// In which language the file is.
+    pub language: Language,
     /// The text of the script.
     pub text: &'a [u8],
     /// The methods that are from lines of the file.

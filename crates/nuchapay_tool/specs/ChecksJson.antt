@@ -2,6 +2,7 @@
 use Rattle.std.specs.Prelude.{◌≡◌, ℕ, ◌==◌, ◌++◌, Option, Some, None, IfSome, List, [], ◌∷◌, codes, decimal, length, map, min, if◌then◌else◌}
 use Rattle.std.specs.List.{concat}
 use Rattle.std.specs.String.{string_bytes}
+use Rattle.script_tokens.specs.Lines.{line_of}
 use Rattle.script_tokens.specs.declared.span.Span.{Span}
 use Rattle.nuchapay_tool.specs.Advised.{IsHelp, IsOnToken, help_text}
 use Rattle.swift_script.specs.Accepted.{IsAccepted}
@@ -10,6 +11,7 @@ use Rattle.swift_script.specs.Refuses.{Refuses}
 use Rattle.swift_script.specs.Scripts.{ScriptView, actor_count, method_count, root_count}
 use Rattle.swift_script.specs.declared.fault.ScriptFault.{ScriptFault}
 use Rattle.nuchapay_tool.specs.declared.advice.Second.{Second}
+use Rattle.nuchapay_tool.specs.declared.files.FileRefusal.{FileRefusal}
 use Rattle.nuchapay_tool.specs.declared.mark.LineMark.{LineMark}
 use Rattle.nuchapay_tool.specs.declared.page.Page.{Page}
 use Rattle.nuchapay_tool.specs.declared.checks.Checked.{Checked}
@@ -52,9 +54,13 @@ place_json text line s mark = concat (
     codes "\"from\":" ∷ decimal (from_of text s) ∷ codes ",\"to\":" ∷ decimal (to_of text s) ∷ codes ",\"line\":" ∷ decimal line ∷ codes ",\"column\":" ∷ decimal (column_of line mark) ∷ codes "," ∷ []
     )
 
+-- the place of some bytes, on the line of the first
+unfoldable pub bytes_json : List ℕ → Span → List ℕ
+bytes_json text s = place_json text (line_of text s.from) (Some s) (mark_of text (line_of text s.from) (Some (record { from = s.from; to = s.from })))
+
 -- the number and the title of a refusal
-unfoldable pub code_json : Page → List ℕ
-code_json p = concat (codes "{\"severity\":\"error\",\"code\":\"" ∷ p.name.now ∷ codes "\",\"title\":\"" ∷ p.title.now ∷ codes "\"," ∷ [])
+unfoldable pub code_json : List ℕ → List ℕ → List ℕ
+code_json name title = concat (codes "{\"severity\":\"error\",\"code\":\"" ∷ name ∷ codes "\",\"title\":\"" ∷ title ∷ codes "\"," ∷ [])
 
 -- what was expected, and what to do
 unfoldable pub advice_json : List ℕ → List ℕ → List ℕ
@@ -81,7 +87,16 @@ pub record IsRefusedJson (text said : List ℕ) : Type 0 where
   pub second : Option Second
   pub on_token : IfSome second (λ s. IsOnToken text s.span)
   pub fix : List ℕ
-  pub is : said ≡ concat (codes "{\"file\":\"" ∷ file ∷ codes "\",\"accepted\":false,\"diagnostics\":[" ∷ code_json page ∷ place_json text fault.line fault.span (mark_of text fault.line fault.span) ∷ advice_json expected (help_text help page) ∷ second_json text second ∷ fix ∷ codes "}]}\n" ∷ [])
+  pub is : said ≡ concat (codes "{\"file\":\"" ∷ file ∷ codes "\",\"accepted\":false,\"diagnostics\":[" ∷ code_json page.name.now page.title.now ∷ place_json text fault.line fault.span (mark_of text fault.line fault.span) ∷ advice_json expected (help_text help page) ∷ second_json text second ∷ fix ∷ codes "}]}\n" ∷ [])
+
+-- what is said of a file that is refused for this cause, with the name of the file as JSON has it
+abbrev pub refused_file_json : List ℕ → List ℕ → FileRefusal → List ℕ
+refused_file_json file text r = concat (codes "{\"file\":\"" ∷ file ∷ codes "\",\"accepted\":false,\"diagnostics\":[" ∷ code_json r.code.now r.title.now ∷ bytes_json text (record { from = r.from; to = r.to }) ∷ advice_json (codes "") r.help.now ∷ codes "\"second\":null,\"fix\":null}]}\n" ∷ [])
+
+-- A file is refused, for this cause. How the name of the file is written, this does not say.
+pub record IsRefusedFileJson (text : List ℕ) (r : FileRefusal) (said : List ℕ) : Type 0 where
+  pub file : List ℕ
+  pub is : said ≡ refused_file_json file text r
 
 -- what is said of a script without a root
 abbrev pub rootless_json : ℕ → List ℕ

@@ -2,7 +2,9 @@ pub mod Advised
 pub mod Checks
 pub mod ChecksJson
 pub mod Colours
+pub mod Files
 pub mod InputInside
+pub mod LanguagesInside
 pub mod LayoutsInside
 pub mod Marks
 pub mod Pages

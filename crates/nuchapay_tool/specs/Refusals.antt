@@ -12,8 +12,8 @@ abbrev pub gutter : ℕ → List ℕ
 gutter n = repeat (length (decimal n)) (codes " ")
 
 -- the number and the text of a refusal
-abbrev pub head_text : Bool → Page → List ℕ
-head_text colour p = concat (red colour ∷ codes "error[" ∷ p.name.now ∷ codes "]" ∷ plain colour ∷ bold colour ∷ codes ": " ∷ p.title.now ∷ plain colour ∷ codes "\n" ∷ [])
+abbrev pub head_text : Bool → List ℕ → List ℕ → List ℕ
+head_text colour name title = concat (red colour ∷ codes "error[" ∷ name ∷ codes "]" ∷ plain colour ∷ bold colour ∷ codes ": " ∷ title ∷ plain colour ∷ codes "\n" ∷ [])
 
 -- what to do about a refusal that stands on no line
 abbrev pub lost_text : Bool → List ℕ → List ℕ
@@ -66,7 +66,7 @@ place_text colour file text line mark expected help = if line == 0 then lost_tex
 
 -- what is said of a refusal
 abbrev pub refusal_text : Bool → List ℕ → List ℕ → ℕ → Option LineMark → Page → List ℕ → List ℕ → List ℕ
-refusal_text colour file text line mark p expected help = concat (head_text colour p ∷ place_text colour file text line mark expected help ∷ [])
+refusal_text colour file text line mark p expected help = concat (head_text colour p.name.now p.title.now ∷ place_text colour file text line mark expected help ∷ [])
 
 -- what is said of a second place, without that place
 abbrev pub label_text : Bool → List ℕ → List ℕ

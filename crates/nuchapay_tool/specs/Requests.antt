@@ -28,4 +28,4 @@ IsOnCrew (SavedDifference path pair) = Unit {0}
 -- A run is asked for on 1 to 8 workers.
 abbrev pub HasCrew : Request → Type 0
 HasCrew (Explain topic) = Unit {0}
-HasCrew (Ask source question) = IsOnCrew question
+HasCrew (Ask input question) = IsOnCrew question

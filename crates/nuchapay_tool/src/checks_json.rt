@@ -6,10 +6,11 @@ ghost use Rattle.swift_script.specs.FaultPlaces.{IsAtItsPlace};
 ghost use Rattle.swift_script.specs.Refuses.{Refuses};
 ghost use Rattle.nuchapay_tool.specs.Advised.{help_text};
 ghost use Rattle.nuchapay_tool.specs.Marks.{mark_of};
-ghost use Rattle.nuchapay_tool.specs.ChecksJson.{IsRefusedJson, Tells, accepted_json, advice_json, body_json, code_json, column_of, counts_json, from_of, place_json, rootless_json, second_json, to_of};
+ghost use Rattle.nuchapay_tool.specs.ChecksJson.{IsRefusedFileJson, IsRefusedJson, Tells, accepted_json, advice_json, body_json, bytes_json, code_json, column_of, counts_json, from_of, place_json, refused_file_json, rootless_json, second_json, to_of};
 
 use crate::advice::{Advice, Second, advise};
 use crate::checks::{Checked, help_of};
+use crate::files::FileRefusal;
 use crate::fixes::Change;
 use crate::json_text::{escaped_name, escaped_text};
 use crate::mark::{LineMark, mark_of};
@@ -38,6 +39,49 @@ pub fn check_json(alloc: Global, file: &str, text: &[u8]) -> Result<Checked, All
         }
         Err(fault) => Ok(Checked::Refused(refused_json(alloc, file, text, fault)?)),
     }
+}
+
+/// Says that a file is refused before there is a script, as `check_json` says it of a script, as a line of JSON. `text` is what stands in
+/// the file. The place is that of the bytes to blame; `expected` is empty, and `second` and `fix` are `null`. Linear in the text.
+///
+/// # Errors
+///
+/// `AllocError` where there is no memory for it.
+pub fn refused_file_json(
+    alloc: Global,
+    file: &str,
+    text: &[u8],
+    refusal: FileRefusal,
+) -> Result<String, AllocError>
+    ensures { IfOk result (λ said. IsRefusedFileJson text.now refusal (string_bytes said)) }
+{
+    let name = escaped_name(alloc, file)?;
+    file_json(alloc, &name, text, refusal)
+}
+
+// What is said of a file that is refused.
+fn file_json(
+    alloc: Global,
+    name: &String,
+    text: &[u8],
+    refusal: FileRefusal,
+) -> Result<String, AllocError>
+    ensures { IfOk result (λ said. string_bytes said ≡ refused_file_json (string_bytes name.now) text.now refusal) }
+{
+    let FileRefusal { from, to, .. } = refusal;
+    let code = code_json(alloc, refusal.code, refusal.title)?;
+    let place = bytes_json(alloc, text, Span { from, to })?;
+    let said = advice_json(alloc, "", refusal.help)?;
+    let parts = [
+        "{\"file\":\"",
+        name.as_str(),
+        "\",\"accepted\":false,\"diagnostics\":[",
+        code.as_str(),
+        place.as_str(),
+        said.as_str(),
+        "\"second\":null,\"fix\":null}]}\n",
+    ];
+    parts.as_slice().concat(alloc)
 }
 
 // What is said of a script.
@@ -116,7 +160,7 @@ fn refused_json(
     let fix = fix_json(alloc, text, &advice.fix)?;
     drop(advice);
     let name = escaped_name(alloc, file)?;
-    let code = code_json(alloc, page)?;
+    let code = code_json(alloc, page.name, page.title)?;
     let mark = mark_of(text, fault.line, fault.span);
     let place = place_json(alloc, text, fault.line, fault.span, mark)?;
     let parts = [
@@ -135,14 +179,14 @@ fn refused_json(
 
 // The number and the title of a refusal.
 #[tactic(auto, unfolding(crate::specs::ChecksJson::code_json))]
-fn code_json(alloc: Global, page: &Page) -> Result<String, AllocError>
-    ensures { IfOk result (λ said. string_bytes said ≡ code_json page.now) }
+fn code_json(alloc: Global, name: &str, title: &str) -> Result<String, AllocError>
+    ensures { IfOk result (λ said. string_bytes said ≡ code_json name.now title.now) }
 {
     let parts = [
         "{\"severity\":\"error\",\"code\":\"",
-        page.name,
+        name,
         "\",\"title\":\"",
-        page.title,
+        title,
         "\",",
     ];
     parts.as_slice().concat(alloc)
@@ -175,6 +219,20 @@ fn place_json(
         ",",
     ];
     parts.as_slice().concat(alloc)
+}
+
+// The place of some bytes, on the line of the first.
+#[tactic(auto, unfolding(crate::specs::ChecksJson::bytes_json))]
+fn bytes_json(alloc: Global, text: &[u8], span: Span) -> Result<String, AllocError>
+    ensures { IfOk result (λ said. string_bytes said ≡ bytes_json text.now span) }
+{
+    let line = line_of(text, span.from);
+    let first = Span {
+        from: span.from,
+        to: span.from,
+    };
+    let mark = mark_of(text, line, Some(first));
+    place_json(alloc, text, line, Some(span), mark)
 }
 
 // The first of some bytes; 0 where they are not known.
@@ -269,10 +327,7 @@ fn fix_json(alloc: Global, text: &[u8], fix: &Option<Change>) -> Result<String, 
 }
 
 fn change_json(alloc: Global, text: &[u8], change: &Change) -> Result<String, AllocError> {
-    let line = line_of(text, change.span.from);
-    let Span { from, to } = change.span;
-    let mark = mark_of(text, line, Some(Span { from, to: from }));
-    let place = place_json(alloc, text, line, Some(Span { from, to }), mark)?;
+    let place = bytes_json(alloc, text, change.span)?;
     let words = escaped_text(alloc, change.text.as_str())?;
     let parts = [
         "\"fix\":{",

@@ -84,6 +84,9 @@ const MOST: i64 = 10_000_001;
 const FILE: Word =
     word!(("file" Operand("FILE") => "The script; standard input where it is - or missing"));
 
+const LANGUAGE: Word = word!(("language" OneOf("LANGUAGE", &["script", "swift"]) =>
+    "Reads a text in this language, whatever its name is; without it a name that ends in .swift is of Swift"));
+
 const WORKERS: Word =
     word!(("workers" Number("N", 9) or "1" => "Runs the tasks on N threads, from 1 to 8"));
 
@@ -105,7 +108,7 @@ const BROKEN: Word =
 static COMMANDS: [CommandWords; 8] = commands! {
     "run" => "Runs a script, and prints the journal of each executor, how each task ended, and the fields",
         "Example: nuchapay run --workers 4 examples/account.actors",
-        [FILE WORKERS
+        [FILE LANGUAGE WORKERS
             ("quiet" Flag => "Leaves the journals out of the report")
             ("values" Flag => "Says below each turn which fields it changed")
             ("format" OneOf("FORMAT", &["text", "json"]) or "text" => "Prints the report as text, or as JSON")
@@ -115,10 +118,10 @@ static COMMANDS: [CommandWords; 8] = commands! {
         [("file" Required("FILE") => "The script; standard input where it is -")
             ("turn" Operand("TURN") =>
                 "The turn, as the journal names it, t1.0, or by its task's name, second.0; by --broken it may be missing")
-            WORKERS OUTCOME SCHEDULE BROKEN LIMIT FROM];
+            LANGUAGE WORKERS OUTCOME SCHEDULE BROKEN LIMIT FROM];
     "check" => "Says whether a script is accepted; else why not, where, and what to do",
         "Example: nuchapay check examples/account.actors",
-        [FILE
+        [FILE LANGUAGE
             ("color" Text("WHEN") or "never" => "Colours what is said of a refusal: always or never")
             ("format" OneOf("FORMAT", &["text", "json"]) or "text" =>
                 "Says it as text, or as JSON for an editor, on standard output")];
@@ -127,19 +130,19 @@ static COMMANDS: [CommandWords; 8] = commands! {
         [("topic" Required("TOPIC") => "The number of a refusal (S1 to S14, N1 to N5), or the word of a fault, as overflow")];
     "print" => "Prints the printed form of a script, which is the same for texts that spell one script",
         "Example: nuchapay print examples/account.actors",
-        [FILE ("pretty" Flag => "Lays the script out: indented, one statement on a line")];
+        [FILE LANGUAGE ("pretty" Flag => "Lays the script out: indented, one statement on a line")];
     "show" => "Runs a script, and shows the run as a picture",
         "Example: nuchapay show examples/account.actors > account.svg",
-        [FILE WORKERS
+        [FILE LANGUAGE WORKERS
             ("format" OneOf("FORMAT", &["svg", "html", "trace"]) or "svg" =>
                 "A picture, a page for a browser, or a trace for Perfetto and chrome://tracing")
             OUTCOME SCHEDULE BROKEN LIMIT FROM];
     "swift" => "Prints a script as a Swift program, for Swift's own runtime",
         "Example: nuchapay swift examples/account.actors",
-        [FILE ("plain" Flag => "Prints it as somebody would write it, without a runtime")];
+        [FILE LANGUAGE ("plain" Flag => "Prints it as somebody would write it, without a runtime")];
     "explore" => "Lists outcomes that some order of turns leads to, each with its schedule, and says whether each is as expected",
         "Example: nuchapay explore --expect 'Account.balance == 0' examples/account.actors",
-        [FILE LIMIT
+        [FILE LANGUAGE LIMIT
             ("broken" Flag => "Prints the schedule to a turn that an invariant undoes, and nothing else")
             ("schedule" Number("K", MOST) => "Runs the schedule of outcome K again, and prints the whole report")
             ("diff" Numbers(&["K", "L"], MOST) => "Says in what outcomes K and L differ, and from where their schedules do")

@@ -5,7 +5,7 @@ ghost use Rattle.nuchapay_tool.specs.Requests.{HasCrew, IsOnCrew};
 
 use crate::requests::{OutcomePair, Question, Request, RunForm, ScheduleChoice, SearchFormat};
 use crate::schedule_words::{saved_by, saved_pair};
-use crate::words::{Refused, conflict, source};
+use crate::words::{Refused, conflict, input};
 use clap::ArgMatches;
 use clap::error::ErrorKind;
 use std::alloc::{AllocError, Global};
@@ -84,7 +84,7 @@ pub(crate) fn explore_request<'a>(
         None => one_question(found),
     };
     match question {
-        Ok(question) => Ok(Request::Ask(source(found), question)),
+        Ok(question) => Ok(Request::Ask(input(found), question)),
         Err(refused) => Err(refused),
     }
 }
@@ -154,7 +154,7 @@ fn expecting_request<'a>(alloc: Global, found: &ArgMatches<'a>) -> Result<Reques
         format: format_of(found),
         save: found.get_str("save"),
     };
-    Ok(Request::Ask(source(found), question))
+    Ok(Request::Ask(input(found), question))
 }
 
 // How many states a search keeps.

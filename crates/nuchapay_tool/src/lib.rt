@@ -9,6 +9,8 @@ mod checks;
 mod checks_json;
 // The colours of a text for a terminal.
 mod colours;
+// A file that is refused before there is a script.
+mod files;
 // What to write, where that helps.
 mod fixes;
 // The commands, and the words that each takes.
@@ -53,15 +55,16 @@ mod turn_names;
 mod words;
 
 pub use checks::{Checked, check};
-pub use checks_json::check_json;
+pub use checks_json::{check_json, refused_file_json};
+pub use files::{FileRefusal, refused_file};
 pub use input::read_input;
 pub use laid::pretty;
 pub use page::{Page, ScriptPair, explain};
 pub use pages::page_of;
 pub use printed::print;
 pub use requests::{
-    OutcomePair, PictureFormat, Question, Request, RunForm, SavedPlace, SavedWord, ScheduleChoice,
-    SearchFormat, Source,
+    Input, Language, OutcomePair, PictureFormat, Question, Request, RunForm, SavedPlace, SavedWord,
+    ScheduleChoice, SearchFormat, Source,
 };
 pub use topic::{RunRefusal, Topic, TurnFault, find_topic};
 pub use turn_names::{TurnName, TurnWord, turn_name, turn_word};

@@ -31,7 +31,7 @@ pub(crate) fn refusal(
 ) -> Result<String, AllocError>
     ensures { IfOk result (λ said. string_bytes said ≡ refusal_text colour file.now text.now line mark page.now expected.now help.now) }
 {
-    let head = head(alloc, colour, page)?;
+    let head = head(alloc, colour, page.name, page.title)?;
     let place = if line == 0 {
         lost(alloc, colour, help)?
     } else {
@@ -41,18 +41,28 @@ pub(crate) fn refusal(
     parts.as_slice().concat(alloc)
 }
 
-fn head(alloc: Global, colour: bool, page: &Page) -> Result<String, AllocError>
-    ensures { IfOk result (λ said. string_bytes said ≡ head_text colour page.now) }
+/// The number and the text of a refusal.
+///
+/// # Errors
+///
+/// `AllocError` where there is no memory for it.
+pub(crate) fn head(
+    alloc: Global,
+    colour: bool,
+    name: &str,
+    title: &str,
+) -> Result<String, AllocError>
+    ensures { IfOk result (λ said. string_bytes said ≡ head_text colour name.now title.now) }
 {
     let parts = [
         red(colour),
         "error[",
-        page.name,
+        name,
         "]",
         plain(colour),
         bold(colour),
         ": ",
-        page.title,
+        title,
         plain(colour),
         "\n",
     ];
@@ -67,7 +77,12 @@ fn lost(alloc: Global, colour: bool, help: &str) -> Result<String, AllocError>
     parts.as_slice().concat(alloc)
 }
 
-fn located(
+/// What follows the first line of a refusal: where it is, that line of the text with a mark, what was expected, and what to do.
+///
+/// # Errors
+///
+/// `AllocError` where there is no memory for it.
+pub(crate) fn located(
     alloc: Global,
     colour: bool,
     file: &str,

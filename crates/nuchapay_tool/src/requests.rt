@@ -12,6 +12,24 @@ pub enum Source<'a> {
     File(&'a str),
 }
 
+/// In which language a text is (our own).
+#[derive(Clone, Copy, PartialEq, Eq)]
+pub enum Language {
+    /// The language of scripts.
+    Script,
+    /// Swift, of which a subset is read.
+    Swift,
+}
+
+/// The text that a question is about (our own).
+#[derive(Clone, Copy)]
+pub struct Input<'a> {
+    /// Where it comes from.
+    pub source: Source<'a>,
+    /// In which language it is.
+    pub language: Language,
+}
+
 /// How a picture is written (our own).
 #[derive(Clone, Copy)]
 pub enum PictureFormat {
@@ -92,8 +110,8 @@ pub enum RunForm<'a> {
 pub enum Request<'a> {
     /// To explain a refusal or a fault.
     Explain(Topic),
-    /// To answer a question about the script that comes from there.
-    Ask(Source<'a>, Question<'a>),
+    /// To answer a question about the script that this text is, or becomes.
+    Ask(Input<'a>, Question<'a>),
 }
 
 /// What is asked about a script (our own).

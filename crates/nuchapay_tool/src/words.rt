@@ -1,13 +1,15 @@
 //! The words of a command line.
 
-ghost use Rattle.std.specs.Prelude.{◌≡◌, ◌≢◌, ◌≤◌, codes, IfOk};
+ghost use Rattle.std.specs.Prelude.{◌≡◌, ◌≢◌, ◌≤◌, None, codes, IfOk, IfSome};
 ghost use Rattle.swift_types.specs.declared.limits.TheConstants.{WORKERS};
+ghost use Rattle.nuchapay_tool.specs.LanguagesInside.{language_by_source};
 ghost use Rattle.nuchapay_tool.specs.Requests.{HasCrew, IsOnCrew};
+ghost use Rattle.nuchapay_tool.specs.declared.requests.Language.TheVariants.{Script, Swift};
 ghost use Rattle.nuchapay_tool.specs.declared.requests.Source.TheVariants.{File, Stdin};
 
 use crate::commands::command;
 use crate::explore_words::explore_request;
-use crate::requests::{PictureFormat, Question, Request, RunForm, Source};
+use crate::requests::{Input, Language, PictureFormat, Question, Request, RunForm, Source};
 use crate::schedule_words::{ScheduleWords, chosen_schedule, question_of};
 use crate::topic::find_topic;
 use crate::turn_names::{TurnWord, turn_word};
@@ -16,12 +18,14 @@ use clap::{ArgMatches, Command, Error};
 use std::alloc::Global;
 use swift_types::limits::WORKERS;
 
-/// The file that was named.
-pub(crate) fn source<'a>(matches: &ArgMatches<'a>) -> Source<'a> {
-    match matches.get_str("file") {
+/// The text that is asked about: that of the file that was named, in the language that was.
+pub(crate) fn input<'a>(matches: &ArgMatches<'a>) -> Input<'a> {
+    let source = match matches.get_str("file") {
         Some(path) => source_of(path),
         None => Source::Stdin,
-    }
+    };
+    let language = language_of(matches.get_str("language"), source);
+    Input { source, language }
 }
 
 // Where a script comes from, by the word for it.
@@ -33,6 +37,29 @@ fn source_of(path: &str) -> Source<'_>
         Source::Stdin
     } else {
         Source::File(path)
+    }
+}
+
+// In which language a text is: as this word says, or where there is none, by the name of its file.
+fn language_of(word: Option<&str>, source: Source<'_>) -> Language
+    ensures swift { IfSome word.entry (λ w. w.now ≡ codes "swift" → result ≡ Swift) }
+    ensures script { IfSome word.entry (λ w. w.now ≢ codes "swift" → result ≡ Script) }
+    ensures unsaid { word.entry ≡ None → result ≡ language_by_source source.entry }
+{
+    match word {
+        Some("swift") => Language::Swift,
+        Some(_) => Language::Script,
+        None => language_by_source(source),
+    }
+}
+
+// In which language a text is, by where it comes from.
+fn language_by_source(source: Source<'_>) -> Language
+    ensures { result ≡ language_by_source source.entry }
+{
+    match source {
+        Source::File(path) if path.as_bytes().ends_with(b".swift") => Language::Swift,
+        _ => Language::Script,
     }
 }
 
@@ -73,7 +100,7 @@ fn run_request<'a>(matches: &ArgMatches<'a>) -> Result<Request<'a>, Refused>
         RunForm::Values => Question::Values(workers),
         _ => Question::Run(workers, matches.get_flag("quiet")),
     };
-    Ok(Request::Ask(source(matches), question))
+    Ok(Request::Ask(input(matches), question))
 }
 
 // What `run` is to say of a run.
@@ -100,7 +127,7 @@ fn scheduled<'a>(
 ) -> Request<'a>
     ensures { HasCrew result }
 {
-    Request::Ask(source(matches), question_of(schedule, form))
+    Request::Ask(input(matches), question_of(schedule, form))
 }
 
 // Whether a report is to be JSON.
@@ -130,7 +157,7 @@ fn show_request<'a>(matches: &ArgMatches<'a>) -> Result<Request<'a>, Refused>
         return Ok(scheduled(matches, schedule, RunForm::Picture(format)));
     }
     let question = Question::Show(workers_of(matches), format);
-    Ok(Request::Ask(source(matches), question))
+    Ok(Request::Ask(input(matches), question))
 }
 
 // What the words of `why` ask for, if they name a turn, or a schedule to one.
@@ -146,7 +173,7 @@ fn why_request<'a>(matches: &ArgMatches<'a>) -> Result<Request<'a>, Refused>
     match name {
         Some(name) => {
             let question = Question::Why(name, workers_of(matches));
-            Ok(Request::Ask(source(matches), question))
+            Ok(Request::Ask(input(matches), question))
         }
         None => Err(Refused {
             kind: ErrorKind::MissingRequiredArgument,
@@ -173,8 +200,8 @@ fn check_request<'a>(matches: &ArgMatches<'a>) -> Result<Request<'a>, Refused>
     ensures { IfOk result HasCrew }
 {
     match is_second(matches, "color", "never", "always") {
-        Some(_) if is_json(matches) => Ok(Request::Ask(source(matches), Question::CheckJson)),
-        Some(colour) => Ok(Request::Ask(source(matches), Question::Check(colour))),
+        Some(_) if is_json(matches) => Ok(Request::Ask(input(matches), Question::CheckJson)),
+        Some(colour) => Ok(Request::Ask(input(matches), Question::Check(colour))),
         None => Err(invalid("a colour is always or never")),
     }
 }
@@ -201,7 +228,7 @@ fn requested<'a>(alloc: Global, matches: &ArgMatches<'a>) -> Result<Request<'a>,
     }
     if let Some(found) = matches.subcommand_matches("print") {
         let question = Question::Print(found.get_flag("pretty"));
-        return Ok(Request::Ask(source(found), question));
+        return Ok(Request::Ask(input(found), question));
     }
     if let Some(found) = matches.subcommand_matches("show") {
         return show_request(found);
@@ -210,7 +237,7 @@ fn requested<'a>(alloc: Global, matches: &ArgMatches<'a>) -> Result<Request<'a>,
         return why_request(found);
     }
     if let Some(found) = matches.subcommand_matches("swift") {
-        return Ok(Request::Ask(source(found), swift_question(found)));
+        return Ok(Request::Ask(input(found), swift_question(found)));
     }
     if let Some(found) = matches.subcommand_matches("explore") {
         return explore_request(alloc, found);
@@ -260,7 +287,8 @@ fn is_second(matches: &ArgMatches<'_>, argument: &str, first: &str, second: &str
 /// - `print`, with a file and `--pretty`;
 /// - `explain`, with the word of a topic.
 ///
-/// A file that is `-` or missing is standard input.
+/// A file that is `-` or missing is standard input. Beside a file there may be `--language` with `script` or `swift`; without it a file whose
+/// name ends in `.swift` is Swift, and all else is a script.
 ///
 /// # Errors
 ///

@@ -1,13 +1,13 @@
--- What becomes of a Swift file, and what is said of one that is refused.
+-- What becomes of a Swift file, and what helps where one is refused.
 pub mod ActorTextsInside
 pub mod BlockTextsInside
 pub mod BodiesInside
+pub mod Lines
 pub mod MethodPlaces
 pub mod MethodTextsInside
 pub mod MistakesInside
 pub mod Names
 pub mod PlaceTexts
-pub mod Refusals
 pub mod ReturnsInside
 pub mod ScriptTextsInside
 pub mod SourcesInside

@@ -3,7 +3,7 @@ use Rattle.std.specs.Prelude.{ℕ, ◌≡◌, ◌≤◌, ◌+◌, List, ◌++◌
 use Rattle.swift_syntax.specs.Places.{IsTokenOf}
 use Rattle.swift_syntax.specs.declared.token.Token.{Token}
 use Rattle.swift_translation.specs.Names.{closure_in, closure_in_function, closure_in_main, file_name}
-use Rattle.swift_translation.specs.Refusals.{feeds}
+use Rattle.swift_translation.specs.Lines.{feeds}
 use Rattle.swift_translation.specs.declared.places.MethodPlace.{MethodPlace}
 
 -- the number of the line on which a place of a text lies, from 1

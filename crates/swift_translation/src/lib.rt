@@ -23,7 +23,7 @@ mod pool;
 mod places;
 // The text of a table of methods.
 mod place_text;
-// The text of a refusal.
+// What helps where a file is refused.
 mod refused;
 // What has to hold of actors.
 mod requirement;
@@ -56,4 +56,4 @@ pub use file::{SwiftScript, Translation, translate};
 pub use laws::names_are_told_apart;
 pub use place_text::{method_line, places_text};
 pub use places::MethodPlace;
-pub use refused::refusal_text;
+pub use refused::refusal_help;

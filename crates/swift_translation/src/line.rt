@@ -1,13 +1,7 @@
 //! The line of a text on which a place lies.
 
-ghost use Rattle.std.specs.Prelude.{◌≡◌, ◌<◌, ◌≤◌, ◌+◌, ◌++◌, IfOk, IfSome, length, map, max, take};
-ghost use Rattle.std.specs.String.{string_bytes};
-ghost use Rattle.swift_translation.specs.Refusals.{after_feed, before_feed, feed_in, feeds, left_of, right_of, shown_byte, shown_line, skip_lines};
-
-use std::alloc::{AllocError, Global};
-
-/// The most bytes of a line that are shown.
-pub(crate) const SHOWN: usize = 200;
+ghost use Rattle.std.specs.Prelude.{◌≡◌, ◌<◌, ◌≤◌, ◌+◌, IfSome, length, max, take};
+ghost use Rattle.swift_translation.specs.Lines.{after_feed, before_feed, feed_in, feeds, left_of, right_of, skip_lines};
 
 /// The later one of two places.
 pub(crate) fn later(left: usize, right: usize) -> usize
@@ -97,34 +91,4 @@ fn line_feed(text: &[u8]) -> Option<usize>
     ensures within { IfSome result (λ place. place < length text.now) }
 {
     text.iter().position(|byte| *byte == b'\n')
-}
-
-/// A line as it is shown: its first 200 bytes, each that is not printable ASCII as a space.
-///
-/// # Errors
-///
-/// `AllocError` where there is no memory for it.
-pub(crate) fn shown_line(alloc: Global, line: Line<'_>) -> Result<String, AllocError>
-    ensures { IfOk result (λ shown. string_bytes shown ≡ shown_line (line.entry.left.now ++ line.entry.right.now)) }
-{
-    let mut whole = Vec::new(alloc);
-    whole.extend_from_slice(line.left)?;
-    whole.extend_from_slice(line.right)?;
-    shown(alloc, &whole[..whole.len().min(SHOWN)])
-}
-
-fn shown(alloc: Global, line: &[u8]) -> Result<String, AllocError>
-    ensures { IfOk result (λ shown. string_bytes shown ≡ map shown_byte line.now) }
-{
-    let bytes: Vec<u8> = line.iter().map(|b| shown_byte(*b)).collect(alloc)?;
-    Ok(String::from_utf8(bytes).unwrap())
-}
-
-fn shown_byte(byte: u8) -> u8
-    ensures { result ≡ shown_byte byte }
-{
-    match byte {
-        b' '..=b'~' => byte,
-        _ => b' ',
-    }
 }

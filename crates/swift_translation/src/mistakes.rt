@@ -139,7 +139,11 @@ static UNEXPECTED: [Words; 53] = rows! {
 };
 
 // Forms outside of the subset.
-static OUTSIDE: [Words; 35] = rows! {
+static OUTSIDE: [Words; 37] = rows! {
+    ["func" "main" _] =>
+        "write `static func main() async`: what throws in it stands in a `do` with `catch`, or behind `try?`";
+    [_ "struct" _] =>
+        "keep its values as fields of an actor: there are no structs";
     ["in" "[" _] =>
         "there are no collections: count over a range, as `for k in 0..<3`";
     [_ "[" _] =>

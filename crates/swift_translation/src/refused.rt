@@ -1,43 +1,19 @@
-//! The text of a refusal.
+//! What helps where a file is refused.
 
-ghost use Rattle.std.specs.Prelude.{◌≡◌, ◌++◌, IfOk, length, min};
-ghost use Rattle.std.specs.String.{string_bytes};
-ghost use Rattle.swift_translation.specs.Refusals.{IsSaidOf, arrow_text, bar_text, head_text, help_text, mark_text, place_text, source_text};
-
-use crate::line::{Line, SHOWN, line_at, shown_line};
+use crate::line::{Line, line_at};
 use crate::mistakes::mistake_help;
-use std::alloc::{AllocError, Global};
 use swift_syntax::{Refusal, Rule};
+use swift_types::limits::BYTES;
 
-/// What is said of a refusal: its number and its rule, where it is, that line of the file with a mark under the bytes to blame, and what to
-/// do. Linear in the text.
-///
-/// # Errors
-///
-/// `AllocError` where there is no memory for it.
-pub fn refusal_text(
-    alloc: Global,
-    file: &str,
-    text: &[u8],
-    refusal: Refusal,
-) -> Result<Vec<u8>, AllocError>
-    ensures { IfOk result (λ said. IsSaidOf file.now text.now refusal said.items) }
-{
-    let line = line_at(text, refusal.from);
-    let number = line.number.to_string(alloc)?;
-    let gutter = " ".repeat(alloc, number.len())?;
-    let many = refusal.to.saturating_sub(refusal.from);
-    let head = head(alloc, refusal.rule.name(), refusal.rule.title())?;
-    let place = place(alloc, file, gutter.as_str(), number.as_str(), line, many)?;
-    let help = help(alloc, gutter.as_str(), help_of(text, line, refusal))?;
-    let parts = [head.as_str(), place.as_str(), help.as_str()];
-    Ok(parts.as_slice().concat(alloc)?.into_bytes())
+/// What to do about a refusal: a text of printable ASCII. Linear in the text.
+pub fn refusal_help(text: &[u8], refusal: Refusal) -> &'static str {
+    help_of(text, line_at(text, refusal.from), refusal)
 }
 
 // What to do.
 fn help_of(text: &[u8], line: Line<'_>, refusal: Refusal) -> &'static str {
-    if is_do(text, refusal) {
-        return DO_HELP;
+    if let Some(help) = help_by_place(text, line, refusal) {
+        return help;
     }
     let many = refusal.to.saturating_sub(refusal.from);
     match mistake_help(refusal.rule, line.left, line.right, many) {
@@ -46,11 +22,42 @@ fn help_of(text: &[u8], line: Line<'_>, refusal: Refusal) -> &'static str {
     }
 }
 
-// Whether a `do` is not taken.
-fn is_do(text: &[u8], refusal: Refusal) -> bool {
-    match text.get(refusal.from..refusal.to) {
-        Some([b'd', b'o']) => refusal.rule == Rule::NotYet,
-        _ => false,
+// What to do, where more than the words beside what is blamed tells it.
+fn help_by_place(text: &[u8], line: Line<'_>, refusal: Refusal) -> Option<&'static str> {
+    let blamed = text.get(refusal.from..refusal.to).unwrap_or(b"");
+    match refusal.rule {
+        Rule::NotYet if blamed == b"do".as_slice() => Some(DO_HELP),
+        Rule::TooLarge if text.len() > BYTES => Some(LONG_HELP),
+        Rule::Unexpected if refusal.from >= text.len() => Some(end_help(text)),
+        Rule::Unexpected if line.left.is_empty() && is_statement(blamed) => Some(MAIN_HELP),
+        Rule::Outside if line.left.is_empty() && is_statement(blamed) => Some(MAIN_HELP),
+        Rule::Unexpected => part_help(line.left, blamed),
+        _ => None,
+    }
+}
+
+// What to do about a text that ends too early.
+fn end_help(text: &[u8]) -> &'static str {
+    let has_main = (0..text.len()).any(|place| text[place..].starts_with(b"@main"));
+    if has_main { BRACE_HELP } else { MAIN_HELP }
+}
+
+// Whether a word begins a statement.
+fn is_statement(word: &[u8]) -> bool {
+    const WORDS: [&[u8]; 8] = [
+        b"await", b"try", b"print", b"Task", b"for", b"while", b"if", b"do",
+    ];
+    WORDS.iter().any(|each| *each == word)
+}
+
+// What to do about a token that has no end, or that gives a case a value.
+fn part_help(left: &[u8], blamed: &[u8]) -> Option<&'static str> {
+    match blamed {
+        [b'/', b'*', ..] => Some(COMMENT_HELP),
+        [b'"'] => Some(TEXT_HELP),
+        [b'"', .., last] if *last != b'"' => Some(TEXT_HELP),
+        [b'('] if left.trim_ascii_start().starts_with(b"case ") => Some(CASE_HELP),
+        _ => None,
     }
 }
 
@@ -58,98 +65,23 @@ fn is_do(text: &[u8], refusal: Refusal) -> bool {
 const DO_HELP: &str =
     "what a `do` catches is a `try await` of a call or task behind `=`, `return` or nothing, in the `do` itself: put an `if`, a loop, `throw` and `async let` with it into a method or function that is `async throws`";
 
-// The number of a rule, and what is wrong.
-fn head<'a>(alloc: Global, name: &'a str, title: &'a str) -> Result<String, AllocError>
-    ensures { IfOk result (λ said. string_bytes said ≡ head_text name.now title.now) }
-{
-    let parts = ["error[", name, "]: ", title, "\n"];
-    parts.as_slice().concat(alloc)
-}
+// What to do about a text that is too long.
+const LONG_HELP: &str =
+    "a file has at most 65,536 bytes: keep the actors and tasks that the question is about";
 
-// Where a refusal is, with this number beside the line, and the gutter beside all else.
-fn place(
-    alloc: Global,
-    file: &str,
-    gutter: &str,
-    number: &str,
-    line: Line<'_>,
-    many: usize,
-) -> Result<String, AllocError>
-    ensures { IfOk result (λ said. string_bytes said ≡ place_text file.now gutter.now number.now line.entry.left.now line.entry.right.now many) }
-{
-    let before = line.left.len();
-    let arrow = arrow(alloc, gutter, file, number, before + 1)?;
-    let bar = bar(alloc, gutter)?;
-    let source = source(alloc, number, line)?;
-    let mark = mark(alloc, gutter, before, many.min(line.right.len()))?;
-    let parts = [
-        arrow.as_str(),
-        bar.as_str(),
-        source.as_str(),
-        mark.as_str(),
-        bar.as_str(),
-    ];
-    parts.as_slice().concat(alloc)
-}
+// What to do where a file has no `main`, or statements outside of it.
+const MAIN_HELP: &str =
+    "statements stand in `main`, which a file has once: `@main struct Main { static func main() async { .. } }`";
 
-// The file, the line and the column.
-fn arrow<'a>(
-    alloc: Global,
-    gutter: &'a str,
-    file: &'a str,
-    number: &'a str,
-    column: usize,
-) -> Result<String, AllocError>
-    ensures { IfOk result (λ said. string_bytes said ≡ arrow_text gutter.now file.now number.now column) }
-{
-    let column = column.to_string(alloc)?;
-    let parts = [
-        gutter,
-        "--> ",
-        file,
-        ":",
-        number,
-        ":",
-        column.as_str(),
-        "\n",
-    ];
-    parts.as_slice().concat(alloc)
-}
+// What to do where a text ends inside of braces.
+const BRACE_HELP: &str = "the file ends here, and some `{` is still open: write its `}`";
 
-// A line with nothing on it.
-fn bar(alloc: Global, gutter: &str) -> Result<String, AllocError>
-    ensures { IfOk result (λ said. string_bytes said ≡ bar_text gutter.now) }
-{
-    let parts = [gutter, " |\n"];
-    parts.as_slice().concat(alloc)
-}
+// What to do about a comment that does not end.
+const COMMENT_HELP: &str = "the comment has no end: write `*/`";
 
-// A line of the file, with its number.
-fn source(alloc: Global, number: &str, line: Line<'_>) -> Result<String, AllocError>
-    ensures { IfOk result (λ said. string_bytes said ≡ source_text number.now (line.entry.left.now ++ line.entry.right.now)) }
-{
-    let shown = shown_line(alloc, line)?;
-    let parts = [number, " | ", shown.as_str(), "\n"];
-    parts.as_slice().concat(alloc)
-}
+// What to do about a text that does not end.
+const TEXT_HELP: &str = "a text ends on its line, with a quote";
 
-// A mark under so many bytes of a line, behind others; none where these are not shown.
-fn mark(alloc: Global, gutter: &str, before: usize, many: usize) -> Result<String, AllocError>
-    ensures { IfOk result (λ said. string_bytes said ≡ mark_text gutter.now before many) }
-{
-    if before >= SHOWN {
-        return Ok(String::new(alloc));
-    }
-    let blank = " ".repeat(alloc, before)?;
-    let under = "^".repeat(alloc, many.max(1).min(SHOWN - before))?;
-    let parts = [gutter, " | ", blank.as_str(), under.as_str(), "\n"];
-    parts.as_slice().concat(alloc)
-}
-
-// The line on what to do.
-fn help<'a>(alloc: Global, gutter: &'a str, help: &'a str) -> Result<String, AllocError>
-    ensures { IfOk result (λ said. string_bytes said ≡ help_text gutter.now help.now) }
-{
-    let parts = [gutter, " = help: ", help, "\n"];
-    parts.as_slice().concat(alloc)
-}
+// What to do about a case of an enum with a value.
+const CASE_HELP: &str =
+    "a case has no value: write its name alone, and keep the value in a field of the actor";

@@ -1,5 +1,5 @@
 use Rattle.std.proofs.Common.{◌≡◌}
-use Rattle.swift_translation.specs.Refusals.{skip_lines}
+use Rattle.swift_translation.specs.Lines.{skip_lines}
 use Rattle.swift_translation.proofs.line.from_line.Given as goal
 
 -- the first `counter` lines are passed
