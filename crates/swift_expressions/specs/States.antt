@@ -27,6 +27,8 @@ use Rattle.swift_expressions.specs.declared.lowering.Fallback.{Fallback}
 use Rattle.swift_expressions.specs.declared.lowering.Fallback.TheVariants as fallbacks
 use Rattle.swift_expressions.specs.declared.lowering.Lowering.{Lowering}
 use Rattle.swift_expressions.specs.declared.lowering.Returns.{Returns}
+use Rattle.swift_expressions.specs.declared.lowering.Returns.TheVariants as returning
+use Rattle.swift_expressions.specs.declared.lowering.Setting.{Setting}
 use Rattle.swift_expressions.specs.declared.scope.Binding.{Binding}
 use Rattle.swift_expressions.specs.declared.scope.Standing.{Standing}
 use Rattle.swift_expressions.specs.declared.scope.Standing.TheVariants as standings
@@ -74,6 +76,52 @@ state_of l = record {
   fallback = l.setting.fallback;
   returns = l.setting.returns;
   groups = l.setting.groups;
+}
+
+-- nothing of a file was put, and nothing is in scope
+abbrev pub not_begun : List ℕ → List Token → Tree → State
+not_begun text tokens tree = record {
+  text = text;
+  tokens = tokens;
+  tree = tree;
+  instructions = [];
+  values = [];
+  operands = [];
+  variables = [];
+  units = [];
+  scope = [];
+  unit = NONE;
+  actor = NONE;
+  boundary = 0;
+  is_closure = false;
+  is_expectation = false;
+  is_awaited = false;
+  fallback = fallbacks.None;
+  returns = returning.Unit;
+  groups = 0;
+}
+
+-- how a unit begins that may not wait and not throw
+abbrev pub setting_for : ℕ → ℕ → Setting
+setting_for unit actor = record {
+  unit = unit;
+  actor = actor;
+  boundary = 0;
+  is_async = false;
+  is_throwing = false;
+  catching = NONE;
+  is_closure = false;
+  is_expectation = false;
+  is_awaited = false;
+  is_tried = false;
+  fallback = fallbacks.None;
+  result = None;
+  returns = returning.Unit;
+  has_thrown = false;
+  block_start = 0;
+  blocks = 0;
+  loops = 0;
+  groups = 0;
 }
 
 -- an expression that was looked for

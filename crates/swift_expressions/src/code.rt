@@ -1,5 +1,7 @@
 //! The instructions.
 
+ghost use Rattle.std.specs.Prelude.{◌≡◌, []};
+
 use crate::lines::Spot;
 use std::alloc::Global;
 use swift_types::{Operator, Priority};
@@ -212,7 +214,13 @@ pub struct Code {
 
 impl Code {
     /// No instructions.
-    pub fn new(alloc: Global) -> Code {
+    pub fn new(alloc: Global) -> Code
+        ensures instructions { result.instructions.items ≡ [] }
+        ensures values { result.values.items ≡ [] }
+        ensures operands { result.operands.items ≡ [] }
+        ensures variables { result.variables.items ≡ [] }
+        ensures units { result.units.items ≡ [] }
+    {
         Code {
             instructions: Vec::new(alloc),
             values: Vec::new(alloc),

@@ -3,7 +3,7 @@
 ghost use Rattle.std.specs.List.{slice_get};
 ghost use Rattle.std.specs.Prelude.{◌≡◌, ◌++◌, ◌∷◌, [], IsTrue, IsNone, IsSome, length, ℕ, false, ◌↔◌};
 ghost use Rattle.swift_expressions.specs.Instructions.{IsPlaced, IsVariableOf, KeepsRefusal, Puts, value_at};
-ghost use Rattle.swift_expressions.specs.States.{Becomes, IsBegun, IsDeclared, argument_at, bytes_at, expr_at, fault_of, in_scope, named, next_value, next_variable, put, returned_inside, state_of, stmt_at, with_done, with_fallback, with_operand, with_temporary, with_value, with_variable};
+ghost use Rattle.swift_expressions.specs.States.{Becomes, IsBegun, IsDeclared, argument_at, bytes_at, expr_at, fault_of, in_scope, named, next_value, next_variable, not_begun, put, returned_inside, setting_for, state_of, stmt_at, with_done, with_fallback, with_operand, with_temporary, with_value, with_variable};
 
 use crate::code::{Code, Instruction, Kind, NONE, Operand, Unit, UnitKind, Value, Variable};
 use crate::lines::{Lines, Spot};
@@ -101,7 +101,9 @@ pub struct Lowering<'a> {
 }
 
 /// The beginning of a unit that may not wait and not throw.
-pub fn setting_of(unit: usize, actor: usize) -> Setting {
+pub fn setting_of(unit: usize, actor: usize) -> Setting
+    ensures { result ≡ setting_for unit actor }
+{
     Setting {
         unit,
         actor,
@@ -131,7 +133,9 @@ impl<'a> Lowering<'a> {
         text: &'a [u8],
         tokens: &'a [Token],
         tree: &'a Box<Tree>,
-    ) -> Lowering<'a> {
+    ) -> Lowering<'a>
+        ensures state { state_of result ≡ not_begun text.now tokens.now tree.now.value }
+    {
         let (lines, refused) = match Lines::of(alloc, text, tokens) {
             Ok(lines) => (lines, None),
             Err(_) => (Lines::new(alloc), Some(NO_MEMORY)),

@@ -2,6 +2,7 @@ pub mod Blocked
 pub mod Caught
 pub mod Changes
 pub mod Enclosed
+pub mod Filed
 pub mod Growing
 pub mod Grown
 pub mod OneValue

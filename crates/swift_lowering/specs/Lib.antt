@@ -18,3 +18,5 @@ pub mod Groups
 pub mod Returning
 -- What statements with a block become.
 pub mod Blocks
+-- What whole files become.
+pub mod Files

@@ -1,4 +1,7 @@
-//! What has to hold of a file as a whole.
+//! What has to hold of a file as a whole. These refuse, or change nothing.
+
+ghost use Rattle.swift_expressions.specs.Instructions.{KeepsRefusal};
+ghost use Rattle.swift_expressions.specs.States.{Becomes, state_of};
 
 use swift_expressions::{
     Kind, Lowering, NONE, actor_of, field_kind, has_label, has_member, instance_at, instance_named,
@@ -7,21 +10,30 @@ use swift_expressions::{
 use swift_syntax::{ExprForm, FieldDecl, FieldStart, MethodDecl, Rule, ValueType};
 
 // Refuses a name that a table has twice, by its places.
-fn refuse_same(lowering: &mut Lowering<'_>, left: usize, right: usize) {
+fn refuse_same(lowering: &mut Lowering<'_>, left: usize, right: usize)
+    ensures state { Becomes lowering.new (state_of lowering.old) }
+    ensures refused { KeepsRefusal lowering.old lowering.new }
+{
     if left != right && lowering.are_same(left, right) {
         lowering.refuse(Rule::NameTwice, left.max(right));
     }
 }
 
 // Refuses a name of what Swift itself has.
-fn refuse_kept(lowering: &mut Lowering<'_>, name: usize) {
+fn refuse_kept(lowering: &mut Lowering<'_>, name: usize)
+    ensures state { Becomes lowering.new (state_of lowering.old) }
+    ensures refused { KeepsRefusal lowering.old lowering.new }
+{
     if is_kept(lowering, name) {
         lowering.refuse(Rule::NameTwice, name);
     }
 }
 
 // Refuses the name of a member that would stand for what Swift itself has. One that is a global name too is refused where that is used.
-fn check_member(lowering: &mut Lowering<'_>, name: usize) {
+fn check_member(lowering: &mut Lowering<'_>, name: usize)
+    ensures state { Becomes lowering.new (state_of lowering.old) }
+    ensures refused { KeepsRefusal lowering.old lowering.new }
+{
     refuse_kept(lowering, name);
     if lowering.spells(name, "_") {
         lowering.refuse(Rule::UnknownName, name);
@@ -29,7 +41,10 @@ fn check_member(lowering: &mut Lowering<'_>, name: usize) {
 }
 
 /// Refuses methods and fields of one actor with one name, and names that Swift itself has.
-pub(crate) fn check_members(lowering: &mut Lowering<'_>) {
+pub(crate) fn check_members(lowering: &mut Lowering<'_>)
+    ensures state { Becomes lowering.new (state_of lowering.old) }
+    ensures refused { KeepsRefusal lowering.old lowering.new }
+{
     let tree = lowering.tree;
     for method in tree.methods.iter() {
         check_member(lowering, method.name);
@@ -55,7 +70,10 @@ pub(crate) fn check_members(lowering: &mut Lowering<'_>) {
 }
 
 // Refuses a global name that is there twice, or is kept.
-fn check_global(lowering: &mut Lowering<'_>, name: usize) {
+fn check_global(lowering: &mut Lowering<'_>, name: usize)
+    ensures state { Becomes lowering.new (state_of lowering.old) }
+    ensures refused { KeepsRefusal lowering.old lowering.new }
+{
     let tree = lowering.tree;
     for actor in tree.actors.iter() {
         refuse_same(lowering, name, actor.name);
@@ -87,7 +105,10 @@ fn has_line(name: &[u8]) -> bool {
 }
 
 // Refuses the name of a function that another declaration has, or that could be a closure's.
-fn check_function(lowering: &mut Lowering<'_>, method: MethodDecl) {
+fn check_function(lowering: &mut Lowering<'_>, method: MethodDecl)
+    ensures state { Becomes lowering.new (state_of lowering.old) }
+    ensures refused { KeepsRefusal lowering.old lowering.new }
+{
     check_global(lowering, method.name);
     if method.is_async && has_line(lowering.bytes(method.name)) {
         lowering.refuse(Rule::NameTwice, method.name);
@@ -95,7 +116,10 @@ fn check_function(lowering: &mut Lowering<'_>, method: MethodDecl) {
 }
 
 /// Refuses global names that are there twice, or are kept.
-pub(crate) fn check_globals(lowering: &mut Lowering<'_>) {
+pub(crate) fn check_globals(lowering: &mut Lowering<'_>)
+    ensures state { Becomes lowering.new (state_of lowering.old) }
+    ensures refused { KeepsRefusal lowering.old lowering.new }
+{
     let tree = lowering.tree;
     for actor in tree.actors.iter() {
         check_global(lowering, actor.name);
@@ -139,7 +163,10 @@ fn check_literal(
     wanted: Option<ValueType>,
     value: usize,
     name: usize,
-) {
+)
+    ensures state { Becomes lowering.new (state_of lowering.old) }
+    ensures refused { KeepsRefusal lowering.old lowering.new }
+{
     let (_, kind) = literal(lowering, value);
     if let Some(wanted) = wanted {
         if kind != kind_of(wanted) {
@@ -149,7 +176,10 @@ fn check_literal(
 }
 
 // The type of a parameter of an actor's init; refuses another name.
-fn param_kind(lowering: &mut Lowering<'_>, actor: usize, name: usize) -> Kind {
+fn param_kind(lowering: &mut Lowering<'_>, actor: usize, name: usize) -> Kind
+    ensures state { Becomes lowering.new (state_of lowering.old) }
+    ensures refused { KeepsRefusal lowering.old lowering.new }
+{
     let tree = lowering.tree;
     if let Some(made) = tree.actors.get(actor) {
         for place in made.first_param..made.params_end {
@@ -165,7 +195,10 @@ fn param_kind(lowering: &mut Lowering<'_>, actor: usize, name: usize) -> Kind {
 }
 
 // Refuses what an init gives a field of another type, or one that has its value for good.
-fn check_given(lowering: &mut Lowering<'_>, place: usize, field: FieldDecl) {
+fn check_given(lowering: &mut Lowering<'_>, place: usize, field: FieldDecl)
+    ensures state { Becomes lowering.new (state_of lowering.old) }
+    ensures refused { KeepsRefusal lowering.old lowering.new }
+{
     if field.given == 0 {
         return;
     }
@@ -183,7 +216,10 @@ fn check_given(lowering: &mut Lowering<'_>, place: usize, field: FieldDecl) {
 }
 
 /// Refuses start values of fields, constants and task locals that are of another type than is given.
-pub(crate) fn check_starts(lowering: &mut Lowering<'_>) {
+pub(crate) fn check_starts(lowering: &mut Lowering<'_>)
+    ensures state { Becomes lowering.new (state_of lowering.old) }
+    ensures refused { KeepsRefusal lowering.old lowering.new }
+{
     let tree = lowering.tree;
     for (place, field) in tree.fields.iter().enumerate() {
         if let FieldStart::Value(value) = field.start {
@@ -200,7 +236,10 @@ pub(crate) fn check_starts(lowering: &mut Lowering<'_>) {
 }
 
 // Refuses arguments of an instance other than the init of its actor wants.
-fn check_instance(lowering: &mut Lowering<'_>, instance: usize) {
+fn check_instance(lowering: &mut Lowering<'_>, instance: usize)
+    ensures state { Becomes lowering.new (state_of lowering.old) }
+    ensures refused { KeepsRefusal lowering.old lowering.new }
+{
     let Some(declared) = instance_at(lowering, instance) else {
         return;
     };
@@ -233,7 +272,10 @@ fn check_instance(lowering: &mut Lowering<'_>, instance: usize) {
 }
 
 // Refuses an instance of what is neither an actor nor an executor.
-fn check_executor(lowering: &mut Lowering<'_>, of: usize, arguments: usize) {
+fn check_executor(lowering: &mut Lowering<'_>, of: usize, arguments: usize)
+    ensures state { Becomes lowering.new (state_of lowering.old) }
+    ensures refused { KeepsRefusal lowering.old lowering.new }
+{
     let is_declared = lowering
         .tree
         .executors
@@ -248,7 +290,10 @@ fn check_executor(lowering: &mut Lowering<'_>, of: usize, arguments: usize) {
 }
 
 // Refuses an actor's executor, 0 for none, that is no instance of a class of executors, or whose name means a member of the actor.
-fn check_seat(lowering: &mut Lowering<'_>, actor: usize, executor: usize) {
+fn check_seat(lowering: &mut Lowering<'_>, actor: usize, executor: usize)
+    ensures state { Becomes lowering.new (state_of lowering.old) }
+    ensures refused { KeepsRefusal lowering.old lowering.new }
+{
     if executor == 0 {
         return;
     }
@@ -265,7 +310,10 @@ fn check_seat(lowering: &mut Lowering<'_>, actor: usize, executor: usize) {
 }
 
 /// Refuses actors without an instance, and a file without one `main`.
-pub(crate) fn check_whole(lowering: &mut Lowering<'_>) {
+pub(crate) fn check_whole(lowering: &mut Lowering<'_>)
+    ensures state { Becomes lowering.new (state_of lowering.old) }
+    ensures refused { KeepsRefusal lowering.old lowering.new }
+{
     let tree = lowering.tree;
     for (place, actor) in tree.actors.iter().enumerate() {
         let is_made = (0..tree.instances.len()).any(|i| actor_of(lowering, i) == place);

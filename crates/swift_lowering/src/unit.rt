@@ -62,8 +62,8 @@ pub(crate) fn end_unit(lowering: &mut Lowering<'_>, begun: OpenUnit, end: usize)
     exchange(lowering, begun.skip, Instruction::Skip(here));
 }
 
-// A unit has its instructions from a place on, up to another one, and ends with a token.
-fn bound(lowering: &mut Lowering<'_>, unit: usize, from: usize, to: usize, end: usize)
+/// A unit has its instructions from a place on, up to another one, and ends with a token.
+pub(crate) fn bound(lowering: &mut Lowering<'_>, unit: usize, from: usize, to: usize, end: usize)
     ensures state { Becomes lowering.new (with_bounds unit from to end (state_of lowering.old)) }
     ensures instructions { lowering.new.code.instructions ≡ lowering.old.code.instructions }
     ensures refused { KeepsRefusal lowering.old lowering.new }
