@@ -37,7 +37,9 @@ class Part:
         self.path, self.line, self.name, self.lines, self.made = path, line, name, [], []
 
     def text(self):
-        return "\n".join(re.sub(r"--.*|//.*", "", line) for line in self.lines)
+        # Without its texts, in which names and the signs of comments mean nothing.
+        bare = (re.sub(r'"(?:[^"\\]|\\.)*"', '""', line) for line in self.lines)
+        return "\n".join(re.sub(r"--.*|//.*", "", line) for line in bare)
 
 
 def imported(text, names, aliases):

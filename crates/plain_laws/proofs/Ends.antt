@@ -1,5 +1,5 @@
 -- What ends an expression.
-use Rattle.plain_laws.proofs.Prelude.{EndsExpr, ends_before, ◌≡◌, ℕ, true, false, List, refl, false≢true, kind_at, Token, TokenKind}
+use Rattle.plain_laws.proofs.Prelude.{EndsExpr, ends_before, ◌≡◌, ℕ, true, List, refl, false≢true, kind_at, Token, TokenKind}
 use Rattle.swift_syntax.specs.declared.sign.Sign.TheVariants as sign
 use Rattle.swift_syntax.specs.declared.token.TokenKind.TheVariants as kind
 use Rattle.plain_laws.proofs.Trees.{ends_at}

@@ -1,9 +1,9 @@
 -- What stands at the front of the bytes of a token.
-use Rattle.plain_laws.proofs.Prelude.{IsName, goes_on, mark_of, mark_spelling, ◌≡◌, ℕ, pos, ◌<◌, ◌^◌, ◌+◌, ◌-◌, ◌*◌, Bool, true, false, ◌&&◌, ◌||◌, ◌==◌, not, eqb, nat_lt, List, [], ◌∷◌, ◌++◌, length, take, drop, refl, sym, ap, ◌∙◌, arith, rules, nat_tests, decimal_nonempty, digits_decimal, digits_value-decimal, decimal, list_all, prefix_len, take_while, is_digit, is_letter, is_name_byte, is_number_byte, Operator}
+use Rattle.plain_laws.proofs.Prelude.{IsName, begins_name, goes_on, mark_of, mark_spelling, ◌≡◌, ℕ, pos, ◌<◌, ◌^◌, ◌+◌, ◌-◌, ◌*◌, Bool, true, false, ◌&&◌, ◌||◌, ◌==◌, not, eqb, nat_lt, List, [], ◌∷◌, ◌++◌, length, take, drop, refl, sym, ap, ◌∙◌, arith, rules, nat_tests, decimal_nonempty, digits_decimal, digits_value-decimal, decimal, list_all, prefix_len, take_while, is_digit, is_letter, is_name_byte, is_number_byte, Operator}
 use Rattle.std.specs.Int.{IsInRange}
 use Rattle.std.proofs.lemmas.Str.Parse.{IsNumeralModel, FoldsDigits, numerals_by_fold}
 use Rattle.swift_types.specs.declared.operator.Operator.TheVariants as op
-use Rattle.swift_syntax.specs.Fronts.{a_space, a_token, decimal_behind, front_of, front_at, number_before, number_of, sign_at, slashed_at, word_as}
+use Rattle.swift_syntax.specs.Fronts.{a_line, a_space, a_token, decimal_behind, front_of, front_at, number_before, number_of, sign_at, slashed_at, word_as}
 use Rattle.swift_syntax.specs.Words.{word_of}
 use Rattle.swift_syntax.specs.declared.sign.Sign.TheVariants as sign
 use Rattle.swift_syntax.specs.declared.token.TokenKind.TheVariants as kind
@@ -132,14 +132,28 @@ front_of_digit : (b : ℕ) (bs : List ℕ) → is_digit b ≡ true → front_of 
 unfolding front_at
 front_of_digit b bs h = rw h refl
 
--- a name is taken up to what ends it
-pub name_front : (w bs : List ℕ) → IsName w → goes_on bs ≡ false → front_of (w ++ bs) ≡ (a_token kind.Name, bs)
-name_front [] bs h e = cc (h.begins)
-name_front (x ∷ w) bs h e =
-    let len : prefix_len is_name_byte (x ∷ (w ++ bs)) ≡ length (x ∷ w) = passed is_name_byte (x ∷ w) bs h.bytes (stopped bs e) in
+-- bytes of a name are taken up to what ends them, for a name or a keyword
+pub spelt_front : (w bs : List ℕ) → begins_name w ≡ true → list_all is_name_byte w ≡ true → goes_on bs ≡ false → front_of (w ++ bs) ≡ (a_token (word_as (word_of w)), bs)
+spelt_front [] bs begins all e = cc (begins)
+spelt_front (x ∷ w) bs begins all e =
+    let len : prefix_len is_name_byte (x ∷ (w ++ bs)) ≡ length (x ∷ w) = passed is_name_byte (x ∷ w) bs all (stopped bs e) in
     let front : take_while is_name_byte (x ∷ (w ++ bs)) ≡ x ∷ w = ap (λ n. take n (x ∷ (w ++ bs))) len ∙ take_front (x ∷ w) bs in
     let rest : drop (prefix_len is_name_byte (x ∷ (w ++ bs))) (x ∷ (w ++ bs)) ≡ bs = ap (λ n. drop n (x ∷ (w ++ bs))) len ∙ drop_front (x ∷ w) bs in
-    front_of_letter x (w ++ bs) h.begins ∙ ap (λ v. (a_token (word_as (word_of v)), drop (prefix_len is_name_byte (x ∷ (w ++ bs))) (x ∷ (w ++ bs)))) front ∙ ap (λ v. (a_token (word_as (word_of (x ∷ w))), v)) rest ∙ ap (λ k. (a_token (word_as k), bs)) h.no_keyword
+    front_of_letter x (w ++ bs) begins ∙ ap (λ v. (a_token (word_as (word_of v)), drop (prefix_len is_name_byte (x ∷ (w ++ bs))) (x ∷ (w ++ bs)))) front ∙ ap (λ v. (a_token (word_as (word_of (x ∷ w))), v)) rest
+
+-- a name is taken up to what ends it
+pub name_front : (w bs : List ℕ) → IsName w → goes_on bs ≡ false → front_of (w ++ bs) ≡ (a_token kind.Name, bs)
+name_front w bs h e = spelt_front w bs h.begins h.bytes e ∙ ap (λ k. (a_token (word_as k), bs)) h.no_keyword
+
+pub line_front : (bs : List ℕ) → front_of (10 ∷ bs) ≡ (a_line, bs)
+unfolding front_at
+line_front bs = refl
+
+-- `=` with a space behind it
+pub assign_front : (bs : List ℕ) → front_of (61 ∷ 32 ∷ bs) ≡ (a_token (kind.Sign sign.Assign), 32 ∷ bs)
+unfolding front_at slashed_at sign_at
+assign_front [] = refl
+assign_front (b ∷ bs) = refl
 
 no_underscore : (c : ℕ) → IsInRange 48 57 c → eqb c 95 ≡ false
 no_underscore c h = grind (arith, nat_tests)

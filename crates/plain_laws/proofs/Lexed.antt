@@ -68,7 +68,7 @@ number_lexed {i = i} (d ∷ ds) n bs e long h g r =
     let t = step d ds bs (kind.Number (pos n)) long front r in
     record { end = after i; told = (t.kind, refl); next = t.next }
 
-name_lexed : {text : List ℕ} {tokens : List Token} {i : ℕ} (w bs : List ℕ) → length tokens < 2 ^ 64 → IsName w → goes_on bs ≡ false → Rest text tokens i (w ++ bs) → Lexed text tokens i (told_plain (Bare (Name w))) bs
+pub name_lexed : {text : List ℕ} {tokens : List Token} {i : ℕ} (w bs : List ℕ) → length tokens < 2 ^ 64 → IsName w → goes_on bs ≡ false → Rest text tokens i (w ++ bs) → Lexed text tokens i (told_plain (Bare (Name w))) bs
 name_lexed [] bs long h g r = cc (h.begins)
 name_lexed {i = i} (b ∷ w) bs long h g r =
     let t = step b w bs kind.Name long (name_front (b ∷ w) bs h g) r in

@@ -3,6 +3,7 @@ pub mod Ends
 pub mod Forward
 pub mod Fronts
 pub mod Lexed
+pub mod Lined
 pub mod Operators
 pub mod Steps
 pub mod Tests

@@ -6,7 +6,7 @@ pub use Rattle.script_grammar.specs.Grammar.{mark_of, precedence_of}
 pub use Rattle.script_grammar.specs.Tree.{Both, ExprTree, Inverted, IsCancelled, Local, Named, Negated, Number, OwnPriority}
 pub use Rattle.script_tokens.specs.Pieces.{Key, Name, Num, Sign}
 pub use Rattle.script_tokens.specs.Spelling.{mark_spelling}
-pub use Rattle.std.proofs.Common.{Bool, List, None, Option, Some, [], ap, arith, codes, drop, drop-cons, eqb, false, get_or, length, nat_lt, negsuc, not, pos, refl, rules, subst, suc, sym, take, true, ℕ, ℤ, ◌&&◌, ◌*◌, ◌++◌, ◌+◌, ◌-◌, ◌<◌, ◌==◌, ◌^◌, ◌||◌, ◌∙◌, ◌∷◌, ◌≡◌, ◌≢◌, ◌≤◌}
+pub use Rattle.std.proofs.Common.{Bool, List, None, Option, Some, [], ap, arith, codes, drop, drop-cons, eqb, false, get_or, length, nat_lt, negsuc, not, pos, refl, rules, subst, suc, sym, take, true, zero, ℕ, ℤ, ◌&&◌, ◌*◌, ◌++◌, ◌+◌, ◌-◌, ◌<◌, ◌==◌, ◌^◌, ◌||◌, ◌∙◌, ◌∷◌, ◌≡◌, ◌≢◌, ◌≤◌}
 pub use Rattle.std.proofs.lemmas.Bool.{false≢true, le-ltb, lt-ltb}
 pub use Rattle.std.proofs.lemmas.Bool.Decides.{nat_tests}
 pub use Rattle.std.proofs.lemmas.Fmt.{decimal_nonempty, digits_decimal, digits_value-decimal}

@@ -29,13 +29,23 @@ first_token {text} {bs} {rest} {b} {k} {line} {space} h (one_here {rest = r} {k 
     }
 
 -- white space stands at the front
-behind_space : {text bs rest : List ℕ} {b : ℕ} {line space : Bool} {ts : List Token} → front_of (b ∷ bs) ≡ (a_space, rest) → StandAt text (b ∷ bs) line space ts → StandAt text rest line true ts
+pub behind_space : {text bs rest : List ℕ} {b : ℕ} {line space : Bool} {ts : List Token} → front_of (b ∷ bs) ≡ (a_space, rest) → StandAt text (b ∷ bs) line space ts → StandAt text rest line true ts
 behind_space {text} {line = line} {ts = ts} h (space_here {rest = r} e d) = subst (λ n. StandAt text n line true ts) (ap (λ p. p.1) (sym e ∙ h)) d
 behind_space h (line_here {rest = r} e d) =
     let x : a_line ≡ a_space = ap (λ p. p.0) (sym e ∙ h) in
     absurd cc
 behind_space h (one_here {rest = r} {k = k} e d) =
     let x : a_token k ≡ a_space = ap (λ p. p.0) (sym e ∙ h) in
+    absurd cc
+
+-- the end of a line stands at the front
+pub behind_line : {text bs rest : List ℕ} {b : ℕ} {line space : Bool} {ts : List Token} → front_of (b ∷ bs) ≡ (a_line, rest) → StandAt text (b ∷ bs) line space ts → StandAt text rest true true ts
+behind_line h (space_here {rest = r} e d) =
+    let x : a_space ≡ a_line = ap (λ p. p.0) (sym e ∙ h) in
+    absurd cc
+behind_line {text} {ts = ts} h (line_here {rest = r} e d) = subst (λ n. StandAt text n true true ts) (ap (λ p. p.1) (sym e ∙ h)) d
+behind_line h (one_here {rest = r} {k = k} e d) =
+    let x : a_token k ≡ a_line = ap (λ p. p.0) (sym e ∙ h) in
     absurd cc
 
 -- what stands at a place of a list
@@ -81,6 +91,8 @@ pub record Step (text : List ℕ) (tokens : List Token) (i : ℕ) (w bs : List �
   pub kind : kind_at tokens i ≡ k
   pub bytes : bytes_at text tokens i ≡ w
   pub next : Rest text tokens (after i) bs
+  -- what is behind it stands on its line
+  pub same_line : next.line ≡ false
 
 pub step : {text : List ℕ} {tokens : List Token} {i : ℕ} (b : ℕ) (w bs : List ℕ) (k : TokenKind) → length tokens < 2 ^ 64 → front_of (b ∷ (w ++ bs)) ≡ (a_token k, bs) → Rest text tokens i (b ∷ (w ++ bs)) → Step text tokens i (b ∷ w) bs k
 step {text} {tokens} {i} b w bs k long h r =
@@ -91,6 +103,7 @@ step {text} {tokens} {i} b w bs k long h r =
       kind = ap kind_in g.at;
       bytes = ap (λ o. take ((or_end text o).to - (or_end text o).from) (drop (or_end text o).from text)) g.at ∙ between_is text r.before (b ∷ w) bs r.whole;
       next = record { line = false; space = false; before = r.before ++ (b ∷ w); whole = whole; stands = subst (λ ts. StandAt text bs false false ts) (sym (ap (λ n. drop n tokens) (after_is i (length tokens) g.within long) ∙ g.behind)) f.stands };
+      same_line = refl;
     }
 
 pub step_space : {text : List ℕ} {tokens : List Token} {i : ℕ} (bs : List ℕ) → front_of (32 ∷ bs) ≡ (a_space, bs) → Rest text tokens i (32 ∷ bs) → Rest text tokens i bs

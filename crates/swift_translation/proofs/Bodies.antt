@@ -2,7 +2,7 @@
 use Rattle.std.proofs.Common.{◌≡◌, ◌∙◌, ◌+◌, ◌-◌, ◌≤◌, ◌++◌, ℕ, zero, suc, List, Option, Some, None, ap, arith, refl, rules, subst, sym}
 use Rattle.std.specs.Prelude.{IsFalse}
 use Rattle.swift_translation.proofs.Writes.{both}
-use Rattle.swift_translation.specs.BodiesInside.{Course, Progress, course, course_by, run_text, starting, turn_frame, turn_progress, turn_text, turned}
+use Rattle.swift_translation.specs.Bodies.{Course, Progress, course, course_by, run_text, starting, turn_frame, turn_progress, turn_text, turned}
 use Rattle.swift_translation.specs.WritingInside.{GoesOn}
 use Rattle.swift_translation.specs.declared.frame.Frame.{Frame}
 use Rattle.swift_translation.specs.declared.source.Source.{Source}

@@ -2,9 +2,9 @@
 use Rattle.std.proofs.Common.{◌≡◌, ◌++◌, ◌-◌, ◌≤◌, ℕ, zero, suc, ap, arith, codes, subst}
 use Rattle.swift_types.specs.declared.operator.Operator.{Operator}
 use Rattle.swift_expressions.specs.declared.code.Value.TheVariants as value
-use Rattle.swift_translation.specs.SourcesInside.{value_at}
-use Rattle.swift_translation.specs.ValueTextsInside.{deep_text, form_text}
-use Rattle.swift_translation.specs.WordsInside.{operator_text}
+use Rattle.swift_translation.specs.Sources.{value_at}
+use Rattle.swift_translation.specs.ValueTexts.{deep_text, form_text}
+use Rattle.swift_translation.specs.Words.{operator_text}
 use Rattle.swift_translation.specs.declared.source.Context.{Context}
 
 -- the text of an operator and its operands

@@ -1,7 +1,7 @@
 //! Actors with their fields, invariants and methods.
 
 ghost use Rattle.std.specs.Prelude.{◌≡◌};
-ghost use Rattle.swift_translation.specs.ActorTextsInside.{actor_head, actor_text, actors_text, declared_field, executor_text, field_line, fields_text, is_read, method_at, methods_text, opened_actor, own_actor, own_field, read_at, read_text, reads_text};
+ghost use Rattle.swift_translation.specs.ActorTexts.{actor_head, actor_text, actors_text, declared_field, executor_text, field_line, fields_text, is_read, method_at, methods_text, opened_actor, own_actor, own_field, read_at, read_text, reads_text};
 ghost use Rattle.swift_translation.specs.WritingInside.{GoesOn};
 
 use crate::naming::{write_field_name, write_instance, write_name};
@@ -13,7 +13,7 @@ use crate::writer::Writer;
 use swift_syntax::{Access, FieldDecl};
 
 // A field with its start value.
-#[tactic(auto, unfolding(crate::specs::ActorTextsInside::declared_field))]
+#[tactic(auto, unfolding(crate::specs::ActorTexts::declared_field))]
 fn write_var(out: &mut Writer, source: &Source<'_>, field: FieldDecl, number: i64)
     ensures { GoesOn out.old out.new (declared_field source.now field number) }
 {
@@ -54,7 +54,7 @@ fn write_fields(out: &mut Writer, source: &Source<'_>, actor: usize)
 }
 
 // The method that reads a field.
-#[tactic(auto, unfolding(crate::specs::ActorTextsInside::read_text))]
+#[tactic(auto, unfolding(crate::specs::ActorTexts::read_text))]
 fn write_read(out: &mut Writer, source: &Source<'_>, field: FieldDecl)
     ensures { GoesOn out.old out.new (read_text source.now field) }
 {
@@ -126,7 +126,7 @@ fn write_executor(out: &mut Writer, source: &Source<'_>, actor: usize)
 }
 
 // What stands before the members of an actor.
-#[tactic(auto, unfolding(crate::specs::ActorTextsInside::actor_head))]
+#[tactic(auto, unfolding(crate::specs::ActorTexts::actor_head))]
 fn write_head(out: &mut Writer, source: &Source<'_>, actor: usize)
     ensures { GoesOn out.old out.new (actor_head source.now actor) }
 {
@@ -137,7 +137,7 @@ fn write_head(out: &mut Writer, source: &Source<'_>, actor: usize)
 }
 
 // The fields of an actor, and what has to hold of them.
-#[tactic(auto, unfolding(crate::specs::ActorTextsInside::opened_actor))]
+#[tactic(auto, unfolding(crate::specs::ActorTexts::opened_actor))]
 fn write_state(out: &mut Writer, source: &Source<'_>, actor: usize)
     ensures { GoesOn out.old out.new (opened_actor source.now actor) }
 {
@@ -146,7 +146,7 @@ fn write_state(out: &mut Writer, source: &Source<'_>, actor: usize)
 }
 
 // An instance, as an actor of its own.
-#[tactic(auto, unfolding(crate::specs::ActorTextsInside::actor_text))]
+#[tactic(auto, unfolding(crate::specs::ActorTexts::actor_text))]
 fn write_actor(out: &mut Writer, source: &Source<'_>, actor: usize)
     ensures { GoesOn out.old out.new (actor_text source.now actor) }
 {
@@ -167,7 +167,7 @@ fn write_own_actor(out: &mut Writer, source: &Source<'_>, instance: usize)
 }
 
 /// The instances of actors, each as an actor of its own.
-#[tactic(auto, unfolding(crate::specs::ActorTextsInside::actors_text))]
+#[tactic(auto, unfolding(crate::specs::ActorTexts::actors_text))]
 pub(crate) fn write_actors(out: &mut Writer, source: &Source<'_>)
     ensures { GoesOn out.old out.new (actors_text source.now) }
 {

@@ -1,9 +1,9 @@
 //! A body that is written: its open blocks, and the methods that are put into it.
 
 ghost use Rattle.std.specs.Prelude.{◌≡◌, [], IsFalse};
-ghost use Rattle.swift_translation.specs.BodiesInside as bodies;
-ghost use Rattle.swift_translation.specs.BodiesInside.{context_of, entered, fresh, last_of, opened, popped, progress_of};
-ghost use Rattle.swift_translation.specs.WritingInside.{GoesOn};
+ghost use Rattle.swift_translation.specs.Bodies as bodies;
+ghost use Rattle.swift_translation.specs.Bodies.{context_of, entered, fresh, last_of, opened, popped};
+ghost use Rattle.swift_translation.specs.WritingInside.{GoesOn, progress_of};
 
 use crate::frame::Frame;
 use crate::source::{Context, Source};

@@ -3,7 +3,8 @@
 ghost use Rattle.std.specs.Prelude.{◌≤◌, All, IfOk, length};
 ghost use Rattle.swift_syntax.specs.Places.{IsBlamedIn, IsTokenOf};
 ghost use Rattle.swift_translation.specs.MethodPlaces.{IsPlaceIn};
-ghost use Rattle.swift_translation.specs.Translations.{IfPlaced, IfRefused, IfScript};
+ghost use Rattle.swift_translation.specs.ScriptTexts.{IsWrittenOf};
+ghost use Rattle.swift_translation.specs.Translations.{IsScriptOf, IfPlaced, IfRefused, IfScript};
 
 use crate::places::{MethodPlace, places};
 use crate::script::script;
@@ -44,6 +45,7 @@ fn written(
     ensures script { IfOk result (IfScript (λ s. length s ≤ BYTES)) }
     ensures placed { IfOk result (IfPlaced (IsPlaceIn text.now)) }
     ensures blamed { IfOk result (IfRefused (IsBlamedIn text.now)) }
+    ensures text { IfOk result (IfScript (IsWrittenOf text.now tokens.now tree.now.value code.now)) }
 {
     let source = Source::new(alloc, text, tokens, tree, code);
     let (script, breach) = script(&source);
@@ -71,6 +73,7 @@ fn written(
 ///
 /// `AllocError` where there is no memory for the tokens, for an empty tree, or for the table of methods.
 pub fn translate(alloc: Global, text: &[u8]) -> Result<Translation, AllocError>
+    ensures text { IfOk result (IfScript (IsScriptOf text.now)) }
     ensures script { IfOk result (IfScript (λ s. length s ≤ BYTES)) }
     ensures file { IfOk result (IfScript (λ s. length text.now ≤ BYTES)) }
     ensures placed { IfOk result (IfPlaced (IsPlaceIn text.now)) }

@@ -1,7 +1,7 @@
 //! Methods that are put in where they are called.
 
 ghost use Rattle.std.specs.Prelude.{◌≡◌};
-ghost use Rattle.swift_translation.specs.MethodTextsInside.{begin_done, begin_result, begin_text, callee_frame, end_text, first_frame, handed, handed_next, handed_text, moved, param_text, params_text, zero_text};
+ghost use Rattle.swift_translation.specs.MethodTexts.{begin_done, begin_result, begin_text, callee_frame, end_text, first_frame, handed, handed_next, handed_text, moved, param_text, params_text, zero_text};
 ghost use Rattle.swift_translation.specs.WritingInside.{GoesOn};
 
 use crate::naming::write_made_between;
@@ -96,7 +96,7 @@ pub(crate) fn callee_frame(
 }
 
 // The variable to which the value of a method goes begins at 0.
-#[tactic(auto, unfolding(crate::specs::MethodTextsInside::zero_text))]
+#[tactic(auto, unfolding(crate::specs::MethodTexts::zero_text))]
 fn begin_variable(out: &mut Writer, at: &Context<'_>, to: ResultPlace)
     ensures { GoesOn out.old out.new (zero_text at.now to) }
 {
@@ -126,7 +126,7 @@ fn begin_done(out: &mut Writer, at: &Context<'_>, needs_done: bool)
 }
 
 /// The variables that a method begins with: its value, and whether it has returned.
-#[tactic(auto, unfolding(crate::specs::MethodTextsInside::begin_text))]
+#[tactic(auto, unfolding(crate::specs::MethodTexts::begin_text))]
 pub(crate) fn begin(out: &mut Writer, at: &Context<'_>, to: ResultPlace, needs_done: bool)
     ensures { GoesOn out.old out.new (begin_text at.now to needs_done) }
 {
@@ -147,7 +147,7 @@ pub(crate) fn write_end(out: &mut Writer, at: &Context<'_>, frame: Frame)
 }
 
 // A parameter of a method that is put in, with its value, which the caller has.
-#[tactic(auto, unfolding(crate::specs::MethodTextsInside::param_text))]
+#[tactic(auto, unfolding(crate::specs::MethodTexts::param_text))]
 fn write_param(out: &mut Writer, at: &Context<'_>, variable: usize, value: usize, caller: usize)
     ensures { GoesOn out.old out.new (param_text at.now variable value caller) }
 {
@@ -194,7 +194,7 @@ fn hand_over(
 }
 
 /// The parameters of a method that is put in, with their values.
-#[tactic(auto, unfolding(crate::specs::MethodTextsInside::params_text))]
+#[tactic(auto, unfolding(crate::specs::MethodTexts::params_text))]
 pub(crate) fn write_params(
     out: &mut Writer,
     at: &Context<'_>,

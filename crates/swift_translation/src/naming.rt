@@ -8,7 +8,7 @@
 
 ghost use Rattle.std.specs.Prelude.{◌≡◌, ◌++◌, ◌∷◌, [], decimal};
 ghost use Rattle.swift_translation.specs.Names.{Caught, spelled};
-ghost use Rattle.swift_translation.specs.ValueTextsInside.{closure_text, declared_text, field_name_text, instance_text, name_text, own_closure_text, printed_text, unit_text, variable_text, which_of};
+ghost use Rattle.swift_translation.specs.ValueTexts.{closure_text, declared_text, field_name_text, instance_text, name_text, own_closure_text, printed_text, unit_text, variable_text, which_of};
 ghost use Rattle.swift_translation.specs.WritingInside.{GoesOn};
 
 use crate::source::{Context, Source};
@@ -20,7 +20,7 @@ use crate::writer::Writer;
 use swift_expressions::{NONE, Spot, Unit, Variable};
 
 /// The name of a token.
-#[tactic(auto, unfolding(crate::specs::ValueTextsInside::name_text))]
+#[tactic(auto, unfolding(crate::specs::ValueTexts::name_text))]
 pub(crate) fn write_name(out: &mut Writer, source: &Source<'_>, token: usize)
     ensures { GoesOn out.old out.new (name_text source.now token) }
 {
@@ -28,7 +28,7 @@ pub(crate) fn write_name(out: &mut Writer, source: &Source<'_>, token: usize)
 }
 
 /// The name of a field.
-#[tactic(auto, unfolding(crate::specs::ValueTextsInside::field_name_text))]
+#[tactic(auto, unfolding(crate::specs::ValueTexts::field_name_text))]
 pub(crate) fn write_field_name(out: &mut Writer, source: &Source<'_>, token: usize)
     ensures { GoesOn out.old out.new (field_name_text source.now token) }
 {
@@ -71,7 +71,7 @@ fn spell_declared(out: &mut Writer, at: &Context<'_>, place: usize, variable: Va
 }
 
 /// The name of a variable.
-#[tactic(auto, unfolding(crate::specs::ValueTextsInside::variable_text))]
+#[tactic(auto, unfolding(crate::specs::ValueTexts::variable_text))]
 pub(crate) fn write_variable(out: &mut Writer, at: &Context<'_>, place: usize)
     ensures { GoesOn out.old out.new (variable_text at.now place) }
 {
@@ -89,7 +89,7 @@ pub(crate) fn write_caught(out: &mut Writer, at: &Context<'_>, place: usize)
 }
 
 /// The name of an instance.
-#[tactic(auto, unfolding(crate::specs::ValueTextsInside::instance_text))]
+#[tactic(auto, unfolding(crate::specs::ValueTexts::instance_text))]
 pub(crate) fn write_instance(out: &mut Writer, source: &Source<'_>, instance: usize)
     ensures { GoesOn out.old out.new (instance_text source.now instance) }
 {
@@ -110,7 +110,7 @@ pub(crate) fn which_of(spot: Spot) -> usize
 }
 
 /// The name of the field that holds a value that `main` prints.
-#[tactic(auto, unfolding(crate::specs::ValueTextsInside::printed_text))]
+#[tactic(auto, unfolding(crate::specs::ValueTexts::printed_text))]
 pub(crate) fn write_printed(out: &mut Writer, source: &Source<'_>, place: usize)
     ensures { GoesOn out.old out.new (printed_text source.now place) }
 {
@@ -158,7 +158,7 @@ fn spell_unit(out: &mut Writer, source: &Source<'_>, unit: Unit)
 
 /// The name of the method that a closure became: that of the method in which it stands, behind its instance where that is no function, and
 /// its line.
-#[tactic(auto, unfolding(crate::specs::ValueTextsInside::unit_text))]
+#[tactic(auto, unfolding(crate::specs::ValueTexts::unit_text))]
 pub(crate) fn write_unit(out: &mut Writer, source: &Source<'_>, unit: usize)
     ensures { GoesOn out.old out.new (unit_text source.now unit) }
 {

@@ -2,9 +2,9 @@
 
 ghost use Rattle.std.specs.Prelude.{◌≡◌, ◌≤◌, ◌+◌, All, IfOk, IfSome, IsFalse, slice_get};
 ghost use Rattle.swift_syntax.specs.Places.{IsTokenOf};
-ghost use Rattle.swift_translation.specs.MethodPlaces.{IsPlaceIn, bytes_of, closure_name, function_closure_name, function_name, line_of, main_closure_name, method_name};
 ghost use Rattle.swift_translation.specs.Lines.{feeds};
-ghost use Rattle.swift_translation.specs.SourcesInside.{token_place};
+ghost use Rattle.swift_translation.specs.MethodPlaces.{IsPlaceIn, bytes_of, closure_name, function_closure_name, function_name, line_of, main_closure_name, method_name};
+ghost use Rattle.swift_translation.specs.Sources.{token_place};
 
 use crate::line::line_number;
 use crate::naming::which_of;

@@ -1,7 +1,7 @@
 //! Closures, functions outside of actors, and `main`.
 
 ghost use Rattle.std.specs.Prelude.{◌≡◌};
-ghost use Rattle.swift_translation.specs.ActorTextsInside.{all_closures, closures_of, closures_text, function_at, functions_text, has_closure, has_function, has_pool, is_closure_of, main_head, main_method, main_of, main_text, own_closures, pool_actor, pool_methods, pool_text, printed_field, printed_fields, requirement_text, root_text, runs_alone};
+ghost use Rattle.swift_translation.specs.ActorTexts.{all_closures, closures_of, closures_text, function_at, functions_text, has_closure, has_function, has_pool, is_closure_of, main_head, main_method, main_of, main_text, own_closures, pool_actor, pool_methods, pool_text, printed_field, printed_fields, requirement_text, root_text, runs_alone};
 ghost use Rattle.swift_translation.specs.WritingInside.{GoesOn};
 
 use crate::naming::{write_name, write_printed};
@@ -100,7 +100,7 @@ fn write_requirement(out: &mut Writer, is_required: bool)
 }
 
 // Whether there is a closure.
-#[tactic(auto, unfolding(crate::specs::ActorTextsInside::has_closure))]
+#[tactic(auto, unfolding(crate::specs::ActorTexts::has_closure))]
 fn has_closure(source: &Source<'_>) -> bool
     ensures { result ≡ has_closure source.now }
 {
@@ -108,7 +108,7 @@ fn has_closure(source: &Source<'_>) -> bool
 }
 
 // Whether there is a function outside of actors that is `async`.
-#[tactic(auto, unfolding(crate::specs::ActorTextsInside::has_function))]
+#[tactic(auto, unfolding(crate::specs::ActorTexts::has_function))]
 fn has_function(source: &Source<'_>) -> bool
     ensures { result ≡ has_function source.now }
 {
@@ -123,7 +123,7 @@ fn has_pool(source: &Source<'_>) -> bool
 }
 
 // The methods of the pool.
-#[tactic(auto, unfolding(crate::specs::ActorTextsInside::pool_methods))]
+#[tactic(auto, unfolding(crate::specs::ActorTexts::pool_methods))]
 fn write_pool_methods(out: &mut Writer, source: &Source<'_>)
     ensures { GoesOn out.old out.new (pool_methods source.now) }
 {
@@ -134,7 +134,7 @@ fn write_pool_methods(out: &mut Writer, source: &Source<'_>)
 }
 
 // The actor in which they run.
-#[tactic(auto, unfolding(crate::specs::ActorTextsInside::pool_actor))]
+#[tactic(auto, unfolding(crate::specs::ActorTexts::pool_actor))]
 fn write_pool_actor(out: &mut Writer, source: &Source<'_>)
     ensures { GoesOn out.old out.new (pool_actor source.now) }
 {
@@ -145,7 +145,7 @@ fn write_pool_actor(out: &mut Writer, source: &Source<'_>)
 }
 
 /// The actor in which closures run, and functions outside of actors that are `async`.
-#[tactic(auto, unfolding(crate::specs::ActorTextsInside::pool_text))]
+#[tactic(auto, unfolding(crate::specs::ActorTexts::pool_text))]
 pub(crate) fn write_pool(out: &mut Writer, source: &Source<'_>)
     ensures { GoesOn out.old out.new (pool_text source.now) }
 {
@@ -155,7 +155,7 @@ pub(crate) fn write_pool(out: &mut Writer, source: &Source<'_>)
 }
 
 // The field for a value that `main` prints.
-#[tactic(auto, unfolding(crate::specs::ActorTextsInside::printed_field))]
+#[tactic(auto, unfolding(crate::specs::ActorTexts::printed_field))]
 fn write_printed_field(out: &mut Writer, source: &Source<'_>, place: usize)
     ensures { GoesOn out.old out.new (printed_field source.now place) }
 {
@@ -173,7 +173,7 @@ fn write_printed_fields(out: &mut Writer, source: &Source<'_>)
 }
 
 // What stands before the method of `main`.
-#[tactic(auto, unfolding(crate::specs::ActorTextsInside::main_head))]
+#[tactic(auto, unfolding(crate::specs::ActorTexts::main_head))]
 fn write_main_head(out: &mut Writer, source: &Source<'_>, name: usize)
     ensures { GoesOn out.old out.new (main_head source.now name) }
 {
@@ -185,7 +185,7 @@ fn write_main_head(out: &mut Writer, source: &Source<'_>, name: usize)
 }
 
 // The method of `main`.
-#[tactic(auto, unfolding(crate::specs::ActorTextsInside::main_method))]
+#[tactic(auto, unfolding(crate::specs::ActorTexts::main_method))]
 fn write_main_method(out: &mut Writer, source: &Source<'_>)
     ensures { GoesOn out.old out.new (main_method source.now) }
 {
@@ -196,7 +196,7 @@ fn write_main_method(out: &mut Writer, source: &Source<'_>)
 }
 
 // The root task, which runs `main` of a type.
-#[tactic(auto, unfolding(crate::specs::ActorTextsInside::root_text))]
+#[tactic(auto, unfolding(crate::specs::ActorTexts::root_text))]
 fn write_root(out: &mut Writer, source: &Source<'_>, name: usize)
     ensures { GoesOn out.old out.new (root_text source.now name) }
 {
@@ -206,7 +206,7 @@ fn write_root(out: &mut Writer, source: &Source<'_>, name: usize)
 }
 
 // `main` of a type, and the root task, which runs it.
-#[tactic(auto, unfolding(crate::specs::ActorTextsInside::main_of))]
+#[tactic(auto, unfolding(crate::specs::ActorTexts::main_of))]
 fn write_main_of(out: &mut Writer, source: &Source<'_>, name: usize)
     ensures { GoesOn out.old out.new (main_of source.now name) }
 {
@@ -216,7 +216,7 @@ fn write_main_of(out: &mut Writer, source: &Source<'_>, name: usize)
 }
 
 /// `main`, as an actor with what it prints.
-#[tactic(auto, unfolding(crate::specs::ActorTextsInside::main_text))]
+#[tactic(auto, unfolding(crate::specs::ActorTexts::main_text))]
 pub(crate) fn write_main(out: &mut Writer, source: &Source<'_>)
     ensures { GoesOn out.old out.new (main_text source.now) }
 {

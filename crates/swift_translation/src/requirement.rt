@@ -1,7 +1,7 @@
 //! What has to hold of actors.
 
 ghost use Rattle.std.specs.Prelude.{◌≡◌, ◌&&◌, not};
-ghost use Rattle.swift_translation.specs.ActorTextsInside.{has_none, has_requirement, instructions_of, invariant_at, invariants_end, invariants_text, is_at, is_invariant_of, is_require, own_invariants, precondition_field, precondition_test, precondition_text, required_text, requires, value_of_invariant};
+ghost use Rattle.swift_translation.specs.ActorTexts.{has_none, has_requirement, instructions_of, invariant_at, invariants_end, invariants_text, is_at, is_invariant_of, is_require, own_invariants, precondition_field, precondition_test, precondition_text, required_text, requires, value_of_invariant};
 ghost use Rattle.swift_translation.specs.WritingInside.{GoesOn};
 
 use crate::naming::PRECONDITION;
@@ -19,7 +19,7 @@ fn is_require(instruction: Instruction) -> bool
 }
 
 // The instructions of a unit, with those of closures in it.
-#[tactic(auto, unfolding(crate::specs::ActorTextsInside::instructions_of))]
+#[tactic(auto, unfolding(crate::specs::ActorTexts::instructions_of))]
 fn instructions_of<'a>(source: &Source<'a>, unit: Unit) -> &'a [Instruction]
     ensures { result.now ≡ instructions_of source.now unit }
 {
@@ -57,7 +57,7 @@ pub(crate) fn has_requirement(source: &Source<'_>, actor: usize, wants_closure: 
 }
 
 // The field for the line of a precondition that fails.
-#[tactic(auto, unfolding(crate::specs::ActorTextsInside::precondition_field))]
+#[tactic(auto, unfolding(crate::specs::ActorTexts::precondition_field))]
 fn write_precondition_field(out: &mut Writer)
     ensures { GoesOn out.old out.new precondition_field }
 {
@@ -67,7 +67,7 @@ fn write_precondition_field(out: &mut Writer)
 }
 
 // None has failed.
-#[tactic(auto, unfolding(crate::specs::ActorTextsInside::precondition_test))]
+#[tactic(auto, unfolding(crate::specs::ActorTexts::precondition_test))]
 fn write_precondition_test(out: &mut Writer)
     ensures { GoesOn out.old out.new precondition_test }
 {
@@ -77,7 +77,7 @@ fn write_precondition_test(out: &mut Writer)
 }
 
 // That field, and what has to hold of it.
-#[tactic(auto, unfolding(crate::specs::ActorTextsInside::precondition_text))]
+#[tactic(auto, unfolding(crate::specs::ActorTexts::precondition_text))]
 pub(crate) fn write_precondition(out: &mut Writer)
     ensures { GoesOn out.old out.new precondition_text }
 {
@@ -160,7 +160,7 @@ fn end_invariants(out: &mut Writer, is_none: bool)
 }
 
 // What has to hold of an actor, with what was required in its methods.
-#[tactic(auto, unfolding(crate::specs::ActorTextsInside::invariants_text))]
+#[tactic(auto, unfolding(crate::specs::ActorTexts::invariants_text))]
 pub(crate) fn write_invariants(
     out: &mut Writer,
     source: &Source<'_>,

@@ -1,7 +1,7 @@
 //! Whole scripts.
 
 ghost use Rattle.std.specs.Prelude.{◌≡◌, IsFalse, IsNone};
-ghost use Rattle.swift_translation.specs.ScriptTextsInside.{declared_text, executor_at, executor_named, executor_of, executors_text, expectation_at, expectation_of, expectations_text, kind_at, kind_of, kind_text, literal_or_zero, local_at, local_of, locals_text, script_text};
+ghost use Rattle.swift_translation.specs.ScriptTexts.{declared_text, executor_at, executor_named, executor_of, executors_text, expectation_at, expectation_of, expectations_text, kind_at, kind_of, kind_text, literal_or_zero, local_at, local_of, locals_text, script_text};
 ghost use Rattle.swift_translation.specs.WritingInside.{GoesOn};
 
 use crate::actor::write_actors;
@@ -28,7 +28,7 @@ fn write_kind(out: &mut Writer, source: &Source<'_>, kind: ExecutorKindDecl)
 }
 
 // The place of the executor class that a token names.
-#[tactic(auto, unfolding(crate::specs::ScriptTextsInside::executor_named))]
+#[tactic(auto, unfolding(crate::specs::ScriptTexts::executor_named))]
 fn executor_named(source: &Source<'_>, of: usize) -> Option<usize>
     ensures { result ≡ executor_named source.now of }
 {
@@ -40,7 +40,7 @@ fn executor_named(source: &Source<'_>, of: usize) -> Option<usize>
 }
 
 // The kind of the executor class at a place.
-#[tactic(auto, unfolding(crate::specs::ScriptTextsInside::kind_at))]
+#[tactic(auto, unfolding(crate::specs::ScriptTexts::kind_at))]
 fn kind_at(source: &Source<'_>, place: usize) -> Option<ExecutorKindDecl>
     ensures { result ≡ kind_at source.now place }
 {
@@ -61,7 +61,7 @@ fn kind_of(source: &Source<'_>, of: usize) -> Option<ExecutorKindDecl>
 }
 
 // An executor.
-#[tactic(auto, unfolding(crate::specs::ScriptTextsInside::executor_of))]
+#[tactic(auto, unfolding(crate::specs::ScriptTexts::executor_of))]
 fn write_executor(out: &mut Writer, source: &Source<'_>, instance: usize, kind: ExecutorKindDecl)
     ensures { GoesOn out.old out.new (executor_of source.now instance kind) }
 {
@@ -81,7 +81,7 @@ fn write_executor_at(out: &mut Writer, source: &Source<'_>, instance: usize)
     }
 }
 
-#[tactic(auto, unfolding(crate::specs::ScriptTextsInside::executors_text))]
+#[tactic(auto, unfolding(crate::specs::ScriptTexts::executors_text))]
 fn write_executors(out: &mut Writer, source: &Source<'_>)
     ensures { GoesOn out.old out.new (executors_text source.now) }
 {
@@ -101,7 +101,7 @@ fn literal_or_zero(source: &Source<'_>, place: usize) -> i64
 }
 
 // A task local, with its default.
-#[tactic(auto, unfolding(crate::specs::ScriptTextsInside::local_of))]
+#[tactic(auto, unfolding(crate::specs::ScriptTexts::local_of))]
 fn write_local(out: &mut Writer, source: &Source<'_>, declared: LocalDecl)
     ensures { GoesOn out.old out.new (local_of source.now declared) }
 {
@@ -121,7 +121,7 @@ fn write_local_at(out: &mut Writer, source: &Source<'_>, place: usize)
     }
 }
 
-#[tactic(auto, unfolding(crate::specs::ScriptTextsInside::locals_text))]
+#[tactic(auto, unfolding(crate::specs::ScriptTexts::locals_text))]
 fn write_locals(out: &mut Writer, source: &Source<'_>)
     ensures { GoesOn out.old out.new (locals_text source.now) }
 {
@@ -134,7 +134,7 @@ fn write_locals(out: &mut Writer, source: &Source<'_>)
 const EXPECTED: usize = 1_000;
 
 // What is expected, in a comment.
-#[tactic(auto, unfolding(crate::specs::ScriptTextsInside::expectation_of))]
+#[tactic(auto, unfolding(crate::specs::ScriptTexts::expectation_of))]
 fn write_expectation(out: &mut Writer, source: &Source<'_>, value: usize)
     ensures { GoesOn out.old out.new (expectation_of source.now value) }
 {
@@ -161,7 +161,7 @@ fn write_expectation_at(out: &mut Writer, source: &Source<'_>, place: usize)
 }
 
 // What is expected of the end of each run, in comments that `explore` reads.
-#[tactic(auto, unfolding(crate::specs::ScriptTextsInside::expectations_text))]
+#[tactic(auto, unfolding(crate::specs::ScriptTexts::expectations_text))]
 fn write_expectations(out: &mut Writer, source: &Source<'_>)
     ensures { GoesOn out.old out.new (expectations_text source.now) }
 {
@@ -171,7 +171,7 @@ fn write_expectations(out: &mut Writer, source: &Source<'_>)
 }
 
 // What stands before the actors.
-#[tactic(auto, unfolding(crate::specs::ScriptTextsInside::declared_text))]
+#[tactic(auto, unfolding(crate::specs::ScriptTexts::declared_text))]
 fn write_declared(out: &mut Writer, source: &Source<'_>)
     ensures { GoesOn out.old out.new (declared_text source.now) }
 {
@@ -181,7 +181,7 @@ fn write_declared(out: &mut Writer, source: &Source<'_>)
 }
 
 // All of a script.
-#[tactic(auto, unfolding(crate::specs::ScriptTextsInside::script_text))]
+#[tactic(auto, unfolding(crate::specs::ScriptTexts::script_text))]
 fn write_script(out: &mut Writer, source: &Source<'_>)
     ensures { GoesOn out.old out.new (script_text source.now) }
 {

@@ -1,7 +1,7 @@
 //! From what a script is written.
 
 ghost use Rattle.std.specs.Prelude.{◌≡◌, bytes_eq, slice_get};
-ghost use Rattle.swift_translation.specs.SourcesInside.{argument_at, bytes_at, expr_at, instruction_at, value_at};
+ghost use Rattle.swift_translation.specs.Sources.{IsSourceOf, argument_at, bytes_at, checks_cancelled, expr_at, instruction_at, is_asked, is_cancelling, is_check, may_ask_cancelled, may_cancel, reads_cancelled, value_at};
 
 use std::alloc::Global;
 use swift_expressions::{Code, Instruction, NONE, Operand, Unit, Value, Variable};
@@ -34,18 +34,56 @@ pub(crate) struct Context<'a> {
     pub serial: usize,
 }
 
-// Whether some task asks whether it is cancelled.
-fn asks_cancelled(code: &Code) -> bool {
-    code.values.iter().any(|v| matches!(v, Value::Cancelled))
-        || code
-            .instructions
-            .iter()
-            .any(|i| matches!(i, Instruction::Check))
+// Whether a value is whether the task is cancelled.
+fn is_asked(value: Value) -> bool
+    ensures { result ≡ is_asked value }
+{
+    matches!(value, Value::Cancelled)
 }
 
-// Whether some task may be cancelled, by itself or with its group.
-fn may_cancel(code: &Code) -> bool {
-    code.instructions.iter().any(|i| matches!(i, Instruction::Cancel(_) | Instruction::Group(_)))
+// Whether an instruction ends a cancelled task.
+fn is_check(instruction: Instruction) -> bool
+    ensures { result ≡ is_check instruction }
+{
+    matches!(instruction, Instruction::Check)
+}
+
+// Whether an instruction may cancel a task, by itself or with its group.
+fn is_cancelling(instruction: Instruction) -> bool
+    ensures { result ≡ is_cancelling instruction }
+{
+    matches!(instruction, Instruction::Cancel(_) | Instruction::Group(_))
+}
+
+// Whether a value asks whether its task is cancelled.
+#[tactic(auto, unfolding(crate::specs::Sources::reads_cancelled))]
+fn reads_cancelled(code: &Code) -> bool
+    ensures { result ≡ reads_cancelled code.now }
+{
+    code.values.iter().any(|v| is_asked(*v))
+}
+
+// Whether an instruction asks that.
+#[tactic(auto, unfolding(crate::specs::Sources::checks_cancelled))]
+fn checks_cancelled(code: &Code) -> bool
+    ensures { result ≡ checks_cancelled code.now }
+{
+    code.instructions.iter().any(|i| is_check(*i))
+}
+
+// Whether some task may be cancelled.
+#[tactic(auto, unfolding(crate::specs::Sources::may_cancel))]
+fn may_cancel(code: &Code) -> bool
+    ensures { result ≡ may_cancel code.now }
+{
+    code.instructions.iter().any(|i| is_cancelling(*i))
+}
+
+// Whether a task may ask whether it is cancelled, and be so.
+fn may_ask_cancelled(code: &Code) -> bool
+    ensures { result ≡ may_ask_cancelled code.now }
+{
+    (reads_cancelled(code) || checks_cancelled(code)) && may_cancel(code)
 }
 
 impl<'a> Context<'a> {
@@ -68,7 +106,9 @@ impl<'a> Source<'a> {
         tokens: &'a [Token],
         tree: &'a Box<Tree>,
         code: &'a Code,
-    ) -> Source<'a> {
+    ) -> Source<'a>
+        ensures { IsSourceOf text.now tokens.now tree.now.value code.now result }
+    {
         Source {
             alloc,
             text,
@@ -77,7 +117,7 @@ impl<'a> Source<'a> {
             code,
             instance: NONE,
             is_closure: false,
-            may_ask_cancelled: asks_cancelled(code) && may_cancel(code),
+            may_ask_cancelled: may_ask_cancelled(code),
         }
     }
 

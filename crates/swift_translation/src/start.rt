@@ -1,7 +1,7 @@
 //! The start values of fields.
 
 ghost use Rattle.std.specs.Prelude.{◌≡◌, []};
-ghost use Rattle.swift_translation.specs.StartsInside.{actor_named, actor_of, argument, argument_among, given, literal_number, negated_number, params_of, start_number, started};
+ghost use Rattle.swift_translation.specs.Starts.{actor_named, actor_of, argument, argument_among, given, literal_number, negated_number, params_of, start_number, started};
 ghost use Rattle.swift_translation.specs.WritingInside.{GoesOn};
 
 use crate::source::Source;
@@ -125,7 +125,7 @@ fn started(source: &Source<'_>, instance: usize, field: FieldDecl) -> Option<i64
 }
 
 /// The start value of a field of an instance.
-#[tactic(auto, unfolding(crate::specs::StartsInside::start_number))]
+#[tactic(auto, unfolding(crate::specs::Starts::start_number))]
 pub(crate) fn start_value(
     out: &mut Writer,
     source: &Source<'_>,

@@ -1,8 +1,8 @@
 //! Instructions that open and close no block, as statements.
 
 ghost use Rattle.std.specs.Prelude.{◌≡◌};
-ghost use Rattle.swift_translation.specs.StatementTextsInside.{add_head, add_text, adding_text, done_text, ended_text, field_set_text, give_text, given_head, given_text, make_text, making_text, or_zero_text, own_field_text, print_text, require_block, require_head, require_line, require_text, result_text, return_text, set_text, throw_text, word_text};
-ghost use Rattle.swift_translation.specs.WordsInside.{urgency_text};
+ghost use Rattle.swift_translation.specs.StatementTexts.{add_head, add_text, adding_text, done_text, ended_text, field_set_text, give_text, given_head, given_text, make_text, making_text, or_zero_text, own_field_text, print_text, require_block, require_head, require_line, require_text, result_text, return_text, set_text, throw_text, word_text};
+ghost use Rattle.swift_translation.specs.Words.{urgency_text};
 ghost use Rattle.swift_translation.specs.WritingInside.{GoesOn};
 
 use crate::frame::ResultPlace;
@@ -15,7 +15,7 @@ use swift_expressions::{Callee, NONE};
 use swift_types::Priority;
 
 // A value, and the end of a statement.
-#[tactic(auto, unfolding(crate::specs::StatementTextsInside::ended_text))]
+#[tactic(auto, unfolding(crate::specs::StatementTexts::ended_text))]
 fn end_value(out: &mut Writer, at: &Context<'_>, value: usize)
     ensures { GoesOn out.old out.new (ended_text at.now value) }
 {
@@ -24,7 +24,7 @@ fn end_value(out: &mut Writer, at: &Context<'_>, value: usize)
 }
 
 /// A variable gets a value, or begins with it.
-#[tactic(auto, unfolding(crate::specs::StatementTextsInside::set_text))]
+#[tactic(auto, unfolding(crate::specs::StatementTexts::set_text))]
 pub(crate) fn write_set(
     out: &mut Writer,
     at: &Context<'_>,
@@ -39,7 +39,7 @@ pub(crate) fn write_set(
 }
 
 // The name of a field of the own actor.
-#[tactic(auto, unfolding(crate::specs::StatementTextsInside::own_field_text))]
+#[tactic(auto, unfolding(crate::specs::StatementTexts::own_field_text))]
 fn write_field(out: &mut Writer, at: &Context<'_>, field: usize)
     ensures { GoesOn out.old out.new (own_field_text at.now field) }
 {
@@ -49,7 +49,7 @@ fn write_field(out: &mut Writer, at: &Context<'_>, field: usize)
 }
 
 /// A field of the own actor gets a value.
-#[tactic(auto, unfolding(crate::specs::StatementTextsInside::field_set_text))]
+#[tactic(auto, unfolding(crate::specs::StatementTexts::field_set_text))]
 pub(crate) fn write_field_set(out: &mut Writer, at: &Context<'_>, field: usize, value: usize)
     ensures { GoesOn out.old out.new (field_set_text at.now field value) }
 {
@@ -60,7 +60,7 @@ pub(crate) fn write_field_set(out: &mut Writer, at: &Context<'_>, field: usize, 
 }
 
 /// A value is printed.
-#[tactic(auto, unfolding(crate::specs::StatementTextsInside::print_text))]
+#[tactic(auto, unfolding(crate::specs::StatementTexts::print_text))]
 pub(crate) fn write_print(out: &mut Writer, at: &Context<'_>, place: usize, value: usize)
     ensures { GoesOn out.old out.new (print_text at.now place value) }
 {
@@ -71,7 +71,7 @@ pub(crate) fn write_print(out: &mut Writer, at: &Context<'_>, place: usize, valu
 }
 
 // The head of the block that is done at the first value that does not hold.
-#[tactic(auto, unfolding(crate::specs::StatementTextsInside::require_head))]
+#[tactic(auto, unfolding(crate::specs::StatementTexts::require_head))]
 fn begin_require(out: &mut Writer, at: &Context<'_>)
     ensures { GoesOn out.old out.new (require_head at.now) }
 {
@@ -81,7 +81,7 @@ fn begin_require(out: &mut Writer, at: &Context<'_>)
 }
 
 // The statement that notes the line of a value that does not hold.
-#[tactic(auto, unfolding(crate::specs::StatementTextsInside::require_line))]
+#[tactic(auto, unfolding(crate::specs::StatementTexts::require_line))]
 fn note_line(out: &mut Writer, at: &Context<'_>, line: usize)
     ensures { GoesOn out.old out.new (require_line at.now line) }
 {
@@ -92,7 +92,7 @@ fn note_line(out: &mut Writer, at: &Context<'_>, line: usize)
 }
 
 // The same in a block.
-#[tactic(auto, unfolding(crate::specs::StatementTextsInside::require_block))]
+#[tactic(auto, unfolding(crate::specs::StatementTexts::require_block))]
 fn note_failure(out: &mut Writer, at: &Context<'_>, line: usize)
     ensures { GoesOn out.old out.new (require_block at.now line) }
 {
@@ -103,7 +103,7 @@ fn note_failure(out: &mut Writer, at: &Context<'_>, line: usize)
 }
 
 /// The first value that does not hold leaves its line.
-#[tactic(auto, unfolding(crate::specs::StatementTextsInside::require_text))]
+#[tactic(auto, unfolding(crate::specs::StatementTexts::require_text))]
 pub(crate) fn write_require(out: &mut Writer, at: &Context<'_>, value: usize, line: usize)
     ensures { GoesOn out.old out.new (require_text at.now value line) }
 {
@@ -133,7 +133,7 @@ fn making(is_detached: bool) -> &'static str
 }
 
 /// A task begins.
-#[tactic(auto, unfolding(crate::specs::StatementTextsInside::make_text))]
+#[tactic(auto, unfolding(crate::specs::StatementTexts::make_text))]
 pub(crate) fn make(
     out: &mut Writer,
     at: &Context<'_>,
@@ -158,7 +158,7 @@ fn adding(is_only: bool) -> &'static str
 }
 
 // The beginning of a statement that adds a child to a group.
-#[tactic(auto, unfolding(crate::specs::StatementTextsInside::add_head))]
+#[tactic(auto, unfolding(crate::specs::StatementTexts::add_head))]
 fn begin_add(out: &mut Writer, at: &Context<'_>, group: usize, is_only: bool)
     ensures { GoesOn out.old out.new (add_head at.now group is_only) }
 {
@@ -168,7 +168,7 @@ fn begin_add(out: &mut Writer, at: &Context<'_>, group: usize, is_only: bool)
 }
 
 /// A child of a group begins.
-#[tactic(auto, unfolding(crate::specs::StatementTextsInside::add_text))]
+#[tactic(auto, unfolding(crate::specs::StatementTexts::add_text))]
 pub(crate) fn add(
     out: &mut Writer,
     at: &Context<'_>,
@@ -185,7 +185,7 @@ pub(crate) fn add(
 }
 
 /// A word and what is named.
-#[tactic(auto, unfolding(crate::specs::StatementTextsInside::word_text))]
+#[tactic(auto, unfolding(crate::specs::StatementTexts::word_text))]
 pub(crate) fn write_word(out: &mut Writer, at: &Context<'_>, word: &str, variable: usize)
     ensures { GoesOn out.old out.new (word_text at.now word.now variable) }
 {
@@ -195,7 +195,7 @@ pub(crate) fn write_word(out: &mut Writer, at: &Context<'_>, word: &str, variabl
 }
 
 /// The method ends with a fault.
-#[tactic(auto, unfolding(crate::specs::StatementTextsInside::throw_text))]
+#[tactic(auto, unfolding(crate::specs::StatementTexts::throw_text))]
 pub(crate) fn write_throw(out: &mut Writer, at: &Context<'_>, value: usize)
     ensures { GoesOn out.old out.new (throw_text at.now value) }
 {
@@ -214,7 +214,7 @@ fn write_or_zero(out: &mut Writer, at: &Context<'_>, value: usize)
 }
 
 // What a method returns.
-#[tactic(auto, unfolding(crate::specs::StatementTextsInside::return_text))]
+#[tactic(auto, unfolding(crate::specs::StatementTexts::return_text))]
 fn write_return(out: &mut Writer, at: &Context<'_>, value: usize)
     ensures { GoesOn out.old out.new (return_text at.now value) }
 {
@@ -237,7 +237,7 @@ pub(crate) fn write_result(out: &mut Writer, at: &Context<'_>, to: ResultPlace)
 }
 
 // The beginning of a statement that sets the variable to which the value of a method goes.
-#[tactic(auto, unfolding(crate::specs::StatementTextsInside::given_head))]
+#[tactic(auto, unfolding(crate::specs::StatementTexts::given_head))]
 fn begin_given(out: &mut Writer, at: &Context<'_>, to: ResultPlace)
     ensures { GoesOn out.old out.new (given_head at.now to) }
 {
@@ -247,7 +247,7 @@ fn begin_given(out: &mut Writer, at: &Context<'_>, to: ResultPlace)
 }
 
 // The value of a method goes to a variable.
-#[tactic(auto, unfolding(crate::specs::StatementTextsInside::given_text))]
+#[tactic(auto, unfolding(crate::specs::StatementTexts::given_text))]
 fn write_given(out: &mut Writer, at: &Context<'_>, to: ResultPlace, value: usize)
     ensures { GoesOn out.old out.new (given_text at.now to value) }
 {

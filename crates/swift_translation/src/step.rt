@@ -1,9 +1,9 @@
 //! Instructions as statements, and the blocks that they open and close.
 
 ghost use Rattle.std.specs.Prelude.{◌≡◌, IsFalse, true};
-ghost use Rattle.swift_translation.specs.BlockTextsInside.{bind_head, bind_text, group_text, guarded_text, head_text, looped_text, rest_text, setting_text, task_text, test_text, while_text};
-ghost use Rattle.swift_translation.specs.BodiesInside.{block_progress, block_text, brace_text, callee_of, close_text, context_of, entered, frame_by, kind_of, next_frame, opened, or_next, plain_text, popped, progress_by, progress_of, put_in_progress, put_in_text, put_text, step_frame, step_progress, step_text, text_by, turn_over_text};
-ghost use Rattle.swift_translation.specs.WritingInside.{GoesOn};
+ghost use Rattle.swift_translation.specs.BlockTexts.{bind_head, bind_text, group_text, guarded_text, head_text, looped_text, rest_text, setting_text, task_text, test_text, while_text};
+ghost use Rattle.swift_translation.specs.Bodies.{block_progress, block_text, brace_text, callee_of, close_text, context_of, entered, frame_by, kind_of, next_frame, opened, or_next, plain_text, popped, progress_by, put_in_progress, put_in_text, put_text, step_frame, step_progress, step_text, text_by, turn_over_text};
+ghost use Rattle.swift_translation.specs.WritingInside.{GoesOn, progress_of};
 
 use crate::body::Body;
 use crate::frame::{Frame, begin, callee_frame, moved, write_params};
@@ -30,7 +30,7 @@ fn write_brace(out: &mut Writer, at: &Context<'_>, last: Option<bool>)
 }
 
 // Closes the innermost block.
-#[tactic(auto, unfolding(crate::specs::BodiesInside::close_text))]
+#[tactic(auto, unfolding(crate::specs::Bodies::close_text))]
 fn close(out: &mut Writer, body: &mut Body<'_>)
     ensures text { GoesOn out.old out.new (close_text body.old.source (progress_of body.old)) }
     ensures source { body.new.source ≡ body.old.source }
@@ -42,7 +42,7 @@ fn close(out: &mut Writer, body: &mut Body<'_>)
 }
 
 // `else` between two blocks.
-#[tactic(auto, unfolding(crate::specs::BodiesInside::turn_over_text))]
+#[tactic(auto, unfolding(crate::specs::Bodies::turn_over_text))]
 fn turn_over(out: &mut Writer, body: &mut Body<'_>)
     ensures text { GoesOn out.old out.new (turn_over_text body.old.source (progress_of body.old)) }
     ensures source { body.new.source ≡ body.old.source }
@@ -55,7 +55,7 @@ fn turn_over(out: &mut Writer, body: &mut Body<'_>)
 }
 
 // A word, a value, and a brace.
-#[tactic(auto, unfolding(crate::specs::BlockTextsInside::test_text))]
+#[tactic(auto, unfolding(crate::specs::BlockTexts::test_text))]
 fn write_test(out: &mut Writer, at: &Context<'_>, word: &str, value: usize)
     ensures { GoesOn out.old out.new (test_text at.now word.now value) }
 {
@@ -65,7 +65,7 @@ fn write_test(out: &mut Writer, at: &Context<'_>, word: &str, value: usize)
 }
 
 // A value that is tested where the method has not returned.
-#[tactic(auto, unfolding(crate::specs::BlockTextsInside::guarded_text))]
+#[tactic(auto, unfolding(crate::specs::BlockTexts::guarded_text))]
 fn write_guarded(out: &mut Writer, at: &Context<'_>, value: usize)
     ensures { GoesOn out.old out.new (guarded_text at.now value) }
 {
@@ -85,7 +85,7 @@ fn write_looped(out: &mut Writer, at: &Context<'_>, needs_done: bool, value: usi
     }
 }
 
-#[tactic(auto, unfolding(crate::specs::BlockTextsInside::while_text))]
+#[tactic(auto, unfolding(crate::specs::BlockTexts::while_text))]
 fn write_while(out: &mut Writer, at: &Context<'_>, needs_done: bool, value: usize)
     ensures { GoesOn out.old out.new (while_text at.now needs_done value) }
 {
@@ -94,7 +94,7 @@ fn write_while(out: &mut Writer, at: &Context<'_>, needs_done: bool, value: usiz
     out.say(" {")
 }
 
-#[tactic(auto, unfolding(crate::specs::BlockTextsInside::group_text))]
+#[tactic(auto, unfolding(crate::specs::BlockTexts::group_text))]
 fn write_group(out: &mut Writer, at: &Context<'_>, variable: usize)
     ensures { GoesOn out.old out.new (group_text at.now variable) }
 {
@@ -104,7 +104,7 @@ fn write_group(out: &mut Writer, at: &Context<'_>, variable: usize)
 }
 
 // What stands before the value of a task local that is bound.
-#[tactic(auto, unfolding(crate::specs::BlockTextsInside::bind_head))]
+#[tactic(auto, unfolding(crate::specs::BlockTexts::bind_head))]
 fn begin_bind(out: &mut Writer, at: &Context<'_>, local: usize)
     ensures { GoesOn out.old out.new (bind_head at.now local) }
 {
@@ -113,7 +113,7 @@ fn begin_bind(out: &mut Writer, at: &Context<'_>, local: usize)
     out.say(" = ")
 }
 
-#[tactic(auto, unfolding(crate::specs::BlockTextsInside::bind_text))]
+#[tactic(auto, unfolding(crate::specs::BlockTexts::bind_text))]
 fn write_bind(out: &mut Writer, at: &Context<'_>, local: usize, value: usize)
     ensures { GoesOn out.old out.new (bind_text at.now local value) }
 {
@@ -215,7 +215,7 @@ fn step_task(out: &mut Writer, at: &Context<'_>, frame: Frame, instruction: Inst
 }
 
 // A method that is put in where another one is at an instruction: its parameters, and the variables that it begins with.
-#[tactic(auto, unfolding(crate::specs::BodiesInside::put_text))]
+#[tactic(auto, unfolding(crate::specs::Bodies::put_text))]
 fn put_unit(out: &mut Writer, body: &mut Body<'_>, frame: Frame, callee: Frame, first: usize)
     ensures text { GoesOn out.old out.new (put_text body.old.source (progress_of body.old) frame callee first) }
     ensures source { body.new.source ≡ body.old.source }
@@ -350,7 +350,7 @@ fn step_by(
 }
 
 /// An instruction of a method that is written. The method that is written next, from its next instruction on.
-#[tactic(auto, unfolding(crate::specs::BodiesInside::step_text, crate::specs::BodiesInside::step_progress, crate::specs::BodiesInside::step_frame))]
+#[tactic(auto, unfolding(crate::specs::Bodies::step_text, crate::specs::Bodies::step_progress, crate::specs::Bodies::step_frame))]
 pub(crate) fn step(
     out: &mut Writer,
     body: &mut Body<'_>,

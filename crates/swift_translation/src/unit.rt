@@ -1,7 +1,7 @@
 //! Units as methods.
 
 ghost use Rattle.std.specs.Prelude.{◌≡◌, ◌&&◌, not};
-ghost use Rattle.swift_translation.specs.ActorTextsInside.{between, closure_method, is_param, line_of_token, lines_at, method_text, param_listed, params_listed, rest_text, unit_lines};
+ghost use Rattle.swift_translation.specs.ActorTexts.{between, closure_method, is_param, line_of_token, lines_at, method_text, param_listed, params_listed, rest_text, unit_lines};
 ghost use Rattle.swift_translation.specs.WritingInside.{GoesOn};
 
 use crate::line::{later, line_number};
@@ -15,7 +15,7 @@ use swift_expressions::Unit;
 use swift_syntax::MethodDecl;
 
 // The number of the line on which a token begins.
-#[tactic(auto, unfolding(crate::specs::ActorTextsInside::line_of_token))]
+#[tactic(auto, unfolding(crate::specs::ActorTexts::line_of_token))]
 fn line_of_token(source: &Source<'_>, token: usize) -> usize
     ensures { result ≡ line_of_token source.now token }
 {
@@ -26,7 +26,7 @@ fn line_of_token(source: &Source<'_>, token: usize) -> usize
 }
 
 // From which lines a unit is; the first one alone, where it ends above it.
-#[tactic(auto, unfolding(crate::specs::ActorTextsInside::unit_lines))]
+#[tactic(auto, unfolding(crate::specs::ActorTexts::unit_lines))]
 pub(crate) fn write_lines(out: &mut Writer, source: &Source<'_>, unit: Unit)
     ensures { GoesOn out.old out.new (unit_lines source.now unit) }
 {
@@ -84,7 +84,7 @@ fn write_params(out: &mut Writer, source: &Source<'_>, unit: usize)
 }
 
 // A unit as a method, whose name is written.
-#[tactic(auto, unfolding(crate::specs::ActorTextsInside::rest_text))]
+#[tactic(auto, unfolding(crate::specs::ActorTexts::rest_text))]
 pub(crate) fn write_rest(out: &mut Writer, source: &Source<'_>, place: usize)
     ensures { GoesOn out.old out.new (rest_text source.now place) }
 {
@@ -105,7 +105,7 @@ pub(crate) fn write_unit_lines(out: &mut Writer, source: &Source<'_>, place: usi
 }
 
 // A method of an actor.
-#[tactic(auto, unfolding(crate::specs::ActorTextsInside::method_text))]
+#[tactic(auto, unfolding(crate::specs::ActorTexts::method_text))]
 pub(crate) fn write_method(out: &mut Writer, source: &Source<'_>, place: usize, method: MethodDecl)
     ensures { GoesOn out.old out.new (method_text source.now place method) }
 {
@@ -116,7 +116,7 @@ pub(crate) fn write_method(out: &mut Writer, source: &Source<'_>, place: usize, 
 }
 
 // A closure as a method.
-#[tactic(auto, unfolding(crate::specs::ActorTextsInside::closure_method))]
+#[tactic(auto, unfolding(crate::specs::ActorTexts::closure_method))]
 pub(crate) fn write_closure(out: &mut Writer, source: &Source<'_>, place: usize, unit: Unit)
     ensures { GoesOn out.old out.new (closure_method source.now place unit) }
 {

@@ -2,9 +2,9 @@
 
 ghost use Rattle.std.specs.Prelude.{◌≡◌};
 ghost use Rattle.std.specs.Fmt.{signed_decimal};
-ghost use Rattle.swift_translation.specs.StartsInside.{start_number};
-ghost use Rattle.swift_translation.specs.ValueTextsInside.{bare_text, deep_text, field_text, local_text, member_text, more_operands, operands_text, read_text, value_text, var_text};
-ghost use Rattle.swift_translation.specs.WordsInside.{operator_text};
+ghost use Rattle.swift_translation.specs.Starts.{start_number};
+ghost use Rattle.swift_translation.specs.ValueTexts.{bare_text, deep_text, field_text, local_text, member_text, more_operands, operands_text, read_text, value_text, var_text};
+ghost use Rattle.swift_translation.specs.Words.{operator_text};
 ghost use Rattle.swift_translation.specs.WritingInside.{GoesOn};
 
 use crate::naming::{write_field_name, write_instance, write_name, write_variable};
@@ -42,7 +42,7 @@ fn write_number(out: &mut Writer, source: &Source<'_>, instance: usize, field: F
 }
 
 // A field of the own actor: a `let` is its number.
-#[tactic(auto, unfolding(crate::specs::ValueTextsInside::field_text))]
+#[tactic(auto, unfolding(crate::specs::ValueTexts::field_text))]
 fn write_field(out: &mut Writer, source: &Source<'_>, field: usize)
     ensures { GoesOn out.old out.new (field_text source.now field) }
 {
@@ -56,7 +56,7 @@ fn write_field(out: &mut Writer, source: &Source<'_>, field: usize)
 }
 
 // The name of a field of an instance.
-#[tactic(auto, unfolding(crate::specs::ValueTextsInside::var_text))]
+#[tactic(auto, unfolding(crate::specs::ValueTexts::var_text))]
 fn write_var(out: &mut Writer, source: &Source<'_>, instance: usize, token: usize)
     ensures { GoesOn out.old out.new (var_text source.now instance token) }
 {
@@ -66,7 +66,7 @@ fn write_var(out: &mut Writer, source: &Source<'_>, instance: usize, token: usiz
 }
 
 // A field of an instance at the end of a run: a `let` is its number.
-#[tactic(auto, unfolding(crate::specs::ValueTextsInside::member_text))]
+#[tactic(auto, unfolding(crate::specs::ValueTexts::member_text))]
 fn write_member(out: &mut Writer, source: &Source<'_>, instance: usize, field: usize)
     ensures { GoesOn out.old out.new (member_text source.now instance field) }
 {
@@ -80,7 +80,7 @@ fn write_member(out: &mut Writer, source: &Source<'_>, instance: usize, field: u
 }
 
 /// The name of a task local.
-#[tactic(auto, unfolding(crate::specs::ValueTextsInside::local_text))]
+#[tactic(auto, unfolding(crate::specs::ValueTexts::local_text))]
 pub(crate) fn write_local(out: &mut Writer, source: &Source<'_>, local: usize)
     ensures { GoesOn out.old out.new (local_text source.now local) }
 {
@@ -90,7 +90,7 @@ pub(crate) fn write_local(out: &mut Writer, source: &Source<'_>, local: usize)
 }
 
 // A task local that is read.
-#[tactic(auto, unfolding(crate::specs::ValueTextsInside::read_text))]
+#[tactic(auto, unfolding(crate::specs::ValueTexts::read_text))]
 fn write_read(out: &mut Writer, source: &Source<'_>, local: usize)
     ensures { GoesOn out.old out.new (read_text source.now local) }
 {
@@ -99,7 +99,7 @@ fn write_read(out: &mut Writer, source: &Source<'_>, local: usize)
 }
 
 // A value with everything in parentheses that has an operator.
-#[tactic(auto, unfolding(crate::specs::ValueTextsInside::deep_text))]
+#[tactic(auto, unfolding(crate::specs::ValueTexts::deep_text))]
 fn write_at(out: &mut Writer, at: &Context<'_>, place: usize, depth: u32)
     ensures { GoesOn out.old out.new (deep_text at.now depth place) }
 {
@@ -136,7 +136,7 @@ fn write_at(out: &mut Writer, at: &Context<'_>, place: usize, depth: u32)
 }
 
 /// A value.
-#[tactic(auto, unfolding(crate::specs::ValueTextsInside::value_text))]
+#[tactic(auto, unfolding(crate::specs::ValueTexts::value_text))]
 pub(crate) fn write_value(out: &mut Writer, at: &Context<'_>, place: usize)
     ensures { GoesOn out.old out.new (value_text at.now place) }
 {
@@ -172,7 +172,7 @@ fn write_more(out: &mut Writer, at: &Context<'_>, place: usize, most: usize)
 }
 
 /// Values that are handed over, with commas between them.
-#[tactic(auto, unfolding(crate::specs::ValueTextsInside::operands_text))]
+#[tactic(auto, unfolding(crate::specs::ValueTexts::operands_text))]
 pub(crate) fn write_operands(out: &mut Writer, at: &Context<'_>, first: usize)
     ensures { GoesOn out.old out.new (operands_text at.now first) }
 {

@@ -1,7 +1,7 @@
 //! What is waited for, and what tasks run.
 
 ghost use Rattle.std.specs.Prelude.{◌≡◌, []};
-ghost use Rattle.swift_translation.specs.StatementTextsInside.{apart_text, arguments_text, await_text, call_text, callee_text, called_text, caught_head, caught_text, closure_call, else_text, getter_text, here_text, home_text, is_call, method_name_text, method_text, set_head, target_text, wait_text, waited_text, word_line};
+ghost use Rattle.swift_translation.specs.StatementTexts.{apart_text, arguments_text, await_text, call_text, callee_text, called_text, caught_head, caught_text, closure_call, else_text, getter_text, here_text, home_text, is_call, method_name_text, method_text, set_head, target_text, wait_text, waited_text, word_line};
 ghost use Rattle.swift_translation.specs.WritingInside.{GoesOn};
 
 use crate::naming::{
@@ -14,7 +14,7 @@ use swift_expressions::{Callee, NONE, Target, Wait};
 use swift_syntax::{MethodDecl, Rule};
 
 /// A line that begins with a word.
-#[tactic(auto, unfolding(crate::specs::StatementTextsInside::word_line))]
+#[tactic(auto, unfolding(crate::specs::StatementTexts::word_line))]
 pub(crate) fn begin_line(out: &mut Writer, at: &Context<'_>, word: &str)
     ensures { GoesOn out.old out.new (word_line at.now word.now) }
 {
@@ -23,7 +23,7 @@ pub(crate) fn begin_line(out: &mut Writer, at: &Context<'_>, word: &str)
 }
 
 /// `let` or nothing, a variable, and `=`.
-#[tactic(auto, unfolding(crate::specs::StatementTextsInside::set_head))]
+#[tactic(auto, unfolding(crate::specs::StatementTexts::set_head))]
 pub(crate) fn begin_set(out: &mut Writer, at: &Context<'_>, word: &str, variable: usize)
     ensures { GoesOn out.old out.new (set_head at.now word.now variable) }
 {
@@ -42,7 +42,7 @@ fn refuse_own(out: &mut Writer, source: &Source<'_>, instance: usize, token: usi
 }
 
 // The name of a method of an instance.
-#[tactic(auto, unfolding(crate::specs::StatementTextsInside::method_name_text))]
+#[tactic(auto, unfolding(crate::specs::StatementTexts::method_name_text))]
 fn write_method_name(out: &mut Writer, source: &Source<'_>, instance: usize, method: usize)
     ensures { GoesOn out.old out.new (method_name_text source.now method) }
 {
@@ -53,7 +53,7 @@ fn write_method_name(out: &mut Writer, source: &Source<'_>, instance: usize, met
 }
 
 // A method of an instance.
-#[tactic(auto, unfolding(crate::specs::StatementTextsInside::method_text))]
+#[tactic(auto, unfolding(crate::specs::StatementTexts::method_text))]
 fn write_method(out: &mut Writer, source: &Source<'_>, instance: usize, method: usize)
     ensures { GoesOn out.old out.new (method_text source.now instance method) }
 {
@@ -63,7 +63,7 @@ fn write_method(out: &mut Writer, source: &Source<'_>, instance: usize, method: 
 }
 
 // A field of an instance.
-#[tactic(auto, unfolding(crate::specs::StatementTextsInside::getter_text))]
+#[tactic(auto, unfolding(crate::specs::StatementTexts::getter_text))]
 fn write_getter(out: &mut Writer, source: &Source<'_>, instance: usize, field: usize)
     ensures { GoesOn out.old out.new (getter_text source.now instance field) }
 {
@@ -87,7 +87,7 @@ fn write_home(out: &mut Writer, source: &Source<'_>, instance: usize, method: Me
 }
 
 // A method of an instance, or a function outside of actors, whatever the instance.
-#[tactic(auto, unfolding(crate::specs::StatementTextsInside::call_text))]
+#[tactic(auto, unfolding(crate::specs::StatementTexts::call_text))]
 fn write_call(out: &mut Writer, source: &Source<'_>, instance: usize, method: MethodDecl)
     ensures { GoesOn out.old out.new (call_text source.now instance method) }
 {
@@ -97,7 +97,7 @@ fn write_call(out: &mut Writer, source: &Source<'_>, instance: usize, method: Me
 }
 
 // The same of the method at a place, if there is one.
-#[tactic(auto, unfolding(crate::specs::StatementTextsInside::called_text))]
+#[tactic(auto, unfolding(crate::specs::StatementTexts::called_text))]
 fn write_called(out: &mut Writer, source: &Source<'_>, instance: usize, method: usize)
     ensures { GoesOn out.old out.new (called_text source.now instance method) }
 {
@@ -106,7 +106,7 @@ fn write_called(out: &mut Writer, source: &Source<'_>, instance: usize, method: 
     }
 }
 
-#[tactic(auto, unfolding(crate::specs::StatementTextsInside::arguments_text))]
+#[tactic(auto, unfolding(crate::specs::StatementTexts::arguments_text))]
 fn write_arguments(out: &mut Writer, at: &Context<'_>, first: usize)
     ensures { GoesOn out.old out.new (arguments_text at.now first) }
 {
@@ -116,7 +116,7 @@ fn write_arguments(out: &mut Writer, at: &Context<'_>, first: usize)
 }
 
 // A method that a closure became, and what is handed to it.
-#[tactic(auto, unfolding(crate::specs::StatementTextsInside::closure_call))]
+#[tactic(auto, unfolding(crate::specs::StatementTexts::closure_call))]
 fn write_closure(out: &mut Writer, at: &Context<'_>, unit: usize, first: usize)
     ensures { GoesOn out.old out.new (closure_call at.now unit first) }
 {
@@ -175,7 +175,7 @@ fn begin_target(out: &mut Writer, at: &Context<'_>, target: Target)
 }
 
 // The beginning of a statement that makes a task for a call whose error is caught.
-#[tactic(auto, unfolding(crate::specs::StatementTextsInside::caught_head))]
+#[tactic(auto, unfolding(crate::specs::StatementTexts::caught_head))]
 fn begin_caught(out: &mut Writer, at: &Context<'_>, place: usize)
     ensures { GoesOn out.old out.new (caught_head at.now place) }
 {
@@ -185,7 +185,7 @@ fn begin_caught(out: &mut Writer, at: &Context<'_>, place: usize)
 }
 
 // A call whose error is caught as a task: nothing in Swift catches what ends the process, and that a task was ended by it is seen.
-#[tactic(auto, unfolding(crate::specs::StatementTextsInside::caught_text))]
+#[tactic(auto, unfolding(crate::specs::StatementTexts::caught_text))]
 fn make_caught(out: &mut Writer, at: &Context<'_>, place: usize, what: Wait)
     ensures { GoesOn out.old out.new (caught_text at.now place what) }
 {
@@ -195,7 +195,7 @@ fn make_caught(out: &mut Writer, at: &Context<'_>, place: usize, what: Wait)
 }
 
 // A wait for the task of a call that is caught.
-#[tactic(auto, unfolding(crate::specs::StatementTextsInside::apart_text))]
+#[tactic(auto, unfolding(crate::specs::StatementTexts::apart_text))]
 fn wait_apart(out: &mut Writer, at: &Context<'_>, place: usize, target: Target, what: Wait)
     ensures { GoesOn out.old out.new (apart_text at.now place target what) }
 {
@@ -205,7 +205,7 @@ fn wait_apart(out: &mut Writer, at: &Context<'_>, place: usize, target: Target, 
     write_caught(out, at, place)
 }
 
-#[tactic(auto, unfolding(crate::specs::StatementTextsInside::here_text))]
+#[tactic(auto, unfolding(crate::specs::StatementTexts::here_text))]
 fn wait_here(out: &mut Writer, at: &Context<'_>, target: Target, what: Wait)
     ensures { GoesOn out.old out.new (here_text at.now target what) }
 {
@@ -242,7 +242,7 @@ fn write_else(out: &mut Writer, at: &Context<'_>, otherwise: usize)
 }
 
 /// A wait, with the value that stands for its result where it ends with a fault, if there is one.
-#[tactic(auto, unfolding(crate::specs::StatementTextsInside::waited_text))]
+#[tactic(auto, unfolding(crate::specs::StatementTexts::waited_text))]
 pub(crate) fn wait(
     out: &mut Writer,
     at: &Context<'_>,

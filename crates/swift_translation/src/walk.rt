@@ -1,9 +1,9 @@
 //! The instructions of a body, one after another.
 
 ghost use Rattle.std.specs.Prelude.{◌≡◌, IsFalse};
-ghost use Rattle.swift_translation.specs.BodiesInside.{body_text, context_of, is_closure, last_of, left, progress_of, run_text, turn_frame, turn_progress, turn_text, unit_body};
-ghost use Rattle.swift_translation.specs.MethodTextsInside.{end_text};
-ghost use Rattle.swift_translation.specs.WritingInside.{GoesOn};
+ghost use Rattle.swift_translation.specs.Bodies.{body_text, context_of, is_closure, last_of, left, run_text, turn_frame, turn_progress, turn_text, unit_body};
+ghost use Rattle.swift_translation.specs.MethodTexts.{end_text};
+ghost use Rattle.swift_translation.specs.WritingInside.{GoesOn, progress_of};
 
 use crate::body::Body;
 use crate::frame::{Frame, begin, first_frame, write_end};
@@ -67,7 +67,7 @@ fn run(out: &mut Writer, body: &mut Body<'_>, first: Frame, most: u32)
 }
 
 // The statements of a unit that was looked for.
-#[tactic(auto, unfolding(crate::specs::BodiesInside::unit_body))]
+#[tactic(auto, unfolding(crate::specs::Bodies::unit_body))]
 fn write_unit_body(out: &mut Writer, source: &Source<'_>, unit: usize, found: Unit)
     ensures { GoesOn out.old out.new (unit_body source.now unit found) }
 {
@@ -86,7 +86,7 @@ pub(crate) fn is_closure(kind: UnitKind) -> bool
 }
 
 /// The statements of a unit, with the methods that are put into it.
-#[tactic(auto, unfolding(crate::specs::BodiesInside::body_text))]
+#[tactic(auto, unfolding(crate::specs::Bodies::body_text))]
 pub(crate) fn write_body(out: &mut Writer, source: &Source<'_>, unit: usize)
     ensures { GoesOn out.old out.new (body_text source.now unit) }
 {

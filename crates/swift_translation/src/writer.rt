@@ -2,7 +2,7 @@
 
 ghost use Rattle.std.specs.Prelude.{◌≡◌, [], decimal, IsFalse, IsTrue};
 ghost use Rattle.std.specs.Fmt.{signed_decimal};
-ghost use Rattle.swift_translation.specs.StatementTextsInside.{indent_text, line_text};
+ghost use Rattle.swift_translation.specs.StatementTexts.{indent_text, line_text};
 ghost use Rattle.swift_translation.specs.WritingInside.{GoesOn};
 
 use std::alloc::Global;
@@ -90,7 +90,7 @@ impl Writer {
     }
 
     /// Begins a line of a body in which so many blocks are open.
-    #[tactic(auto, unfolding(crate::specs::StatementTextsInside::line_text))]
+    #[tactic(auto, unfolding(crate::specs::StatementTexts::line_text))]
     pub(crate) fn line(&mut self, open_blocks: usize)
         ensures { GoesOn self.old self.new (line_text open_blocks) }
     {

@@ -1,4 +1,4 @@
-use Rattle.swift_translation.specs.ActorTextsInside.{each, own_field}
+use Rattle.swift_translation.specs.ActorTexts.{each, own_field}
 use Rattle.swift_translation.specs.WritingInside.{GoesOn}
 use Rattle.swift_translation.proofs.actor.write_fields.Given as goal
 

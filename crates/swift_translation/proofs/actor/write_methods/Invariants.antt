@@ -1,4 +1,4 @@
-use Rattle.swift_translation.specs.ActorTextsInside.{each, method_at}
+use Rattle.swift_translation.specs.ActorTexts.{each, method_at}
 use Rattle.swift_translation.specs.WritingInside.{GoesOn}
 use Rattle.swift_translation.proofs.actor.write_methods.Given as goal
 

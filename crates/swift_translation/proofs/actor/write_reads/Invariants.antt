@@ -1,4 +1,4 @@
-use Rattle.swift_translation.specs.ActorTextsInside.{each, read_at}
+use Rattle.swift_translation.specs.ActorTexts.{each, read_at}
 use Rattle.swift_translation.specs.WritingInside.{GoesOn}
 use Rattle.swift_translation.proofs.actor.write_reads.Given as goal
 

@@ -1,5 +1,5 @@
 use Rattle.std.proofs.Common.{◌≡◌}
-use Rattle.swift_translation.specs.MethodTextsInside.{operand_before, params_before}
+use Rattle.swift_translation.specs.MethodTexts.{operand_before, params_before}
 use Rattle.swift_translation.specs.WritingInside.{GoesOn}
 use Rattle.swift_translation.proofs.frame.write_params.Given as goal
 

@@ -1,4 +1,4 @@
-use Rattle.swift_translation.specs.ActorTextsInside.{each, own_closures}
+use Rattle.swift_translation.specs.ActorTexts.{each, own_closures}
 use Rattle.swift_translation.specs.WritingInside.{GoesOn}
 use Rattle.swift_translation.proofs.pool.write_all_closures.Given as goal
 

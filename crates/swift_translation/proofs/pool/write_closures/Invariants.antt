@@ -1,4 +1,4 @@
-use Rattle.swift_translation.specs.ActorTextsInside.{each, closures_of}
+use Rattle.swift_translation.specs.ActorTexts.{each, closures_of}
 use Rattle.swift_translation.specs.WritingInside.{GoesOn}
 use Rattle.swift_translation.proofs.pool.write_closures.Given as goal
 

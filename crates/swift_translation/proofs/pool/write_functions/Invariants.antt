@@ -1,4 +1,4 @@
-use Rattle.swift_translation.specs.ActorTextsInside.{each, function_at}
+use Rattle.swift_translation.specs.ActorTexts.{each, function_at}
 use Rattle.swift_translation.specs.WritingInside.{GoesOn}
 use Rattle.swift_translation.proofs.pool.write_functions.Given as goal
 

@@ -1,6 +1,6 @@
 use Rattle.std.proofs.Common.{codes, true}
 use Rattle.swift_expressions.specs.declared.code.TheConstants.{NONE}
-use Rattle.swift_translation.specs.ActorTextsInside.{has_requirement, pool_actor, pool_methods, requirement_text}
+use Rattle.swift_translation.specs.ActorTexts.{has_requirement, pool_actor, pool_methods, requirement_text}
 use Rattle.swift_translation.proofs.Writes.{four}
 use Rattle.swift_translation.proofs.pool.write_pool_actor.Goals as goal
 

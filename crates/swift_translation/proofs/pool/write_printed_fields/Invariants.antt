@@ -1,4 +1,4 @@
-use Rattle.swift_translation.specs.ActorTextsInside.{each, printed_field}
+use Rattle.swift_translation.specs.ActorTexts.{each, printed_field}
 use Rattle.swift_translation.specs.WritingInside.{GoesOn}
 use Rattle.swift_translation.proofs.pool.write_printed_fields.Given as goal
 

@@ -1,6 +1,6 @@
 use Rattle.std.proofs.Common.{codes}
-use Rattle.swift_translation.specs.ActorTextsInside.{root_text}
-use Rattle.swift_translation.specs.ValueTextsInside.{name_text}
+use Rattle.swift_translation.specs.ActorTexts.{root_text}
+use Rattle.swift_translation.specs.ValueTexts.{name_text}
 use Rattle.swift_translation.proofs.Writes.{three}
 use Rattle.swift_translation.proofs.pool.write_root.Goals as goal
 

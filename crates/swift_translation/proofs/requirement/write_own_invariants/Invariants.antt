@@ -1,5 +1,5 @@
 use Rattle.std.proofs.Common.{◌≡◌, ◌&&◌, not}
-use Rattle.swift_translation.specs.ActorTextsInside.{each_of, invariant_at, is_invariant_of, none_before}
+use Rattle.swift_translation.specs.ActorTexts.{each_of, invariant_at, is_invariant_of, none_before}
 use Rattle.swift_translation.specs.WritingInside.{GoesOn}
 use Rattle.swift_translation.proofs.requirement.write_own_invariants.Given as goal
 

@@ -1,5 +1,5 @@
 use Rattle.std.proofs.Common.{codes}
-use Rattle.swift_translation.specs.ActorTextsInside.{precondition_field}
+use Rattle.swift_translation.specs.ActorTexts.{precondition_field}
 use Rattle.swift_translation.specs.Names.{Precondition, spelled}
 use Rattle.swift_translation.proofs.Writes.{three}
 use Rattle.swift_translation.proofs.requirement.write_precondition_field.Goals as goal

@@ -1,5 +1,5 @@
-use Rattle.swift_translation.specs.ActorTextsInside.{each}
-use Rattle.swift_translation.specs.ScriptTextsInside.{executor_at}
+use Rattle.swift_translation.specs.ActorTexts.{each}
+use Rattle.swift_translation.specs.ScriptTexts.{executor_at}
 use Rattle.swift_translation.specs.WritingInside.{GoesOn}
 use Rattle.swift_translation.proofs.script.write_executors.Given as goal
 

@@ -1,5 +1,5 @@
-use Rattle.swift_translation.specs.ActorTextsInside.{each}
-use Rattle.swift_translation.specs.ScriptTextsInside.{expectation_at}
+use Rattle.swift_translation.specs.ActorTexts.{each}
+use Rattle.swift_translation.specs.ScriptTexts.{expectation_at}
 use Rattle.swift_translation.specs.WritingInside.{GoesOn}
 use Rattle.swift_translation.proofs.script.write_expectations.Given as goal
 

@@ -1,5 +1,5 @@
-use Rattle.swift_translation.specs.ActorTextsInside.{each}
-use Rattle.swift_translation.specs.ScriptTextsInside.{local_at}
+use Rattle.swift_translation.specs.ActorTexts.{each}
+use Rattle.swift_translation.specs.ScriptTexts.{local_at}
 use Rattle.swift_translation.specs.WritingInside.{GoesOn}
 use Rattle.swift_translation.proofs.script.write_locals.Given as goal
 

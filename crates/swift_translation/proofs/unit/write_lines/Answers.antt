@@ -1,5 +1,5 @@
 use Rattle.std.proofs.Common.{codes, max}
-use Rattle.swift_translation.specs.ActorTextsInside.{line_of_token, unit_lines}
+use Rattle.swift_translation.specs.ActorTexts.{line_of_token, unit_lines}
 use Rattle.swift_translation.specs.PlaceTexts.{lines_text}
 use Rattle.swift_translation.proofs.Writes.{both}
 use Rattle.swift_translation.proofs.unit.write_lines.Goals as goal

@@ -1,5 +1,5 @@
 use Rattle.std.proofs.Common.{◌≡◌, ◌&&◌, true}
-use Rattle.swift_translation.specs.ActorTextsInside.{each_of, is_param, none_before, param_listed}
+use Rattle.swift_translation.specs.ActorTexts.{each_of, is_param, none_before, param_listed}
 use Rattle.swift_translation.specs.WritingInside.{GoesOn}
 use Rattle.swift_translation.proofs.unit.write_params.Given as goal
 

@@ -1,6 +1,6 @@
 use Rattle.std.proofs.Common.{◌∙◌, ◌-◌, ◌≤◌, List, ℕ, arith, codes, refl, subst, sym}
-use Rattle.swift_translation.specs.ValueTextsInside.{deep_text}
-use Rattle.swift_translation.specs.WordsInside.{operator_text}
+use Rattle.swift_translation.specs.ValueTexts.{deep_text}
+use Rattle.swift_translation.specs.Words.{operator_text}
 use Rattle.swift_translation.specs.WritingInside.{GoesOn}
 use Rattle.swift_translation.proofs.Values.{binary_text}
 use Rattle.swift_translation.proofs.Writes.{five}

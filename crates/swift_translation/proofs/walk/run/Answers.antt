@@ -1,6 +1,7 @@
 use Rattle.std.proofs.Common.{◌∙◌, arith, refl}
 use Rattle.swift_translation.proofs.Bodies.{comes_to, goes_on, is_all, is_at_start, starts}
-use Rattle.swift_translation.specs.BodiesInside.{progress_of, starting}
+use Rattle.swift_translation.specs.Bodies.{starting}
+use Rattle.swift_translation.specs.WritingInside.{progress_of}
 use Rattle.swift_translation.proofs.walk.run.Goals as goal
 
 pub loop-init : goal.loop-init

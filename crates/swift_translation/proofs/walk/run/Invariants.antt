@@ -1,7 +1,7 @@
 use Rattle.std.proofs.Common.{◌≡◌}
 use Rattle.swift_translation.proofs.Bodies.{IsAt}
-use Rattle.swift_translation.specs.BodiesInside.{course, progress_of, starting}
-use Rattle.swift_translation.specs.WritingInside.{GoesOn}
+use Rattle.swift_translation.specs.Bodies.{course, starting}
+use Rattle.swift_translation.specs.WritingInside.{GoesOn, progress_of}
 use Rattle.swift_translation.proofs.walk.run.Given as goal
 
 -- the first `counter` turns are written

@@ -1,4 +1,4 @@
--- Actors of the script, with their fields, what has to hold of them, and their methods. No public clause names it. (Own.)
+-- Actors of the script, with their fields, what has to hold of them, and their methods. (Our own.)
 use Rattle.std.specs.Prelude.{ℕ, ℤ, zero, suc, ◌==◌, ◌&&◌, ◌||◌, ◌++◌, Bool, true, false, not, List, [], Option, Some, None, codes, drop, if◌then◌else◌, length, max, slice_get, take}
 use Rattle.std.specs.Fmt.{signed_decimal}
 use Rattle.std.specs.List.{list_any}
@@ -15,13 +15,13 @@ use Rattle.swift_expressions.specs.declared.code.Unit as units
 use Rattle.swift_expressions.specs.declared.code.UnitKind.{UnitKind}
 use Rattle.swift_expressions.specs.declared.code.UnitKind.TheVariants as kinds
 use Rattle.swift_expressions.specs.declared.code.Variable as variables
-use Rattle.swift_translation.specs.BodiesInside.{body_text, is_closure}
+use Rattle.swift_translation.specs.Bodies.{body_text, is_closure}
 use Rattle.swift_translation.specs.MethodPlaces.{line_of}
 use Rattle.swift_translation.specs.Names.{Precondition, spelled}
 use Rattle.swift_translation.specs.PlaceTexts.{lines_text}
-use Rattle.swift_translation.specs.SourcesInside.{of_instance, token_place}
-use Rattle.swift_translation.specs.StartsInside.{actor_of, start_number}
-use Rattle.swift_translation.specs.ValueTextsInside.{field_name_text, instance_text, name_text, printed_text, unit_text, value_text, variable_text}
+use Rattle.swift_translation.specs.Sources.{of_instance, token_place}
+use Rattle.swift_translation.specs.Starts.{actor_of, start_number}
+use Rattle.swift_translation.specs.ValueTexts.{field_name_text, instance_text, name_text, printed_text, unit_text, value_text, variable_text}
 use Rattle.swift_translation.specs.declared.source.Context.{Context}
 use Rattle.swift_translation.specs.declared.source.Source.{Source}
 

@@ -1,4 +1,4 @@
--- Instructions that open and close no block, as statements. No public clause names it. (Own.)
+-- Instructions that open and close no block, as statements. (Our own.)
 use Rattle.std.specs.Prelude.{ℕ, zero, suc, ◌==◌, ◌&&◌, ◌++◌, Bool, true, false, not, List, [], Option, Some, None, codes, decimal, if◌then◌else◌, slice_get}
 use Rattle.swift_types.specs.declared.priority.Priority.{Priority}
 use Rattle.swift_syntax.specs.declared.tree.FieldDecl.{FieldDecl}
@@ -11,9 +11,9 @@ use Rattle.swift_expressions.specs.declared.code.TheConstants.{NONE}
 use Rattle.swift_expressions.specs.declared.code.Wait.{Wait}
 use Rattle.swift_expressions.specs.declared.code.Wait.TheVariants as waits
 use Rattle.swift_translation.specs.Names.{Caught, Precondition, Result, spelled}
-use Rattle.swift_translation.specs.ReturnsInside.{done_set}
-use Rattle.swift_translation.specs.ValueTextsInside.{field_name_text, instance_text, name_text, operands_text, printed_text, unit_text, value_text, variable_text}
-use Rattle.swift_translation.specs.WordsInside.{urgency_text}
+use Rattle.swift_translation.specs.Returns.{done_set}
+use Rattle.swift_translation.specs.ValueTexts.{field_name_text, instance_text, name_text, operands_text, printed_text, unit_text, value_text, variable_text}
+use Rattle.swift_translation.specs.Words.{urgency_text}
 use Rattle.swift_translation.specs.declared.frame.ResultPlace.{ResultPlace}
 use Rattle.swift_translation.specs.declared.frame.ResultPlace.TheVariants.{Returned, Own, Variable}
 use Rattle.swift_translation.specs.declared.source.Context.{Context}

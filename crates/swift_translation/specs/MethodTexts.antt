@@ -1,13 +1,13 @@
--- How methods begin and end, and what is handed to those that are put in. No public clause names it. (Own.)
+-- How methods begin and end, and what is handed to those that are put in. (Our own.)
 use Rattle.std.specs.Prelude.{ℕ, zero, suc, ◌==◌, ◌&&◌, ◌++◌, Bool, List, [], Option, Some, None, codes, if◌then◌else◌, length, slice_get}
 use Rattle.swift_expressions.specs.declared.code.Operand.{Operand}
 use Rattle.swift_expressions.specs.declared.code.Target.{Target}
 use Rattle.swift_expressions.specs.declared.code.Target.TheVariants.{Nothing, Declare}
 use Rattle.swift_expressions.specs.declared.code.Unit as units
 use Rattle.swift_expressions.specs.declared.code.Variable as variables
-use Rattle.swift_translation.specs.ReturnsInside.{done_let, result_given}
-use Rattle.swift_translation.specs.StatementTextsInside.{line_text, of_serial, result_text, set_head, word_line}
-use Rattle.swift_translation.specs.ValueTextsInside.{value_text}
+use Rattle.swift_translation.specs.Returns.{done_let, result_given}
+use Rattle.swift_translation.specs.StatementTexts.{line_text, of_serial, result_text, set_head, word_line}
+use Rattle.swift_translation.specs.ValueTexts.{value_text}
 use Rattle.swift_translation.specs.declared.frame.Frame.{Frame}
 use Rattle.swift_translation.specs.declared.frame.ResultPlace.{ResultPlace}
 use Rattle.swift_translation.specs.declared.frame.ResultPlace.TheVariants.{Returned, Own, Variable}

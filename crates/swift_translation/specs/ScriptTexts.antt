@@ -1,16 +1,19 @@
--- The text of the script that a Swift file becomes. No public clause names it. (Own.)
-use Rattle.std.specs.Prelude.{ℕ, ℤ, ◌++◌, List, [], Option, Some, None, bytes_eq, codes, length, position, slice_get}
+-- The text of the script that a Swift file becomes. (Our own.)
+use Rattle.std.specs.Prelude.{ℕ, ℤ, ◌≡◌, ◌++◌, List, [], Option, Some, None, bytes_eq, codes, length, position, slice_get}
 use Rattle.std.specs.Fmt.{signed_decimal}
+use Rattle.swift_syntax.specs.declared.token.Token.{Token}
 use Rattle.swift_syntax.specs.declared.tree.ExecutorDecl.{ExecutorDecl}
 use Rattle.swift_syntax.specs.declared.tree.ExecutorKindDecl.{ExecutorKindDecl}
 use Rattle.swift_syntax.specs.declared.tree.ExecutorKindDecl.TheVariants as executors
 use Rattle.swift_syntax.specs.declared.tree.ExpectDecl.{ExpectDecl}
 use Rattle.swift_syntax.specs.declared.tree.InstanceDecl.{InstanceDecl}
 use Rattle.swift_syntax.specs.declared.tree.LocalDecl.{LocalDecl}
-use Rattle.swift_translation.specs.ActorTextsInside.{actors_text, each, main_text, outside, pool_text}
-use Rattle.swift_translation.specs.SourcesInside.{bytes_at}
-use Rattle.swift_translation.specs.StartsInside.{literal_number, or_zero}
-use Rattle.swift_translation.specs.ValueTextsInside.{bare_text, instance_text, name_text}
+use Rattle.swift_syntax.specs.declared.tree.Tree.{Tree}
+use Rattle.swift_expressions.specs.declared.code.Code.{Code}
+use Rattle.swift_translation.specs.ActorTexts.{actors_text, each, main_text, outside, pool_text}
+use Rattle.swift_translation.specs.Sources.{IsSourceOf, bytes_at}
+use Rattle.swift_translation.specs.Starts.{literal_number, or_zero}
+use Rattle.swift_translation.specs.ValueTexts.{bare_text, instance_text, name_text}
 use Rattle.swift_translation.specs.declared.source.Source.{Source}
 
 -- the kind of an executor, and the end of its line
@@ -109,3 +112,9 @@ declared_text s = expectations_text s ++ executors_text s ++ locals_text s
 -- a script: what stands before the actors, the actors, that of closures, and that of `main`
 unfoldable pub script_text : Source → List ℕ
 script_text s = declared_text s ++ actors_text s ++ pool_text s ++ main_text s
+
+-- What is written of a text, its tokens, its tree and its instructions.
+pub record IsWrittenOf (text : List ℕ) (tokens : List Token) (tree : Tree) (code : Code) (s : List ℕ) : Type 0 where
+  pub source : Source
+  pub from : IsSourceOf text tokens tree code source
+  pub is : s ≡ script_text source

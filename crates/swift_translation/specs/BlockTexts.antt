@@ -1,11 +1,11 @@
--- Instructions as statements, and the heads of the blocks that some open. No public clause names it. (Own.)
+-- Instructions as statements, and the heads of the blocks that some open. (Our own.)
 use Rattle.std.specs.Prelude.{ℕ, ◌++◌, Bool, List, [], codes, if◌then◌else◌}
 use Rattle.swift_expressions.specs.declared.code.Instruction.{Instruction}
 use Rattle.swift_expressions.specs.declared.code.Instruction.TheVariants as instruction
 use Rattle.swift_translation.specs.Names.{Done, spelled}
-use Rattle.swift_translation.specs.ReturnsInside.{done_head}
-use Rattle.swift_translation.specs.StatementTextsInside.{add_text, field_set_text, give_text, line_text, make_text, print_text, require_text, set_text, throw_text, waited_text, word_line, word_text}
-use Rattle.swift_translation.specs.ValueTextsInside.{local_text, value_text, variable_text}
+use Rattle.swift_translation.specs.Returns.{done_head}
+use Rattle.swift_translation.specs.StatementTexts.{add_text, field_set_text, give_text, line_text, make_text, print_text, require_text, set_text, throw_text, waited_text, word_line, word_text}
+use Rattle.swift_translation.specs.ValueTexts.{local_text, value_text, variable_text}
 use Rattle.swift_translation.specs.declared.frame.Frame.{Frame}
 use Rattle.swift_translation.specs.declared.source.Context.{Context}
 

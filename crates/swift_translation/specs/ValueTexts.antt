@@ -1,4 +1,4 @@
--- Names and values of the script as it has them. No public clause names it. (Own.)
+-- Names and values of the script as it has them. (Our own.)
 use Rattle.std.specs.Prelude.{ℕ, zero, suc, ◌+◌, ◌-◌, ◌^◌, ◌==◌, ◌++◌, List, [], Option, Some, None, codes, if◌then◌else◌, length, min, slice_get}
 use Rattle.std.specs.Fmt.{signed_decimal}
 use Rattle.swift_syntax.specs.declared.tree.FieldDecl.{FieldDecl}
@@ -12,9 +12,9 @@ use Rattle.swift_expressions.specs.declared.code.Value.TheVariants as value
 use Rattle.swift_expressions.specs.declared.code.Variable.{Variable}
 use Rattle.swift_expressions.specs.declared.lines.Spot.{Spot}
 use Rattle.swift_translation.specs.Names.{Named, Printed, Temporary, closure_in, closure_in_function, closure_in_main, file_name, spelled}
-use Rattle.swift_translation.specs.SourcesInside.{bytes_at, value_at}
-use Rattle.swift_translation.specs.StartsInside.{start_number}
-use Rattle.swift_translation.specs.WordsInside.{operator_text}
+use Rattle.swift_translation.specs.Sources.{bytes_at, value_at}
+use Rattle.swift_translation.specs.Starts.{start_number}
+use Rattle.swift_translation.specs.Words.{operator_text}
 use Rattle.swift_translation.specs.declared.source.Context.{Context}
 use Rattle.swift_translation.specs.declared.source.Source.{Source}
 

@@ -1,4 +1,4 @@
--- The start values of fields. No public clause names it. (Own.)
+-- The start values of fields. (Our own.)
 use Rattle.std.specs.Prelude.{ℕ, ◌==◌, ◌&&◌, ℤ, pos, neg_ℤ, int_lt, cond, if◌then◌else◌, Bool, List, [], ◌∷◌, Option, Some, None, bytes_eq, length, nat_le, position, slice_get, slice_range}
 use Rattle.swift_syntax.specs.declared.tree.ActorDecl.{ActorDecl}
 use Rattle.swift_syntax.specs.declared.tree.Argument.{Argument}
@@ -9,7 +9,7 @@ use Rattle.swift_syntax.specs.declared.tree.FieldStart.{FieldStart}
 use Rattle.swift_syntax.specs.declared.tree.FieldStart.TheVariants as start
 use Rattle.swift_syntax.specs.declared.tree.InstanceDecl.{InstanceDecl}
 use Rattle.swift_syntax.specs.declared.tree.ParamDecl.{ParamDecl}
-use Rattle.swift_translation.specs.SourcesInside.{argument_at, bytes_at, expr_at}
+use Rattle.swift_translation.specs.Sources.{argument_at, bytes_at, expr_at}
 use Rattle.swift_translation.specs.declared.source.Source.{Source}
 
 -- a number with its sign the other way round; there is none of the least one

@@ -1,4 +1,4 @@
--- A body that is written, instruction by instruction. No public clause names it. (Own.)
+-- A body that is written, instruction by instruction. (Our own.)
 use Rattle.std.specs.Prelude.{ℕ, zero, suc, ◌+◌, ◌-◌, ◌^◌, ◌++◌, Bool, true, false, List, [], ◌∷◌, Option, Some, None, if◌then◌else◌, codes, length, max, min, nat_le, slice_get, take}
 use Rattle.std.specs.List.{count_by}
 use Rattle.swift_expressions.specs.declared.code.Instruction.{Instruction}
@@ -7,11 +7,10 @@ use Rattle.swift_expressions.specs.declared.code.Target.{Target}
 use Rattle.swift_expressions.specs.declared.code.Unit as units
 use Rattle.swift_expressions.specs.declared.code.UnitKind as units_kind
 use Rattle.swift_expressions.specs.declared.code.UnitKind.TheVariants as kinds
-use Rattle.swift_translation.specs.BlockTextsInside.{head_text, setting_text, task_text}
-use Rattle.swift_translation.specs.MethodTextsInside.{begin_text, callee_frame, end_text, first_frame, moved, params_text}
-use Rattle.swift_translation.specs.SourcesInside.{instruction_at}
-use Rattle.swift_translation.specs.StatementTextsInside.{word_line}
-use Rattle.swift_translation.specs.declared.body.Body.{Body}
+use Rattle.swift_translation.specs.BlockTexts.{head_text, setting_text, task_text}
+use Rattle.swift_translation.specs.MethodTexts.{begin_text, callee_frame, end_text, first_frame, moved, params_text}
+use Rattle.swift_translation.specs.Sources.{instruction_at}
+use Rattle.swift_translation.specs.StatementTexts.{word_line}
 use Rattle.swift_translation.specs.declared.frame.Frame.{Frame}
 use Rattle.swift_translation.specs.declared.source.Context.{Context}
 use Rattle.swift_translation.specs.declared.source.Source.{Source}
@@ -31,10 +30,6 @@ pub record Progress : Type 0 where
   pub callers : List Frame
   pub blocks : List Bool
   pub serial : ℕ
-
--- how far a body is written
-abbrev pub progress_of : Body → Progress
-progress_of b = record { callers = b.callers.items; blocks = b.blocks.items; serial = b.serial }
 
 -- nothing is written
 abbrev pub fresh : Progress
