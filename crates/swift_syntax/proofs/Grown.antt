@@ -7,8 +7,9 @@ use Rattle.std.proofs.Math.Seq.{get_or-append_seam}
 use Rattle.swift_syntax.specs.declared.reader.Reader.{Reader}
 use Rattle.swift_syntax.specs.declared.tree.Expr.{Expr}
 use Rattle.swift_syntax.specs.declared.tree.ExprForm.{ExprForm}
+use Rattle.swift_syntax.specs.declared.tree.Tree.{Tree}
 use Rattle.swift_syntax.specs.Expressions.{SwiftTree, StandsAt, leaf, negated, inverted, joined, chosen, awaited, tried, tried_optional}
-use Rattle.swift_syntax.specs.ReadersInside.{Grows, IsPut}
+use Rattle.swift_syntax.specs.ReadersInside.{DeclaresAs, Extends, Grows, IsPut}
 
 pub get_more : {A : Type 0} (xs ys : List A) (p : ℕ) (x : A) → slice_get xs p ≡ Some x → slice_get (xs ++ ys) p ≡ Some x
 get_more xs ys p x e =
@@ -32,13 +33,35 @@ stands_more xs ys (tried {p = p} e a) = tried (get_more xs ys p _ e) (stands_mor
 stands_more xs ys (tried_optional {p = p} e a) = tried_optional (get_more xs ys p _ e) (stands_more xs ys a)
 
 pub grows_same : (r : Reader) → Grows r r
-grows_same r = record { refused = λ n. n; tokens = refl; more = []; exprs = sym (append-nil r.tree.value.exprs.items) }
+grows_same r = record { refused = λ n. n; text = refl; tokens = refl; declared = refl; stmts = refl; more = []; exprs = sym (append-nil r.tree.value.exprs.items) }
+
+declares_on : (a b c : Tree) → DeclaresAs b a → DeclaresAs c b → DeclaresAs c a
+declares_on a b c e f =
+    let as_c : Tree → Tree = λ t. record t { stmts = c.stmts; exprs = c.exprs; arguments = c.arguments } in
+    f ∙ ap as_c e
 
 pub grows_on : {r s t : Reader} → Grows r s → Grows s t → Grows r t
 grows_on {r} {s} {t} g h =
     record {
       refused = λ n. g.refused (h.refused n);
+      text = h.text ∙ g.text;
       tokens = h.tokens ∙ g.tokens;
+      declared = declares_on r.tree.value s.tree.value t.tree.value g.declared h.declared;
+      stmts = h.stmts ∙ g.stmts;
+      more = g.more ++ h.more;
+      exprs = h.exprs ∙ (ap (λ xs. xs ++ h.more) g.exprs ∙ append_assoc r.tree.value.exprs.items g.more h.more);
+    }
+
+pub extends_of : {r s : Reader} → Grows r s → Extends r s
+extends_of g = record { refused = g.refused; text = g.text; tokens = g.tokens; declared = g.declared; more = g.more; exprs = g.exprs }
+
+pub extends_on : {r s t : Reader} → Extends r s → Extends s t → Extends r t
+extends_on {r} {s} {t} g h =
+    record {
+      refused = λ n. g.refused (h.refused n);
+      text = h.text ∙ g.text;
+      tokens = h.tokens ∙ g.tokens;
+      declared = declares_on r.tree.value s.tree.value t.tree.value g.declared h.declared;
       more = g.more ++ h.more;
       exprs = h.exprs ∙ (ap (λ xs. xs ++ h.more) g.exprs ∙ append_assoc r.tree.value.exprs.items g.more h.more);
     }

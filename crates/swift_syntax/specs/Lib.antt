@@ -5,4 +5,5 @@ pub mod Fronts
 pub mod Lexes
 pub mod Places
 pub mod ReadersInside
+pub mod Statements
 pub mod Words

@@ -1,5 +1,10 @@
 //! Tasks, groups and bindings: what has a closure.
 
+ghost use Rattle.std.specs.Prelude.{◌≡◌, ◌↔◌, IfNone, IfSome, IsNone, IsTrue};
+ghost use Rattle.swift_syntax.specs.Expressions.{kind_at};
+ghost use Rattle.swift_syntax.specs.ReadersInside.{Adds, Grows, lexed_of};
+ghost use Rattle.swift_syntax.specs.Statements.{SpellsCovered, SpellsFront, SpellsGroup, SpellsHead, SpellsNames, SpellsPerhaps, SpellsPriority, closed_form, closed_token};
+
 use crate::expression::expression;
 use crate::reader::Reader;
 use crate::rule::Rule;
@@ -11,8 +16,6 @@ use crate::word::Word;
 /// What stands before a closure.
 #[derive(Clone, Copy)]
 pub(crate) enum HeadForm {
-    /// Nothing that has one.
-    None,
     /// `Task`, or `Task.detached` where the flag says so, with the token of a priority, or 0.
     Task(bool, usize),
     /// `NAME.addTask`, or `addTaskUnlessCancelled` where the flag says so, with the token of a priority, or 0.
@@ -45,14 +48,18 @@ pub(crate) struct Closure {
 }
 
 // Whether the token at a place is this keyword.
-fn is_key_at(reader: &Reader<'_>, place: usize, word: Word) -> bool {
+fn is_key_at(reader: &Reader<'_>, place: usize, word: Word) -> bool
+    ensures { IsTrue result ↔ (kind_at reader.now.tokens.now place ≡ TokenKind.Key word) }
+{
     match reader.token(place).kind {
         TokenKind::Key(found) => found == word,
         _ => false,
     }
 }
 
-fn is_sign_at(reader: &Reader<'_>, place: usize, sign: Sign) -> bool {
+fn is_sign_at(reader: &Reader<'_>, place: usize, sign: Sign) -> bool
+    ensures { IsTrue result ↔ (kind_at reader.now.tokens.now place ≡ TokenKind.Sign sign) }
+{
     match reader.token(place).kind {
         TokenKind::Sign(found) => found == sign,
         _ => false,
@@ -86,7 +93,10 @@ fn begins_add(reader: &Reader<'_>, place: usize) -> bool {
 }
 
 // Takes a priority in parentheses, if there is one. Its token, or 0.
-fn priority(reader: &mut Reader<'_>) -> usize {
+fn priority(reader: &mut Reader<'_>) -> usize
+    ensures spelled { IsNone reader.new.refused → SpellsPriority (lexed_of reader.new) reader.old.at reader.new.at result }
+    ensures grows { Grows reader.old reader.new }
+{
     if !reader.takes(Sign::Open) {
         return 0;
     }
@@ -98,110 +108,144 @@ fn priority(reader: &mut Reader<'_>) -> usize {
     place
 }
 
-fn task_head(reader: &mut Reader<'_>) -> HeadForm {
+fn task_head(reader: &mut Reader<'_>) -> HeadForm
+    ensures spelled { IsNone reader.new.refused → Adds reader.old reader.new (λ s. SpellsHead s reader.old.at reader.new.at result reader.old.at) }
+    ensures grows { Grows reader.old reader.new }
+{
     reader.word("Task");
-    let is_detached = reader.takes(Sign::Dot);
-    if is_detached {
+    if reader.takes(Sign::Dot) {
         reader.word("detached");
+        return HeadForm::Task(true, priority(reader));
     }
-    let priority = priority(reader);
-    HeadForm::Task(is_detached, priority)
+    HeadForm::Task(false, priority(reader))
 }
 
-fn add_head(reader: &mut Reader<'_>) -> HeadForm {
+fn add_head(reader: &mut Reader<'_>) -> HeadForm
+    ensures spelled { IsNone reader.new.refused → Adds reader.old reader.new (λ s. SpellsHead s reader.old.at reader.new.at result reader.old.at) }
+    ensures grows { Grows reader.old reader.new }
+{
     reader.name();
     reader.sign(Sign::Dot);
-    let only = reader.is_word("addTaskUnlessCancelled");
-    reader.name();
-    let priority = priority(reader);
-    HeadForm::Add(only, priority)
+    if reader.is_word("addTaskUnlessCancelled") {
+        reader.word("addTaskUnlessCancelled");
+        return HeadForm::Add(true, priority(reader));
+    }
+    reader.word("addTask");
+    HeadForm::Add(false, priority(reader))
 }
 
-// A type with `.self` behind it.
-fn type_itself(reader: &mut Reader<'_>) -> ValueType {
-    let found = reader.value_type();
-    reader.sign(Sign::Dot);
-    reader.key(Word::Own);
-    found
-}
-
-fn group_head(reader: &mut Reader<'_>) -> HeadForm {
-    let is_throwing = reader.is_word("withThrowingTaskGroup");
-    reader.name();
+// Takes the type of the results of a group, in parentheses.
+fn group_type(reader: &mut Reader<'_>) -> ValueType
+    ensures spelled { IsNone reader.new.refused → SpellsGroup (lexed_of reader.new) reader.old.at reader.new.at result }
+    ensures grows { Grows reader.old reader.new }
+{
     reader.sign(Sign::Open);
     reader.word("of");
     reader.sign(Sign::Colon);
-    let found = type_itself(reader);
-    if reader.takes(Sign::Comma) {
-        // Its type would have to be compared; Swift infers it.
-        reader.refuse(Rule::NotYet, reader.at);
-        reader.word("returning");
-        reader.sign(Sign::Colon);
-        type_itself(reader);
+    let found = reader.value_type();
+    reader.sign(Sign::Dot);
+    reader.key(Word::Own);
+    if reader.is_sign(Sign::Comma) {
+        // The type of its result would have to be compared; Swift infers it.
+        reader.refuse(Rule::NotYet, reader.at.saturating_add(1));
+        return found;
     }
     reader.sign(Sign::Close);
-    HeadForm::Group(found, is_throwing)
+    found
 }
 
-fn bind_head(reader: &mut Reader<'_>) -> HeadForm {
+fn group_head(reader: &mut Reader<'_>) -> HeadForm
+    ensures spelled { IsNone reader.new.refused → Adds reader.old reader.new (λ s. SpellsHead s reader.old.at reader.new.at result reader.old.at) }
+    ensures grows { Grows reader.old reader.new }
+{
+    if reader.is_word("withThrowingTaskGroup") {
+        reader.word("withThrowingTaskGroup");
+        return HeadForm::Group(group_type(reader), true);
+    }
+    reader.word("withTaskGroup");
+    HeadForm::Group(group_type(reader), false)
+}
+
+fn bind_head(reader: &mut Reader<'_>) -> (HeadForm, usize)
+    ensures spelled { IsNone reader.new.refused → Adds reader.old reader.new (λ s. SpellsHead s reader.old.at reader.new.at result.0 result.1) }
+    ensures grows { Grows reader.old reader.new }
+{
     let of = reader.name();
     reader.sign(Sign::Dot);
     reader.sign(Sign::Dollar);
-    reader.name();
+    let name = reader.name();
     reader.sign(Sign::Dot);
     reader.word("withValue");
     reader.sign(Sign::Open);
     let value = expression(reader);
     reader.sign(Sign::Close);
-    HeadForm::Bind(of, value)
+    (HeadForm::Bind(of, value), name)
 }
 
-// How many tokens of `try` and `await` stand at the front.
-fn covers(reader: &Reader<'_>) -> usize {
-    let first = reader.at;
-    let behind_try = if is_key_at(reader, first, Word::Try) {
-        first.saturating_add(1)
+// The place behind a place, where the token there is this keyword, and whether it is.
+fn behind(reader: &Reader<'_>, place: usize, word: Word) -> (usize, bool)
+    ensures { SpellsPerhaps (lexed_of reader.now) word place result.0 result.1 }
+{
+    if is_key_at(reader, place, word) {
+        (place.saturating_add(1), true)
     } else {
-        first
-    };
-    if is_key_at(reader, behind_try, Word::Await) {
-        behind_try.saturating_add(1)
-    } else {
-        behind_try
+        (place, false)
     }
+}
+
+// Whether a closure begins at a place, with what stands before it.
+fn begins_head(reader: &Reader<'_>, place: usize) -> bool {
+    begins_task(reader, place)
+        || begins_group(reader, place)
+        || begins_bind(reader, place)
+        || begins_add(reader, place)
+}
+
+// What stands before a closure, behind `try` and `await`, and its token.
+fn head_form(reader: &mut Reader<'_>) -> (HeadForm, usize)
+    ensures spelled { IsNone reader.new.refused → Adds reader.old reader.new (λ s. SpellsHead s reader.old.at reader.new.at result.0 result.1) }
+    ensures grows { Grows reader.old reader.new }
+{
+    let first = reader.at;
+    if begins_task(reader, first) {
+        return (task_head(reader), first);
+    }
+    if begins_group(reader, first) {
+        return (group_head(reader), first);
+    }
+    if begins_bind(reader, first) {
+        return bind_head(reader);
+    }
+    (add_head(reader), first)
 }
 
 /// What stands before a closure at the front, if anything does; it is taken then.
-pub(crate) fn head(reader: &mut Reader<'_>) -> ClosureHead {
-    let first = covers(reader);
-    let is_tried = reader.is_key(Word::Try);
-    let is_awaited = is_key_at(reader, first.saturating_sub(1), Word::Await) && first > reader.at;
-    let mut token = first;
-    let mut form = HeadForm::None;
-    if begins_task(reader, first) {
-        reader.at = first;
-        form = task_head(reader);
-    } else if begins_group(reader, first) {
-        reader.at = first;
-        form = group_head(reader);
-    } else if begins_bind(reader, first) {
-        reader.at = first;
-        token = first.saturating_add(3);
-        form = bind_head(reader);
-    } else if begins_add(reader, first) {
-        reader.at = first;
-        form = add_head(reader);
+pub(crate) fn head(reader: &mut Reader<'_>) -> Option<ClosureHead>
+    ensures spelled { IsNone reader.new.refused → IfSome result (λ h. Adds reader.old reader.new (λ s. SpellsCovered s reader.old.at reader.new.at h)) }
+    ensures same { IfNone result (reader.new ≡ reader.old) }
+    ensures grows { Grows reader.old reader.new }
+{
+    let at = reader.at;
+    let (place, is_tried) = behind(reader, at, Word::Try);
+    let (first, is_awaited) = behind(reader, place, Word::Await);
+    if !begins_head(reader, first) {
+        return None;
     }
-    ClosureHead {
+    reader.at = first;
+    let (form, token) = head_form(reader);
+    Some(ClosureHead {
         form,
         token,
         is_awaited,
         is_tried,
-    }
+    })
 }
 
 // The names in a closure's list, behind its bracket. The first one's place, or 0.
-fn captured(reader: &mut Reader<'_>) -> usize {
+fn captured(reader: &mut Reader<'_>) -> usize
+    ensures spelled { IsNone reader.new.refused → SpellsNames (lexed_of reader.new) reader.old.at reader.new.at }
+    ensures grows { Grows reader.old reader.new }
+{
     let mut first = 0;
     let mut last = 0;
     for _ in 0..reader.tokens.len() {
@@ -211,48 +255,54 @@ fn captured(reader: &mut Reader<'_>) -> usize {
             first = last;
         }
         if !reader.takes(Sign::Comma) {
-            break;
+            reader.sign(Sign::CloseBracket);
+            reader.key(Word::In);
+            return first;
         }
     }
-    reader.sign(Sign::CloseBracket);
-    reader.key(Word::In);
+    // Each turn takes a name, so the tokens end before the turns do.
+    reader.refuse(Rule::TooLarge, reader.at);
     first
 }
 
 /// What stands before the statements of a closure, with its brace. Its body is 0.
-pub(crate) fn closure_front(reader: &mut Reader<'_>) -> Closure {
-    let mut found = Closure {
-        captures: 0,
-        parameter: 0,
-        body: 0,
-    };
-    if reader.here().begins_line {
-        reader.refuse(Rule::NewStatement, reader.at);
-    }
+pub(crate) fn closure_front(reader: &mut Reader<'_>) -> Closure
+    ensures spelled { IsNone reader.new.refused → SpellsFront (lexed_of reader.new) reader.old.at reader.new.at result.parameter }
+    ensures grows { Grows reader.old reader.new }
+{
+    reader.on_line(Rule::NewStatement);
     reader.sign(Sign::OpenBrace);
     if reader.takes(Sign::OpenBracket) {
-        found.captures = captured(reader);
-        return found;
+        return opened(captured(reader), 0);
     }
     let next = reader.at.saturating_add(1);
     if is_key_at(reader, next, Word::In) {
-        found.parameter = reader.name();
+        let parameter = reader.name();
         reader.key(Word::In);
+        return opened(0, parameter);
     }
-    found
+    opened(0, 0)
+}
+
+// A closure without statements.
+fn opened(captures: usize, parameter: usize) -> Closure
+    ensures { result ≡ record { captures = captures; parameter = parameter; body = 0 } }
+{
+    Closure {
+        captures,
+        parameter,
+        body: 0,
+    }
 }
 
 /// The statement of a closure with what stands before it, and its token.
-pub(crate) fn closure_stmt(
-    head: ClosureHead,
-    into: Into,
-    closure: Closure,
-    token: usize,
-) -> (StmtForm, usize) {
+pub(crate) fn closure_stmt(head: ClosureHead, into: Into, closure: Closure) -> (StmtForm, usize)
+    ensures form { result.0 ≡ closed_form head.form into closure.captures closure.body }
+    ensures token { result.1 ≡ closed_token head.form head.token closure.parameter }
+{
     let body = closure.body;
     let captures = closure.captures;
     match head.form {
-        HeadForm::None => (StmtForm::Return, token),
         HeadForm::Task(is_detached, priority) => {
             let name = match into {
                 Into::Let(name, _) => name,

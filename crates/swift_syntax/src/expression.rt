@@ -2,7 +2,8 @@
 
 ghost use Rattle.std.specs.Prelude.{◌≡◌, ◌↔◌, ◌+◌, IsNone, IsSome, IsTrue, Some};
 ghost use Rattle.swift_syntax.specs.Expressions.{Reads, SpellsAtom, SpellsCalled, SpellsChoice, SpellsExpr, SpellsNamed, SpellsOperands, SpellsPrefixed, binary_of, both_form, kind_at, literal_of, opens_at, operator_in};
-ghost use Rattle.swift_syntax.specs.ReadersInside.{Grows, IsPut, taken, takes_if, tried_form};
+ghost use Rattle.swift_syntax.specs.Statements.{IsTest};
+ghost use Rattle.swift_syntax.specs.ReadersInside.{Adds, Grows, IsPut, taken, takes_if, tried_form};
 
 use crate::limits::DEPTH;
 use crate::reader::Reader;
@@ -448,7 +449,10 @@ pub(crate) fn expression(reader: &mut Reader<'_>) -> usize
 }
 
 /// What stands between `if`, `guard` or `while` and its block: expressions with commas between them. Its place.
-pub(crate) fn test(reader: &mut Reader<'_>) -> usize {
+pub(crate) fn test(reader: &mut Reader<'_>) -> usize
+    ensures spelled { IsNone reader.new.refused → Adds reader.old reader.new (λ s. IsTest s reader.old.at reader.new.at result) }
+    ensures grows { Grows reader.old reader.new }
+{
     let mut left = expression(reader);
     for _ in 0..reader.tokens.len() {
         if !reader.is_sign(Sign::Comma) {
@@ -458,11 +462,14 @@ pub(crate) fn test(reader: &mut Reader<'_>) -> usize {
         let right = expression(reader);
         left = reader.expr(ExprForm::Both(left, right), place);
     }
-    left
+    // Each turn takes a comma, so the tokens end before the turns do.
+    missing(reader, Rule::TooLarge)
 }
 
 /// The arguments behind a parenthesis that is taken. The first one's place, or 0.
-pub(crate) fn call_arguments(reader: &mut Reader<'_>) -> usize {
+pub(crate) fn call_arguments(reader: &mut Reader<'_>) -> usize
+    ensures grows { Grows reader.old reader.new }
+{
     arguments(reader, DEPTH)
 }
 

@@ -2,9 +2,10 @@
 //!
 //! After a refusal it stands at the end of the tokens, where nothing fits, so that what still runs ends soon.
 
-ghost use Rattle.std.specs.Prelude.{◌≡◌, ◌↔◌, true, IsNone, IsSome, IsTrue};
-ghost use Rattle.swift_syntax.specs.Expressions.{kind_at, token_at};
-ghost use Rattle.swift_syntax.specs.ReadersInside.{Grows, IsPut, taken, takes_if};
+ghost use Rattle.std.specs.Prelude.{◌≡◌, ◌↔◌, true, false, IsNone, IsSome, IsTrue};
+ghost use Rattle.swift_syntax.specs.Expressions.{after, kind_at, token_at};
+ghost use Rattle.swift_syntax.specs.ReadersInside.{Extends, Grows, IsLinked, IsPut, IsStmtPut, lexed_of, taken, takes_if};
+ghost use Rattle.swift_syntax.specs.Statements.{Separates, SpellsAnnotation, SpellsType, begins_line, spells_at};
 
 use crate::rule::{Breach, Rule};
 use crate::sign::Sign;
@@ -74,7 +75,9 @@ impl<'a> Reader<'a> {
     }
 
     /// The token behind the next ones.
-    pub(crate) fn ahead(&self, many: usize) -> Token {
+    pub(crate) fn ahead(&self, many: usize) -> Token
+        ensures kind { many ≡ 1 → result.kind ≡ kind_at self.now.tokens.now (after self.now.at) }
+    {
         self.token(self.at.saturating_add(many))
     }
 
@@ -136,7 +139,9 @@ impl<'a> Reader<'a> {
     }
 
     /// Whether the token behind the next ones is this sign.
-    pub(crate) fn is_sign_ahead(&self, many: usize, sign: Sign) -> bool {
+    pub(crate) fn is_sign_ahead(&self, many: usize, sign: Sign) -> bool
+        ensures { many ≡ 1 → IsTrue result ↔ (kind_at self.now.tokens.now (after self.now.at) ≡ TokenKind.Sign sign) }
+    {
         match self.ahead(many).kind {
             TokenKind::Sign(found) => found == sign,
             _ => false,
@@ -154,7 +159,9 @@ impl<'a> Reader<'a> {
     }
 
     /// Whether the token at a place is a name of these bytes.
-    pub(crate) fn spells(&self, place: usize, name: &str) -> bool {
+    pub(crate) fn spells(&self, place: usize, name: &str) -> bool
+        ensures { result ≡ spells_at self.now.text.now self.now.tokens.now place name.now }
+    {
         let token = self.token(place);
         match token.kind {
             TokenKind::Name => match self.text.get(token.from..token.to) {
@@ -166,7 +173,9 @@ impl<'a> Reader<'a> {
     }
 
     /// Whether the next token is a name of these bytes.
-    pub(crate) fn is_word(&self, name: &str) -> bool {
+    pub(crate) fn is_word(&self, name: &str) -> bool
+        ensures { result ≡ spells_at self.now.text.now self.now.tokens.now self.now.at name.now }
+    {
         self.spells(self.at, name)
     }
 
@@ -183,7 +192,10 @@ impl<'a> Reader<'a> {
     }
 
     /// Takes a keyword, if it is the next token.
-    pub(crate) fn takes_key(&mut self, word: Word) -> bool {
+    pub(crate) fn takes_key(&mut self, word: Word) -> bool
+        ensures found { IsTrue result ↔ (kind_at self.old.tokens.now self.old.at ≡ TokenKind.Key word) }
+        ensures taken { self.new ≡ takes_if result self.old }
+    {
         let found = self.is_key(word);
         if found {
             self.at = self.at.saturating_add(1);
@@ -192,7 +204,10 @@ impl<'a> Reader<'a> {
     }
 
     /// Takes a name of these bytes, if it is the next token.
-    pub(crate) fn takes_word(&mut self, name: &str) -> bool {
+    pub(crate) fn takes_word(&mut self, name: &str) -> bool
+        ensures found { result ≡ spells_at self.old.text.now self.old.tokens.now self.old.at name.now }
+        ensures taken { self.new ≡ takes_if result self.old }
+    {
         let found = self.is_word(name);
         if found {
             self.at = self.at.saturating_add(1);
@@ -211,16 +226,34 @@ impl<'a> Reader<'a> {
     }
 
     /// Takes this keyword.
-    pub(crate) fn key(&mut self, word: Word) {
+    pub(crate) fn key(&mut self, word: Word)
+        ensures taken { IsNone self.new.refused → (kind_at self.old.tokens.now self.old.at ≡ TokenKind.Key word) × (self.new ≡ taken self.old) }
+        ensures grows { Grows self.old self.new }
+    {
         if !self.takes_key(word) {
             self.unexpected();
         }
     }
 
     /// Takes a name of these bytes.
-    pub(crate) fn word(&mut self, name: &str) {
-        if !self.takes_word(name) {
+    pub(crate) fn word(&mut self, name: &str)
+        ensures taken { IsNone self.new.refused → (spells_at self.old.text.now self.old.tokens.now self.old.at name.now ≡ true) × (self.new ≡ taken self.old) }
+        ensures grows { Grows self.old self.new }
+    {
+        if !self.is_word(name) {
             self.unexpected();
+        }
+        self.name();
+    }
+
+    /// Wants the next token on the line of what stands before it.
+    pub(crate) fn on_line(&mut self, rule: Rule)
+        ensures same { IsNone self.new.refused → self.new ≡ self.old }
+        ensures line { IsNone self.new.refused → begins_line (lexed_of self.old) self.old.at ≡ false }
+        ensures grows { Grows self.old self.new }
+    {
+        if self.here().begins_line {
+            self.refuse(rule, self.at);
         }
     }
 
@@ -244,7 +277,10 @@ impl<'a> Reader<'a> {
     }
 
     /// Takes a type.
-    pub(crate) fn value_type(&mut self) -> ValueType {
+    pub(crate) fn value_type(&mut self) -> ValueType
+        ensures spelled { IsNone self.new.refused → SpellsType (lexed_of self.new) self.old.at self.new.at result }
+        ensures grows { Grows self.old self.new }
+    {
         if self.takes_word("Int") {
             return ValueType::Int;
         }
@@ -266,7 +302,10 @@ impl<'a> Reader<'a> {
     }
 
     /// A type behind a colon, if there is one.
-    pub(crate) fn annotation(&mut self) -> Option<ValueType> {
+    pub(crate) fn annotation(&mut self) -> Option<ValueType>
+        ensures spelled { IsNone self.new.refused → SpellsAnnotation (lexed_of self.new) self.old.at self.new.at result }
+        ensures grows { Grows self.old self.new }
+    {
         if self.takes(Sign::Colon) {
             Some(self.value_type())
         } else {
@@ -275,7 +314,10 @@ impl<'a> Reader<'a> {
     }
 
     /// Wants what separates statements and declarations: `;`, a new line, or the end of the block.
-    pub(crate) fn separator(&mut self) {
+    pub(crate) fn separator(&mut self)
+        ensures spelled { IsNone self.new.refused → Separates (lexed_of self.new) self.old.at self.new.at }
+        ensures grows { Grows self.old self.new }
+    {
         if self.takes(Sign::Semicolon) {
             return;
         }
@@ -327,7 +369,24 @@ impl<'a> Reader<'a> {
     }
 
     /// Puts a statement that ends here into its table. Its place.
-    pub(crate) fn stmt(&mut self, form: StmtForm, token: usize) -> usize {
+    pub(crate) fn stmt(&mut self, form: StmtForm, token: usize) -> usize
+        ensures put { IsNone self.new.refused → IsStmtPut self.old self.new (record { form = form; token = token; end = self.old.at; next = 0; is_awaited = false; is_tried = false }) result }
+        ensures extends { Extends self.old self.new }
+    {
+        self.closed_stmt(form, token, false, false)
+    }
+
+    /// Puts a statement that ends here into its table, with `await` and `try` before its closure where the flags say so. Its place.
+    pub(crate) fn closed_stmt(
+        &mut self,
+        form: StmtForm,
+        token: usize,
+        is_awaited: bool,
+        is_tried: bool,
+    ) -> usize
+        ensures put { IsNone self.new.refused → IsStmtPut self.old self.new (record { form = form; token = token; end = self.old.at; next = 0; is_awaited = is_awaited; is_tried = is_tried }) result }
+        ensures extends { Extends self.old self.new }
+    {
         let place = self.tree.stmts.len();
         let end = self.at;
         let grown = self
@@ -338,8 +397,8 @@ impl<'a> Reader<'a> {
                 token,
                 end,
                 next: 0,
-                is_awaited: false,
-                is_tried: false,
+                is_awaited,
+                is_tried,
             })
             .is_ok();
         self.note(grown);
@@ -347,7 +406,10 @@ impl<'a> Reader<'a> {
     }
 
     /// Puts a statement after another one of its block.
-    pub(crate) fn link(&mut self, last: usize, next: usize) {
+    pub(crate) fn link(&mut self, last: usize, next: usize)
+        ensures linked { IsLinked self.old self.new last next }
+        ensures extends { Extends self.old self.new }
+    {
         if let Some(before) = self.tree.stmts.get_mut(last) {
             before.next = next;
         }

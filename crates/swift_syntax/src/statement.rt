@@ -1,5 +1,11 @@
 //! Statements.
 
+ghost use Rattle.std.specs.Prelude.{◌≡◌, true, false, IfNone, IfSome, IsFalse, IsNone, IsSome, IsTrue, ℕ};
+ghost use Rattle.swift_syntax.specs.Expressions.{kind_at};
+ghost use Rattle.swift_syntax.specs.ReadersInside.{Adds, AddsStmt, Extends, Grows, IsBegun, IsStmtPut, lexed_of};
+ghost use Rattle.swift_syntax.specs.Statements.{SpellsBlock, SpellsDeclared, SpellsElse, SpellsInto, SpellsNext, SpellsRange, SpellsRest, SpellsTarget, assigning_in, begins_line, closed_form, closed_token, ends_return};
+ghost use Rattle.swift_syntax.specs.Statements as statements;
+
 use crate::closure::{Closure, ClosureHead, HeadForm, closure_front, closure_stmt, head};
 use crate::expression::{bound, expression, test};
 use crate::limits::BLOCKS;
@@ -7,11 +13,13 @@ use crate::reader::Reader;
 use crate::rule::Rule;
 use crate::sign::Sign;
 use crate::token::TokenKind;
-use crate::tree::{Assigning, Into, StmtForm};
+use crate::tree::{Assigning, Into, StmtForm, ValueType};
 use crate::word::Word;
 
 // How the sign at a place assigns, if it does.
-fn assigning(reader: &Reader<'_>, place: usize) -> Option<Assigning> {
+fn assigning(reader: &Reader<'_>, place: usize) -> Option<Assigning>
+    ensures { result ≡ assigning_in (kind_at reader.now.tokens.now place) }
+{
     match reader.token(place).kind {
         TokenKind::Sign(Sign::Assign) => Some(Assigning::Set),
         TokenKind::Sign(Sign::AddAssign) => Some(Assigning::Add),
@@ -22,14 +30,22 @@ fn assigning(reader: &Reader<'_>, place: usize) -> Option<Assigning> {
 }
 
 // Wants the same white space on both sides of the next token.
-fn want_even(reader: &mut Reader<'_>) {
+fn want_even(reader: &mut Reader<'_>)
+    ensures same { IsNone reader.new.refused → reader.new ≡ reader.old }
+    ensures grows { Grows reader.old reader.new }
+{
     if reader.here().after_space != reader.ahead(1).after_space {
         reader.refuse(Rule::Spaces, reader.at);
     }
 }
 
 // Refuses what is returned or thrown on another line. Whether something is returned.
-fn goes_on(reader: &mut Reader<'_>) -> bool {
+fn goes_on(reader: &mut Reader<'_>) -> bool
+    ensures same { IsNone reader.new.refused → reader.new ≡ reader.old }
+    ensures ends { IsNone reader.new.refused → IsFalse result → ends_return (kind_at reader.old.tokens.now reader.old.at) ≡ true }
+    ensures line { IsTrue result → begins_line (lexed_of reader.old) reader.old.at ≡ false }
+    ensures grows { Grows reader.old reader.new }
+{
     if reader.is_sign(Sign::CloseBrace) || reader.is_sign(Sign::Semicolon) {
         return false;
     }
@@ -40,16 +56,21 @@ fn goes_on(reader: &mut Reader<'_>) -> bool {
     true
 }
 
-fn throw_stmt(reader: &mut Reader<'_>) -> usize {
-    let token = reader.take();
-    if reader.here().begins_line {
-        reader.refuse(Rule::ReturnLine, reader.at);
-    }
+fn throw_stmt(reader: &mut Reader<'_>) -> usize
+    ensures spelled { IsNone reader.new.refused → IsBegun reader.old → AddsStmt reader.old reader.new reader.old.at result }
+    ensures extends { Extends reader.old reader.new }
+{
+    let token = reader.at;
+    reader.key(Word::Throw);
+    reader.on_line(Rule::ReturnLine);
     let value = expression(reader);
     reader.stmt(StmtForm::Throw(value), token)
 }
 
-fn async_let(reader: &mut Reader<'_>) -> usize {
+fn async_let(reader: &mut Reader<'_>) -> usize
+    ensures spelled { IsNone reader.new.refused → IsBegun reader.old → AddsStmt reader.old reader.new reader.old.at result }
+    ensures extends { Extends reader.old reader.new }
+{
     reader.key(Word::Async);
     reader.key(Word::Let);
     let name = reader.name();
@@ -61,7 +82,11 @@ fn async_let(reader: &mut Reader<'_>) -> usize {
 }
 
 // An assignment of a name, behind `self.` where the flag says so; or a toggle of it.
-fn changed(reader: &mut Reader<'_>, is_own: bool) -> Option<usize> {
+fn changed(reader: &mut Reader<'_>, is_own: bool) -> Option<usize>
+    ensures spelled { IsNone reader.new.refused → IfSome result (λ p. (i : ℕ) → SpellsTarget (lexed_of reader.old) i reader.old.at is_own → AddsStmt reader.old reader.new i p) }
+    ensures none { IfNone result (Grows reader.old reader.new) }
+    ensures extends { Extends reader.old reader.new }
+{
     let next = reader.at.saturating_add(1);
     if let Some(how) = assigning(reader, next) {
         let name = reader.name();
@@ -85,7 +110,10 @@ fn changed(reader: &mut Reader<'_>, is_own: bool) -> Option<usize> {
 }
 
 // Whether what is assigned has a closure: then nothing is taken of it.
-fn begins_closure(reader: &mut Reader<'_>) -> bool {
+fn begins_closure(reader: &mut Reader<'_>) -> bool
+    ensures back { IsNone reader.new.refused → reader.new.at ≡ reader.old.at }
+    ensures grows { Grows reader.old reader.new }
+{
     let at = reader.at;
     let found = head(reader);
     reader.at = if reader.refused.is_none() {
@@ -93,45 +121,69 @@ fn begins_closure(reader: &mut Reader<'_>) -> bool {
     } else {
         usize::MAX
     };
-    !matches!(found.form, HeadForm::None)
+    found.is_some()
 }
 
 // The head of a statement that begins with a name: where its value goes.
-fn into_of(reader: &mut Reader<'_>) -> Into {
+fn into_of(reader: &mut Reader<'_>) -> Into
+    ensures spelled { IsNone reader.new.refused → SpellsInto (lexed_of reader.new) reader.old.at reader.new.at result }
+    ensures grows { Grows reader.old reader.new }
+{
     if reader.is_word("_") && reader.is_sign_ahead(1, Sign::Assign) {
-        reader.take();
+        reader.word("_");
         want_even(reader);
-        reader.take();
+        reader.sign(Sign::Assign);
         return Into::Nothing;
     }
     if reader.is_sign_ahead(1, Sign::Assign) {
         let name = reader.name();
-        reader.take();
+        reader.sign(Sign::Assign);
         return Into::Assign(name);
     }
     Into::Nothing
 }
 
-// `let` or `var` up to its `=`.
-fn declared(reader: &mut Reader<'_>) -> Into {
-    let is_var = reader.is_key(Word::Var);
-    reader.take();
-    let name = reader.name();
-    let found = reader.annotation();
+// Refuses a name without a value.
+fn want_value(reader: &mut Reader<'_>, name: usize)
+    ensures same { IsNone reader.new.refused → reader.new ≡ reader.old }
+    ensures grows { Grows reader.old reader.new }
+{
     if !reader.is_sign(Sign::Assign) {
         reader.refuse(Rule::NotYet, name);
     }
+}
+
+// A name that is declared, perhaps with a type, up to its `=`.
+fn declared_name(reader: &mut Reader<'_>) -> (usize, Option<ValueType>)
+    ensures spelled { IsNone reader.new.refused → SpellsDeclared (lexed_of reader.new) reader.old.at reader.new.at result.0 result.1 }
+    ensures grows { Grows reader.old reader.new }
+{
+    let name = reader.name();
+    let found = reader.annotation();
+    want_value(reader, name);
     want_even(reader);
     reader.sign(Sign::Assign);
-    if is_var {
-        Into::Var(name, found)
-    } else {
-        Into::Let(name, found)
+    (name, found)
+}
+
+// `let` or `var` up to its `=`.
+fn declared(reader: &mut Reader<'_>) -> Into
+    ensures spelled { IsNone reader.new.refused → SpellsInto (lexed_of reader.new) reader.old.at reader.new.at result }
+    ensures grows { Grows reader.old reader.new }
+{
+    if reader.takes_key(Word::Var) {
+        let (name, found) = declared_name(reader);
+        return Into::Var(name, found);
     }
+    reader.key(Word::Let);
+    let (name, found) = declared_name(reader);
+    Into::Let(name, found)
 }
 
 // The token that a value is told by.
-fn token_of(into: Into, token: usize) -> usize {
+fn token_of(into: Into, token: usize) -> usize
+    ensures { result ≡ statements.token_of into token }
+{
     match into {
         Into::Let(name, _) | Into::Var(name, _) | Into::Assign(name) => name,
         Into::Nothing | Into::Return => token,
@@ -140,64 +192,79 @@ fn token_of(into: Into, token: usize) -> usize {
 
 // A value, which may have a closure, and where it goes.
 #[cycle(statement)]
-fn valued(reader: &mut Reader<'_>, blocks: u32, into: Into, token: usize) -> usize {
-    let head = head(reader);
-    if let HeadForm::None = head.form {
+fn valued(reader: &mut Reader<'_>, blocks: u32, into: Into, token: usize) -> usize
+    ensures spelled { IsNone reader.new.refused → IsBegun reader.old → SpellsInto (lexed_of reader.old) token reader.old.at into → AddsStmt reader.old reader.new token result }
+    ensures extends { Extends reader.old reader.new }
+{
+    let Some(head) = head(reader) else {
         let value = expression(reader);
         return reader.stmt(StmtForm::Value(into, value), token_of(into, token));
-    }
+    };
     let mut closure = closure_front(reader);
     closure.body = statements(reader, blocks);
-    finish(reader, head, into, closure, token)
+    finish(reader, head, into, closure)
 }
 
-fn finish(
-    reader: &mut Reader<'_>,
-    head: ClosureHead,
-    into: Into,
-    closure: Closure,
-    token: usize,
-) -> usize {
+fn finish(reader: &mut Reader<'_>, head: ClosureHead, into: Into, closure: Closure) -> usize
+    ensures put { IsNone reader.new.refused → IsStmtPut reader.old reader.new (record { form = closed_form head.form into closure.captures closure.body; token = closed_token head.form head.token closure.parameter; end = reader.old.at; next = 0; is_awaited = head.is_awaited; is_tried = head.is_tried }) result }
+    ensures extends { Extends reader.old reader.new }
+{
     let is_named = matches!(head.form, HeadForm::Group(..));
     if is_named != (closure.parameter != 0) {
         reader.refuse(Rule::Arguments, head.token);
     }
-    let (form, token) = closure_stmt(head, into, closure, token);
-    let place = reader.stmt(form, token);
-    if let Some(made) = reader.tree.stmts.get_mut(place) {
-        made.is_awaited = head.is_awaited;
-        made.is_tried = head.is_tried;
-    }
-    place
+    let (form, token) = closure_stmt(head, into, closure);
+    reader.closed_stmt(form, token, head.is_awaited, head.is_tried)
 }
 
-fn too_deep(reader: &mut Reader<'_>) -> usize {
+fn too_deep(reader: &mut Reader<'_>) -> usize
+    ensures noted { IsSome reader.new.refused }
+    ensures grows { Grows reader.old reader.new }
+{
     reader.refuse(Rule::TooLarge, reader.at);
     0
 }
 
 // An `if` with what may follow its `else`.
 #[cycle(statement)]
-fn conditional(reader: &mut Reader<'_>, blocks: u32) -> usize {
+fn conditional(reader: &mut Reader<'_>, blocks: u32) -> usize
+    ensures spelled { IsNone reader.new.refused → IsBegun reader.old → AddsStmt reader.old reader.new reader.old.at result }
+    ensures extends { Extends reader.old reader.new }
+{
     if blocks == 0 {
         return too_deep(reader);
     }
-    let token = reader.take();
+    let token = reader.at;
+    reader.key(Word::If);
     let test = test(reader);
     let held = block(reader, blocks);
-    let mut failed = 0;
-    if reader.takes_key(Word::Else) {
-        failed = if reader.is_key(Word::If) {
-            conditional(reader, blocks - 1)
-        } else {
-            block(reader, blocks)
-        };
-    }
+    let failed = otherwise(reader, blocks);
     reader.stmt(StmtForm::If(test, held, failed), token)
 }
 
+// An `else` with its block or its `if`, if there is one: the place of the first statement in it, or 0.
+#[cycle(statement)]
+fn otherwise(reader: &mut Reader<'_>, blocks: u32) -> usize
+    ensures spelled { IsNone reader.new.refused → IsBegun reader.old → Adds reader.old reader.new (λ s. SpellsElse s reader.old.at reader.new.at result) }
+    ensures extends { Extends reader.old reader.new }
+{
+    if !reader.takes_key(Word::Else) {
+        return 0;
+    }
+    if !reader.is_key(Word::If) {
+        return block(reader, blocks);
+    }
+    if blocks == 0 {
+        return too_deep(reader);
+    }
+    conditional(reader, blocks - 1)
+}
+
 // `while let NAME = await GROUP.next()`, behind its `while`. The tokens of the name and of the group, and whether it has `try`.
-fn next_of(reader: &mut Reader<'_>) -> (usize, usize, bool) {
+fn next_of(reader: &mut Reader<'_>) -> (usize, usize, bool)
+    ensures spelled { IsNone reader.new.refused → SpellsNext (lexed_of reader.new) reader.old.at reader.new.at result.0 result.1 result.2 }
+    ensures grows { Grows reader.old reader.new }
+{
     reader.key(Word::Let);
     let name = reader.name();
     reader.sign(Sign::Assign);
@@ -213,29 +280,33 @@ fn next_of(reader: &mut Reader<'_>) -> (usize, usize, bool) {
 
 // A `guard` or a `while`.
 #[cycle(statement)]
-fn tested(reader: &mut Reader<'_>, blocks: u32) -> usize {
-    let is_guard = reader.is_key(Word::Guard);
-    let token = reader.take();
-    if !is_guard && reader.is_key(Word::Let) {
+fn tested(reader: &mut Reader<'_>, blocks: u32) -> usize
+    ensures spelled { IsNone reader.new.refused → IsBegun reader.old → AddsStmt reader.old reader.new reader.old.at result }
+    ensures extends { Extends reader.old reader.new }
+{
+    let token = reader.at;
+    if reader.takes_key(Word::Guard) {
+        let test = test(reader);
+        reader.key(Word::Else);
+        let body = block(reader, blocks);
+        return reader.stmt(StmtForm::Guard(test, body), token);
+    }
+    reader.key(Word::While);
+    if reader.is_key(Word::Let) {
         let (name, group, is_tried) = next_of(reader);
         let body = block(reader, blocks);
         return reader.stmt(StmtForm::WhileNext(group, is_tried, body), name);
     }
     let test = test(reader);
-    if is_guard {
-        reader.key(Word::Else);
-    }
     let body = block(reader, blocks);
-    let form = if is_guard {
-        StmtForm::Guard(test, body)
-    } else {
-        StmtForm::While(test, body)
-    };
-    reader.stmt(form, token)
+    reader.stmt(StmtForm::While(test, body), token)
 }
 
 // Takes `..<` or `...`. Whether the end is taken too.
-fn range(reader: &mut Reader<'_>) -> bool {
+fn range(reader: &mut Reader<'_>) -> bool
+    ensures spelled { IsNone reader.new.refused → SpellsRange (lexed_of reader.new) reader.old.at reader.new.at result }
+    ensures grows { Grows reader.old reader.new }
+{
     want_even(reader);
     if reader.takes(Sign::Through) {
         return true;
@@ -246,17 +317,22 @@ fn range(reader: &mut Reader<'_>) -> bool {
 
 // A `for`.
 #[cycle(statement)]
-fn for_in(reader: &mut Reader<'_>, blocks: u32) -> usize {
-    reader.take();
-    let is_tried = reader.takes_key(Word::Try);
-    let is_awaited = reader.takes_key(Word::Await);
-    let name = reader.name();
-    reader.key(Word::In);
-    if is_awaited {
+fn for_in(reader: &mut Reader<'_>, blocks: u32) -> usize
+    ensures spelled { IsNone reader.new.refused → IsBegun reader.old → AddsStmt reader.old reader.new reader.old.at result }
+    ensures extends { Extends reader.old reader.new }
+{
+    reader.key(Word::For);
+    if reader.is_key(Word::Try) || reader.is_key(Word::Await) {
+        let is_tried = reader.takes_key(Word::Try);
+        reader.key(Word::Await);
+        let name = reader.name();
+        reader.key(Word::In);
         let group = reader.name();
         let body = block(reader, blocks);
         return reader.stmt(StmtForm::ForAwait(group, is_tried, body), name);
     }
+    let name = reader.name();
+    reader.key(Word::In);
     let from = bound(reader);
     let is_closed = range(reader);
     let to = bound(reader);
@@ -264,22 +340,52 @@ fn for_in(reader: &mut Reader<'_>, blocks: u32) -> usize {
     reader.stmt(StmtForm::For(from, to, is_closed, body), name)
 }
 
-// A `do` with its `catch`.
-#[cycle(statement)]
-fn do_catch(reader: &mut Reader<'_>, blocks: u32) -> usize {
-    let token = reader.take();
-    let body = block(reader, blocks);
-    reader.key(Word::Catch);
+// Refuses a pattern behind `catch`.
+fn want_no_pattern(reader: &mut Reader<'_>)
+    ensures same { IsNone reader.new.refused → reader.new ≡ reader.old }
+    ensures grows { Grows reader.old reader.new }
+{
     if !reader.is_sign(Sign::OpenBrace) {
         reader.refuse(Rule::CatchPattern, reader.at);
     }
+}
+
+// A `do` with its `catch`.
+#[cycle(statement)]
+fn do_catch(reader: &mut Reader<'_>, blocks: u32) -> usize
+    ensures spelled { IsNone reader.new.refused → IsBegun reader.old → AddsStmt reader.old reader.new reader.old.at result }
+    ensures extends { Extends reader.old reader.new }
+{
+    let token = reader.at;
+    reader.key(Word::Do);
+    let body = block(reader, blocks);
+    reader.key(Word::Catch);
+    want_no_pattern(reader);
     let caught = block(reader, blocks);
     reader.stmt(StmtForm::DoCatch(body, caught), token)
 }
 
+// A `return`, perhaps with a value.
+#[cycle(statement)]
+fn returned(reader: &mut Reader<'_>, blocks: u32) -> usize
+    ensures spelled { IsNone reader.new.refused → IsBegun reader.old → AddsStmt reader.old reader.new reader.old.at result }
+    ensures extends { Extends reader.old reader.new }
+{
+    let token = reader.at;
+    reader.key(Word::Return);
+    if goes_on(reader) {
+        valued(reader, blocks, Into::Return, token)
+    } else {
+        reader.stmt(StmtForm::Return, token)
+    }
+}
+
 // A statement. Its place.
 #[cycle(statement)]
-fn statement(reader: &mut Reader<'_>, blocks: u32) -> usize {
+fn statement(reader: &mut Reader<'_>, blocks: u32) -> usize
+    ensures spelled { IsNone reader.new.refused → IsBegun reader.old → AddsStmt reader.old reader.new reader.old.at result }
+    ensures extends { Extends reader.old reader.new }
+{
     let token = reader.at;
     match reader.here().kind {
         TokenKind::Key(Word::Let | Word::Var) => {
@@ -292,14 +398,7 @@ fn statement(reader: &mut Reader<'_>, blocks: u32) -> usize {
         TokenKind::Key(Word::Do) => do_catch(reader, blocks),
         TokenKind::Key(Word::Async) => async_let(reader),
         TokenKind::Key(Word::Throw) => throw_stmt(reader),
-        TokenKind::Key(Word::Return) => {
-            reader.take();
-            if goes_on(reader) {
-                valued(reader, blocks, Into::Return, token)
-            } else {
-                reader.stmt(StmtForm::Return, token)
-            }
-        }
+        TokenKind::Key(Word::Return) => returned(reader, blocks),
         _ => match simple(reader) {
             Some(place) => place,
             None => {
@@ -310,13 +409,28 @@ fn statement(reader: &mut Reader<'_>, blocks: u32) -> usize {
     }
 }
 
-// An assignment or a toggle of a field by `self`, or of a name, if one stands at the front.
-fn simple(reader: &mut Reader<'_>) -> Option<usize> {
-    let at = reader.at;
-    let is_own = reader.is_key(Word::Own) && reader.is_sign_ahead(1, Sign::Dot);
-    if is_own {
-        reader.at = at.saturating_add(2);
+// Takes the `self.` before a field that is assigned, if it stands at the front.
+fn target(reader: &mut Reader<'_>) -> bool
+    ensures spelled { SpellsTarget (lexed_of reader.new) reader.old.at reader.new.at result }
+    ensures grows { Grows reader.old reader.new }
+{
+    if reader.is_key(Word::Own) && reader.is_sign_ahead(1, Sign::Dot) {
+        reader.take();
+        reader.take();
+        return true;
     }
+    false
+}
+
+// An assignment or a toggle of a field by `self`, or of a name, if one stands at the front.
+fn simple(reader: &mut Reader<'_>) -> Option<usize>
+    ensures spelled { IsNone reader.new.refused → IfSome result (λ p. AddsStmt reader.old reader.new reader.old.at p) }
+    ensures none { IfNone result (Grows reader.old reader.new) }
+    ensures back { IsNone reader.new.refused → IfNone result (reader.new.at ≡ reader.old.at) }
+    ensures extends { Extends reader.old reader.new }
+{
+    let at = reader.at;
+    let is_own = target(reader);
     match changed_here(reader, is_own) {
         Some(place) => Some(place),
         None => {
@@ -330,7 +444,11 @@ fn simple(reader: &mut Reader<'_>) -> Option<usize> {
     }
 }
 
-fn changed_here(reader: &mut Reader<'_>, is_own: bool) -> Option<usize> {
+fn changed_here(reader: &mut Reader<'_>, is_own: bool) -> Option<usize>
+    ensures spelled { IsNone reader.new.refused → IfSome result (λ p. (i : ℕ) → SpellsTarget (lexed_of reader.old) i reader.old.at is_own → AddsStmt reader.old reader.new i p) }
+    ensures none { IfNone result (Grows reader.old reader.new) }
+    ensures extends { Extends reader.old reader.new }
+{
     if reader.is_word("_") {
         return None;
     }
@@ -342,7 +460,10 @@ fn changed_here(reader: &mut Reader<'_>, is_own: bool) -> Option<usize> {
 
 // The statements up to the closing brace, which is taken too. The first one's place, or 0.
 #[cycle(statement)]
-fn statements(reader: &mut Reader<'_>, blocks: u32) -> usize {
+fn statements(reader: &mut Reader<'_>, blocks: u32) -> usize
+    ensures spelled { IsNone reader.new.refused → IsBegun reader.old → Adds reader.old reader.new (λ s. SpellsRest s reader.old.at reader.new.at result) }
+    ensures extends { Extends reader.old reader.new }
+{
     if blocks == 0 {
         return too_deep(reader);
     }
@@ -369,12 +490,18 @@ fn statements(reader: &mut Reader<'_>, blocks: u32) -> usize {
 }
 
 #[cycle(statement)]
-fn block(reader: &mut Reader<'_>, blocks: u32) -> usize {
+fn block(reader: &mut Reader<'_>, blocks: u32) -> usize
+    ensures spelled { IsNone reader.new.refused → IsBegun reader.old → Adds reader.old reader.new (λ s. SpellsBlock s reader.old.at reader.new.at result) }
+    ensures extends { Extends reader.old reader.new }
+{
     reader.sign(Sign::OpenBrace);
     statements(reader, blocks)
 }
 
 /// A block. The place of its first statement, or 0.
-pub(crate) fn body(reader: &mut Reader<'_>) -> usize {
+pub(crate) fn body(reader: &mut Reader<'_>) -> usize
+    ensures spelled { IsNone reader.new.refused → IsBegun reader.old → Adds reader.old reader.new (λ s. SpellsBlock s reader.old.at reader.new.at result) }
+    ensures extends { Extends reader.old reader.new }
+{
     block(reader, BLOCKS)
 }

@@ -5,7 +5,10 @@ abbrev pub decreases-valued : goal.decreases-valued
 decreases-valued l = l.blocks * 8 + 1
 
 abbrev pub decreases-conditional : goal.decreases-conditional
-decreases-conditional l = l.blocks * 8 + 2
+decreases-conditional l = l.blocks * 8 + 3
+
+abbrev pub decreases-otherwise : goal.decreases-otherwise
+decreases-otherwise l = l.blocks * 8 + 2
 
 abbrev pub decreases-tested : goal.decreases-tested
 decreases-tested l = l.blocks * 8 + 2
@@ -15,6 +18,9 @@ decreases-for_in l = l.blocks * 8 + 2
 
 abbrev pub decreases-do_catch : goal.decreases-do_catch
 decreases-do_catch l = l.blocks * 8 + 2
+
+abbrev pub decreases-returned : goal.decreases-returned
+decreases-returned l = l.blocks * 8 + 2
 
 abbrev pub decreases-statement : goal.decreases-statement
 decreases-statement l = l.blocks * 8 + 7
