@@ -14,7 +14,7 @@ use Rattle.swift_expressions.specs.declared.code.Wait.{Wait}
 use Rattle.swift_expressions.specs.declared.operands.Operands.{Operands}
 use Rattle.swift_expressions.specs.declared.scope.Binding.{Binding}
 use Rattle.swift_expressions.specs.declared.typed.Typed.{Typed}
-use Rattle.swift_expressions.specs.Lowered.{Calls, CallsOwn, Grows, Hands, HandsIf, IsLeaf, Keeps, KeepsIf, Lowers, Names, Waits, checked, counted, counted_child, open_shortcut, slept, used, with_child_test, with_open_test, yielding}
+use Rattle.swift_expressions.specs.Lowered.{Calls, CallsOwn, Grows, Hands, HandsIf, IsLeaf, Keeps, KeepsIf, Lowers, Means, Names, Waits, checked, counted, counted_child, open_shortcut, slept, used, with_child_test, with_open_test, yielding}
 use Rattle.swift_expressions.specs.Lowered as lowered
 use Rattle.swift_expressions.specs.States.{Gives, State, covered, fault_of, is_fault, put, with_target, with_temporary, with_value}
 
@@ -105,13 +105,18 @@ names_grow : {s t : State} {found : Typed} → Names s t found → Grows s t
 names_grow (lowered.read is g) = gives_grow g
 names_grow {s} (lowered.field {kind = kind} instance field g) = waits_grow _ kind g
 names_grow {s} (lowered.task {b = b} place b2 at g) = on (yields b2 (uses place (stays s))) (waits_grow _ b.kind g)
-names_grow {s} (lowered.child {b = b} place at g e) = on (on (uses place (stays s)) (waits_grow _ b.kind g)) (to e (child_counts b (stays _)))
 
-leaf_grows : {s : State} {f : ExprForm} {t : State} {found : Typed} → IsLeaf s f t found → Grows s t
+means_grow : {s : State} {token : ℕ} {t : State} {found : Typed} → Means s token t found → Grows s t
+means_grow (lowered.a_value place is at holds g) = gives_grow g
+means_grow {s} (lowered.a_child {b = b} place is at child g e) = on (on (uses place (stays s)) (waits_grow _ b.kind g)) (to e (child_counts b (stays _)))
+means_grow (lowered.a_field place free is g) = gives_grow g
+means_grow (lowered.a_constant place number free none is g) = gives_grow g
+
+leaf_grows : {s : State} {token : ℕ} {f : ExprForm} {t : State} {found : Typed} → IsLeaf s token f t found → Grows s t
 leaf_grows (lowered.number g) = gives_grow g
 leaf_grows (lowered.truth g) = gives_grow g
 leaf_grows (lowered.priority g) = gives_grow g
-leaf_grows (lowered.name g) = names_grow g
+leaf_grows (lowered.name g) = means_grow g
 leaf_grows (lowered.own_member g) = names_grow g
 leaf_grows (lowered.member g) = names_grow g
 

@@ -3,3 +3,4 @@ pub mod Called
 pub mod Grown
 pub mod Stepped
 pub mod Waited
+pub mod Scoped

@@ -2,6 +2,7 @@
 use Rattle.std.proofs.Common.{◌≡◌, ◌<◌, ◌≤◌, ◌+◌, ◌-◌, ℕ, Bool, Some, length, pos, w64, to_z, of_z, arith, true, false, refl, sym, subst, ◌∙◌}
 use Rattle.std.specs.Int.{from_bool}
 use Rattle.swift_syntax.specs.declared.tree.Argument.{Argument}
+use Rattle.swift_syntax.specs.declared.tree.Expr.{Expr}
 use Rattle.swift_syntax.specs.declared.tree.ExprForm.{ExprForm}
 use Rattle.swift_syntax.specs.declared.tree.ExprForm.TheVariants as form
 use Rattle.swift_syntax.specs.declared.tree.Receiver.{Receiver}
@@ -68,8 +69,12 @@ call_lowered {s} {t = t} {u = u} {first = first} {given = given} {found = found}
     lowered.call what e (subst (λ b. HandsIf b s first t given) values (subst (λ x. HandsIf takes x first t given) same hands)) (subst (λ n. Calls t given n u found what) named calls)
 
 -- an expression without parts, by what it is
-pub leaf_by : {s t : State} {f g : ExprForm} {found : Typed} → f ≡ g → IsLeaf s f t found → IsLeaf s g t found
-leaf_by {s} {t} {found = found} e h = subst (λ x. IsLeaf s x t found) e h
+pub leaf_by : {s t : State} {token : ℕ} {f g : ExprForm} {found : Typed} → f ≡ g → IsLeaf s token f t found → IsLeaf s token g t found
+leaf_by {s} {t} {token} {found = found} e h = subst (λ x. IsLeaf s token x t found) e h
+
+-- a leaf as it was read from the tree
+pub leaf_read : {s t : State} {e x : Expr} {found : Typed} → x ≡ e → IsLeaf s x.token x.form t found → IsLeaf s e.token e.form t found
+leaf_read {s} {t} {found = found} e h = subst (λ (y : Expr). IsLeaf s y.token y.form t found) e h
 
 -- what is handed over, by whether there are values
 pub handed_where : {a b : Bool} {s t : State} {p : ℕ} {found : Operands} → a ≡ b → HandsIf a s p t found → HandsIf b s p t found

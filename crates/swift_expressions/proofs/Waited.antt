@@ -15,9 +15,11 @@ use Rattle.swift_expressions.specs.declared.code.Wait.TheVariants as waiting
 use Rattle.swift_expressions.specs.declared.lowering.Fallback.TheVariants as fallbacks
 use Rattle.swift_expressions.specs.declared.operands.Operands.{Operands}
 use Rattle.swift_expressions.specs.declared.scope.Binding.{Binding}
+use Rattle.swift_expressions.specs.declared.scope.Standing.TheVariants as standings
 use Rattle.swift_expressions.specs.declared.typed.Typed.{Typed}
 use Rattle.swift_expressions.specs.Lowered as lowered
-use Rattle.swift_expressions.specs.Lowered.{Calls, IsNamed, Names, Waits, child_test, close_next, counted, counted_child, used, with_child_test, yielding}
+use Rattle.swift_expressions.specs.Lowered.{Calls, IsNamed, Means, Names, Waits, child_test, close_next, counted, counted_child, used, with_child_test, yielding}
+use Rattle.swift_expressions.specs.Scopes.{IsInnermost}
 use Rattle.swift_expressions.specs.States.{Gives, State, next_variable, put, with_fallback, with_temporary}
 use Rattle.swift_expressions.proofs.Stepped.{given_as, given_from}
 
@@ -38,8 +40,8 @@ field_named instance field e h = lowered.field instance field (waits_from (waiti
 pub task_named : {s r q v t : State} (place : ℕ) {b : Binding} {found : Typed} → slice_get s.scope place ≡ Some b → r ≡ s → q ≡ used place r → (yields : Bool) × (v ≡ yielding yields q) → Waits v (waiting.Task b.variable) b.kind t found → Names s t found
 task_named place {b} at e is y h = lowered.task place y.0 at (waits_from (waiting.Task b.variable) (y.1 ∙ ap (yielding y.0) (is ∙ ap (used place) e)) h)
 
-pub child_named : {s r q u t : State} (place : ℕ) {b : Binding} {found : Typed} → slice_get s.scope place ≡ Some b → r ≡ s → q ≡ used place r → Waits q (waiting.Next b.variable) b.kind u found → t ≡ counted_child b u → Names s t found
-child_named place {b} at e is h counts = lowered.child place at (waits_from (waiting.Next b.variable) (is ∙ ap (used place) e) h) counts
+pub child_meant : {s r q u t : State} {token : ℕ} (place : ℕ) {b : Binding} {found : Typed} → IsInnermost s token place → slice_get s.scope place ≡ Some b → b.standing ≡ standings.Child → r ≡ s → q ≡ used place r → Waits q (waiting.Next b.variable) b.kind u found → t ≡ counted_child b u → Means s token t found
+child_meant place {b} is_innermost at is_child e is h counts = lowered.a_child place is_innermost at is_child (waits_from (waiting.Next b.variable) (is ∙ ap (used place) e) h) counts
 
 -- `group.next()`
 pub next_called : {s r s1 s2 s3 s4 s5 s6 s7 s8 s9 s10 t : State} {place v variable test at : ℕ} {b : Binding} {given : Operands} {one found : Typed} → slice_get s.scope place ≡ Some b → r ≡ s → r.fallback ≡ fallbacks.Nil v → s1 ≡ with_fallback fallbacks.None r → s2 ≡ with_temporary s1 → variable ≡ next_variable s1 → s3 ≡ put (instruction.Let variable v) s2 → s4 ≡ with_child_test b.count s3 → test ≡ child_test b.count s3 → s5 ≡ put (instruction.If test) s4 → Waits s5 (waiting.Next b.variable) b.kind s6 one → s7 ≡ counted operators.Minus b.count s6 → s8 ≡ put (instruction.Set variable one.value) s7 → s9 ≡ put instruction.End s8 → s10 ≡ used place s9 → Gives s10 (value.Variable variable) b.kind t found → Calls s given at t found (callees.Next place)

@@ -2,3 +2,5 @@
 pub mod Instructions
 pub mod Lowered
 pub mod States
+-- What the spelling of a name stands for.
+pub mod Scopes

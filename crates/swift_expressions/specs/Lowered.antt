@@ -28,7 +28,10 @@ use Rattle.swift_expressions.specs.declared.lowering.Fallback.{Fallback}
 use Rattle.swift_expressions.specs.declared.lowering.Fallback.TheVariants as fallbacks
 use Rattle.swift_expressions.specs.declared.operands.Operands.{Operands}
 use Rattle.swift_expressions.specs.declared.scope.Binding.{Binding}
+use Rattle.swift_expressions.specs.declared.scope.Standing.{Standing}
+use Rattle.swift_expressions.specs.declared.scope.Standing.TheVariants as standings
 use Rattle.swift_expressions.specs.declared.typed.Typed.{Typed}
+use Rattle.swift_expressions.specs.Scopes.{IsConstantAt, IsFieldAt, IsFirst, IsFree, IsInnermost}
 use Rattle.swift_expressions.specs.States.{Gives, State, argument_at, covered, expr_at, fault_of, form_at, is_fault, next_value, next_variable, put, result_of, target_of, value_in, waited, with_fallback, with_operand, with_target, with_temporary, with_value}
 
 -- whether an expression does something, by what it is; of its parts by themselves
@@ -219,6 +222,14 @@ yielding false s = s
 abbrev pub counted_child : Binding → State → State
 counted_child b s = if b.count == b.variable then s else counted operators.Minus b.count s
 
+-- whether what a name in scope stands for is a value
+abbrev pub holds_value : Standing → Bool
+holds_value standings.Constant = true
+holds_value standings.Variable = true
+holds_value standings.Task = false
+holds_value standings.Group = false
+holds_value standings.Child = false
+
 -- A name stands for a value that is read there and then, and needs no operation.
 abbrev pub IsNamed : Value → Type 0
 IsNamed (value.Number n) = Unit {0}
@@ -232,27 +243,34 @@ IsNamed (value.Negate v) = ⊥
 IsNamed (value.Not v) = ⊥
 IsNamed (value.Binary o l r) = ⊥
 
--- What a name becomes: a value; a wait for the field of another actor, for a task, or for the child of an `async let`. For which one is not
--- said here.
+-- What a member becomes: a value; a wait for the field of another actor, or for a task. For which one is not said here.
 pub data Names (s t : State) (found : Typed) : Type 0 where
   read : {v : Value} {kind : Kind} → IsNamed v → Gives s v kind t found → Names s t found
   field : {kind : Kind} (instance field : ℕ) → Waits s (waiting.Getter instance field) kind t found → Names s t found
   task : {b : Binding} (place : ℕ) (yields : Bool) → slice_get s.scope place ≡ Some b → Waits (yielding yields (used place s)) (waiting.Task b.variable) b.kind t found → Names s t found
-  child : {b : Binding} {u : State} (place : ℕ) → slice_get s.scope place ≡ Some b → Waits (used place s) (waiting.Next b.variable) b.kind u found → t ≡ counted_child b u → Names s t found
+
+-- What a name becomes that stands alone. It means the innermost name in scope of its spelling: a value, or the child of an `async let`, which
+-- is waited for. Where there is none it means the field of the own actor of that spelling; where that has none, a global constant, and
+-- is a number then. Which number is not said.
+pub data Means (s : State) (token : ℕ) (t : State) (found : Typed) : Type 0 where
+  a_value : {b : Binding} (place : ℕ) → IsInnermost s token place → slice_get s.scope place ≡ Some b → holds_value b.standing ≡ true → Gives s (value.Variable b.variable) b.kind t found → Means s token t found
+  a_child : {b : Binding} {u : State} (place : ℕ) → IsInnermost s token place → slice_get s.scope place ≡ Some b → b.standing ≡ standings.Child → Waits (used place s) (waiting.Next b.variable) b.kind u found → t ≡ counted_child b u → Means s token t found
+  a_field : {kind : Kind} (place : ℕ) → IsFree s token → IsFirst (IsFieldAt s s.actor token) place → Gives s (value.Field place) kind t found → Means s token t found
+  a_constant : {kind : Kind} (place : ℕ) (number : ℤ) → IsFree s token → ((field : ℕ) → IsFieldAt s s.actor token field → ⊥) → IsFirst (IsConstantAt s token) place → Gives s (value.Number number) kind t found → Means s token t found
 
 -- the number of a truth value
 abbrev pub number_of : Bool → ℤ
 number_of true = pos 1
 number_of false = pos 0
 
--- What an expression without parts becomes.
-pub data IsLeaf (s : State) : ExprForm → State → Typed → Type 0 where
-  number : {n : ℤ} {t : State} {found : Typed} → Gives s (value.Number n) kinds.Int t found → IsLeaf s (form.Number n) t found
-  truth : {b : Bool} {t : State} {found : Typed} → Gives s (value.Number (number_of b)) kinds.Bool t found → IsLeaf s (form.Truth b) t found
-  priority : {n : ℤ} {t : State} {found : Typed} → Gives s (value.Number n) kinds.Urgency t found → IsLeaf s form.Case t found
-  name : {t : State} {found : Typed} → Names s t found → IsLeaf s form.Name t found
-  own_member : {t : State} {found : Typed} → Names s t found → IsLeaf s form.OwnMember t found
-  member : {of : ℕ} {t : State} {found : Typed} → Names s t found → IsLeaf s (form.Member of) t found
+-- What an expression without parts becomes, which stands at a token.
+pub data IsLeaf (s : State) (token : ℕ) : ExprForm → State → Typed → Type 0 where
+  number : {n : ℤ} {t : State} {found : Typed} → Gives s (value.Number n) kinds.Int t found → IsLeaf s token (form.Number n) t found
+  truth : {b : Bool} {t : State} {found : Typed} → Gives s (value.Number (number_of b)) kinds.Bool t found → IsLeaf s token (form.Truth b) t found
+  priority : {n : ℤ} {t : State} {found : Typed} → Gives s (value.Number n) kinds.Urgency t found → IsLeaf s token form.Case t found
+  name : {t : State} {found : Typed} → Means s token t found → IsLeaf s token form.Name t found
+  own_member : {t : State} {found : Typed} → Names s t found → IsLeaf s token form.OwnMember t found
+  member : {of : ℕ} {t : State} {found : Typed} → Names s t found → IsLeaf s token (form.Member of) t found
 
 -- `Task.sleep`: a turn ends, and a cancelled task ends with a fault, unless a `try?` covers it
 abbrev pub slept : State → State
@@ -306,7 +324,7 @@ takes_values (callees.Cancel variable) = false
 mutual
   -- What the expression at a place becomes. A call: which method it names is not said here.
   pub data Lowers : State → ℕ → State → Typed → Type 0 where
-    leaf : {s t : State} {p : ℕ} {found : Typed} → IsLeaf s (form_at s p) t found → Lowers s p t found
+    leaf : {s t : State} {p : ℕ} {found : Typed} → IsLeaf s (expr_at s p).token (form_at s p) t found → Lowers s p t found
     call : {s t u : State} {p : ℕ} {receiver : Receiver} {first : ℕ} {given : Operands} {found : Typed} (what : Called) → form_at s p ≡ form.Call receiver first → HandsIf (takes_values what) s first t given → Calls t given (expr_at s p).token u found what → Lowers s p u found
     negated : {s t u : State} {p q : ℕ} {inner found : Typed} → form_at s p ≡ form.Negate q → Lowers s q t inner → Gives t (value.Negate inner.value) kinds.Int u found → Lowers s p u found
     inverted : {s t u : State} {p q : ℕ} {inner found : Typed} → form_at s p ≡ form.Not q → Lowers s q t inner → Gives t (value.Not inner.value) kinds.Bool u found → Lowers s p u found

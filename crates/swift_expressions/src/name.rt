@@ -2,7 +2,8 @@
 
 ghost use Rattle.std.specs.Prelude.{◌≡◌, IsNone};
 ghost use Rattle.swift_expressions.specs.Instructions.{KeepsRefusal};
-ghost use Rattle.swift_expressions.specs.Lowered.{Names};
+ghost use Rattle.swift_expressions.specs.Lowered.{Means, Names};
+ghost use Rattle.swift_expressions.specs.Scopes.{IsFree};
 ghost use Rattle.swift_expressions.specs.States.{Becomes, state_of};
 
 use crate::code::{Kind, Value};
@@ -36,7 +37,7 @@ pub fn field_kind(lowering: &mut Lowering<'_>, field: usize) -> Kind
 
 // A name that stands in no scope.
 fn global_name(lowering: &mut Lowering<'_>, token: usize) -> Typed
-    ensures names { IsNone lowering.new.refused → Names (state_of lowering.old) (state_of lowering.new) result }
+    ensures means { IsFree (state_of lowering.old) token → IsNone lowering.new.refused → Means (state_of lowering.old) token (state_of lowering.new) result }
     ensures refused { KeepsRefusal lowering.old lowering.new }
 {
     let actor = lowering.setting.actor;
@@ -58,7 +59,7 @@ fn global_name(lowering: &mut Lowering<'_>, token: usize) -> Typed
 
 /// A name.
 pub(crate) fn name(lowering: &mut Lowering<'_>, token: usize) -> Typed
-    ensures names { IsNone lowering.new.refused → Names (state_of lowering.old) (state_of lowering.new) result }
+    ensures means { IsNone lowering.new.refused → Means (state_of lowering.old) token (state_of lowering.new) result }
     ensures refused { KeepsRefusal lowering.old lowering.new }
 {
     if lowering.spells(token, "_") {

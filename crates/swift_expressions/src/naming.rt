@@ -1,7 +1,8 @@
 //! Names.
 
-ghost use Rattle.std.specs.Prelude.{◌≡◌, slice_get};
+ghost use Rattle.std.specs.Prelude.{◌≡◌, ◌↔◌, ℕ, IfNone, IfSome, IsTrue, slice_get};
 ghost use Rattle.swift_expressions.specs.Instructions.{KeepsRefusal};
+ghost use Rattle.swift_expressions.specs.Scopes.{IsConstantAt, IsFieldAt, IsFirst};
 ghost use Rattle.swift_expressions.specs.States.{Becomes, state_of};
 
 use crate::code::NONE;
@@ -30,13 +31,27 @@ fn declared_in(lowering: &Lowering<'_>, actor: usize, token: usize) -> Option<us
         .position(|m| m.actor == actor && lowering.are_same(m.name, token))
 }
 
-/// The place of the field of an actor with the bytes of a token.
-pub fn field_named(lowering: &Lowering<'_>, actor: usize, token: usize) -> Option<usize> {
-    lowering
-        .tree
-        .fields
-        .iter()
-        .position(|f| f.actor == actor && lowering.are_same(f.name, token))
+// Whether a field of an actor stands at a place, and has the bytes of a token.
+fn is_field_at(lowering: &Lowering<'_>, actor: usize, token: usize, place: usize) -> bool
+    ensures { IsTrue result ↔ IsFieldAt (state_of lowering.now) actor token place }
+{
+    match field_at(lowering, place) {
+        Some(field) => field.actor == actor && lowering.are_same(field.name, token),
+        None => false,
+    }
+}
+
+/// The place of the field of an actor with the bytes of a token: of such ones the first.
+pub fn field_named(lowering: &Lowering<'_>, actor: usize, token: usize) -> Option<usize>
+    ensures found { IfSome result (IsFirst (IsFieldAt (state_of lowering.now) actor token)) }
+    ensures none { IfNone result ((place : ℕ) → IsFieldAt (state_of lowering.now) actor token place → ⊥) }
+{
+    for place in 0..lowering.tree.fields.len() {
+        if is_field_at(lowering, actor, token, place) {
+            return Some(place);
+        }
+    }
+    None
 }
 
 /// The place of the instance with the bytes of a token.
@@ -48,13 +63,27 @@ pub fn instance_named(lowering: &Lowering<'_>, token: usize) -> Option<usize> {
         .position(|i| lowering.are_same(i.name, token))
 }
 
-/// The place of the constant with the bytes of a token.
-pub fn constant_named(lowering: &Lowering<'_>, token: usize) -> Option<usize> {
-    lowering
-        .tree
-        .constants
-        .iter()
-        .position(|c| lowering.are_same(c.name, token))
+// Whether a global constant stands at a place, and has the bytes of a token.
+fn is_constant_at(lowering: &Lowering<'_>, token: usize, place: usize) -> bool
+    ensures { IsTrue result ↔ IsConstantAt (state_of lowering.now) token place }
+{
+    match lowering.tree.constants.get(place) {
+        Some(constant) => lowering.are_same(constant.name, token),
+        None => false,
+    }
+}
+
+/// The place of the constant with the bytes of a token: of such ones the first.
+pub fn constant_named(lowering: &Lowering<'_>, token: usize) -> Option<usize>
+    ensures found { IfSome result (IsFirst (IsConstantAt (state_of lowering.now) token)) }
+    ensures none { IfNone result ((place : ℕ) → IsConstantAt (state_of lowering.now) token place → ⊥) }
+{
+    for place in 0..lowering.tree.constants.len() {
+        if is_constant_at(lowering, token, place) {
+            return Some(place);
+        }
+    }
+    None
 }
 
 /// The place of the task local of an enum, each with the bytes of a token.
@@ -140,7 +169,9 @@ pub fn method_at(lowering: &Lowering<'_>, place: usize) -> Option<MethodDecl>
 }
 
 /// The field at a place.
-pub fn field_at(lowering: &Lowering<'_>, place: usize) -> Option<FieldDecl> {
+pub fn field_at(lowering: &Lowering<'_>, place: usize) -> Option<FieldDecl>
+    ensures { result ≡ slice_get lowering.now.tree.now.value.fields.items place }
+{
     lowering.tree.fields.get(place).copied()
 }
 

@@ -1,8 +1,9 @@
 //! What stands in scope.
 
-ghost use Rattle.std.specs.Prelude.{◌≡◌, IsNone, slice_get};
+ghost use Rattle.std.specs.Prelude.{◌≡◌, ◌↔◌, ℕ, IfNone, IfSome, IsNone, IsTrue, Some, slice_get};
 ghost use Rattle.swift_expressions.specs.Instructions.{IsBound, KeepsRefusal};
 ghost use Rattle.swift_expressions.specs.Lowered.{used};
+ghost use Rattle.swift_expressions.specs.Scopes.{IsFree, IsInnermost, IsNamedAt};
 ghost use Rattle.swift_expressions.specs.States.{Becomes, Binds, left_to, standing_of, state_of, with_partial};
 
 use crate::code::Kind;
@@ -48,11 +49,27 @@ pub struct Binding {
     pub is_partial: bool,
 }
 
-/// The place of the innermost name in scope with the bytes of a token.
-pub fn find(lowering: &Lowering<'_>, token: usize) -> Option<usize> {
+// Whether a name that is seen in scope stands at a place, and has the bytes of a token.
+fn is_named_at(lowering: &Lowering<'_>, token: usize, place: usize) -> bool
+    ensures { IsTrue result ↔ IsNamedAt (state_of lowering.now) token place }
+{
+    if place < lowering.setting.boundary {
+        return false;
+    }
+    match lowering.scope.get(place) {
+        Some(binding) => lowering.are_same(binding.token, token),
+        None => false,
+    }
+}
+
+/// The place of the innermost name in scope with the bytes of a token: of the names that are seen there, the one that came last.
+pub fn find(lowering: &Lowering<'_>, token: usize) -> Option<usize>
+    ensures found { IfSome result (IsInnermost (state_of lowering.now) token) }
+    ensures none { IfNone result (IsFree (state_of lowering.now) token) }
+{
     let mut found = None;
-    for (place, binding) in lowering.scope.iter().enumerate() {
-        if place >= lowering.setting.boundary && lowering.are_same(binding.token, token) {
+    for place in 0..lowering.scope.len() {
+        if is_named_at(lowering, token, place) {
             found = Some(place);
         }
     }
@@ -67,7 +84,10 @@ pub fn binding_at(lowering: &Lowering<'_>, place: usize) -> Option<Binding>
 }
 
 /// The innermost name in scope with the bytes of a token.
-pub fn standing_at(lowering: &Lowering<'_>, token: usize) -> Option<Binding> {
+pub fn standing_at(lowering: &Lowering<'_>, token: usize) -> Option<Binding>
+    ensures found { IfSome result (λ b. (place : ℕ) × IsInnermost (state_of lowering.now) token place × (slice_get lowering.now.scope.items place ≡ Some b)) }
+    ensures none { IfNone result (IsFree (state_of lowering.now) token) }
+{
     match find(lowering, token) {
         Some(place) => binding_at(lowering, place),
         None => None,

@@ -378,7 +378,7 @@ fn given_operands(
 
 // An expression without parts.
 fn leaf(lowering: &mut Lowering<'_>, form: ExprForm, token: usize) -> Typed
-    ensures leaf { IsNone lowering.new.refused → IsLeaf (state_of lowering.old) form (state_of lowering.new) result }
+    ensures leaf { IsNone lowering.new.refused → IsLeaf (state_of lowering.old) token form (state_of lowering.new) result }
     ensures refused { KeepsRefusal lowering.old lowering.new }
 {
     match form {

@@ -2,7 +2,8 @@
 
 ghost use Rattle.std.specs.Prelude.{◌≡◌, ℕ, Bool, IsNone, Some, slice_get};
 ghost use Rattle.swift_expressions.specs.Instructions.{IsHoisted, KeepsRefusal};
-ghost use Rattle.swift_expressions.specs.Lowered.{Calls, Names, Waits, child_test, counted, counted_child, with_child_test, yielding};
+ghost use Rattle.swift_expressions.specs.Lowered.{Calls, Means, Names, Waits, child_test, counted, counted_child, with_child_test, yielding};
+ghost use Rattle.swift_expressions.specs.Scopes.{IsInnermost};
 ghost use Rattle.swift_expressions.specs.States.{Becomes, state_of};
 ghost use Rattle.swift_expressions.specs.declared.call.Called.TheVariants as callees;
 ghost use Rattle.swift_expressions.specs.declared.operands.Operands.{Operands};
@@ -165,7 +166,7 @@ pub(crate) fn next_child(
     token: usize,
 ) -> Typed
     requires { slice_get lowering.old.scope.items place ≡ Some found }
-    ensures names { IsNone lowering.new.refused → Names (state_of lowering.old) (state_of lowering.new) result }
+    ensures means { IsInnermost (state_of lowering.old) token place → found.standing ≡ Standing.Child → IsNone lowering.new.refused → Means (state_of lowering.old) token (state_of lowering.new) result }
     ensures refused { KeepsRefusal lowering.old lowering.new }
 {
     want_await(lowering, token);

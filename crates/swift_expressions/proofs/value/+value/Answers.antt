@@ -4,7 +4,7 @@ use Rattle.swift_expressions.specs.declared.code.Kind.TheVariants as kinds
 use Rattle.swift_expressions.specs.Lowered as lowered
 use Rattle.swift_expressions.specs.Lowered.{close_shortcut, open_shortcut, open_choice, turn_choice}
 use Rattle.swift_expressions.specs.States.{State, covered, next_value, next_variable, state_of}
-use Rattle.swift_expressions.proofs.Stepped.{call_lowered, choice_given, given_from, given_kind, handed_nothing, handed_where, hands_all, hands_none, hands_on, kept_where, leaf_by, lowered_from, lowered_to, otherwise_lowered}
+use Rattle.swift_expressions.proofs.Stepped.{call_lowered, choice_given, given_from, given_kind, handed_nothing, handed_where, hands_all, hands_none, hands_on, kept_where, leaf_read, lowered_from, lowered_to, otherwise_lowered}
 use Rattle.swift_expressions.proofs.value.+value.Goals as goal
 
 pub negated-returns-clause-negated : goal.negated-returns-clause-negated
@@ -129,4 +129,4 @@ value-returns-in-Call-clause-lowers t c = λ n3.
     (c.method_of-method.ensures.state n1) c.method_of-method.ensures.values (c.given_operands-given.ensures.hands n2) (c.call.ensures.calls (c.method_of-method.ensures.known n1) n3)
 
 pub value-returns-in_default-clause-lowers : goal.value-returns-in_default-clause-lowers
-value-returns-in_default-clause-lowers t c = λ n. lowered.leaf (leaf_by (ap (λ (x : Expr). x.form) c.expr-form.ensures) (c.leaf.ensures.leaf n))
+value-returns-in_default-clause-lowers t c = λ n. lowered.leaf (leaf_read c.expr-form.ensures (c.leaf.ensures.leaf n))

@@ -13,7 +13,7 @@ pub returns-in-Truth-clause-leaf : goal.returns-in-Truth-clause-leaf
 returns-in-Truth-clause-leaf c = λ n. leaf_by (sym c.in-Truth.is) (lowered.truth (given_as (ap value.Number (ap (λ z. to_z w64 (of_z w64 z)) c.from.ensures ∙ number_of_truth c.in-Truth.truth)) (c.with_kind-in-Truth.ensures.gives n)))
 
 pub returns-in-Name-clause-leaf : goal.returns-in-Name-clause-leaf
-returns-in-Name-clause-leaf c = λ n. leaf_by (sym c.in-Name.is) (lowered.name (c.name.ensures.names n))
+returns-in-Name-clause-leaf c = λ n. leaf_by (sym c.in-Name.is) (lowered.name (c.name.ensures.means n))
 
 pub returns-in-OwnMember-clause-leaf : goal.returns-in-OwnMember-clause-leaf
 returns-in-OwnMember-clause-leaf c = λ n. leaf_by (sym c.in-OwnMember.is) (lowered.own_member (c.own_field.ensures.names n))
