@@ -1,5 +1,5 @@
 -- An exploration has the outcome of each legal report.
-use Rattle.swift_digest.proofs.Prelude.{◌≡◌, ℕ, ◌+◌, ◌<◌, List, [], ◌∷◌, ◌++◌, refl, sym, ◌∙◌, ap, subst, arith, append_assoc, append-nil, Option, Some, None, is_some, ◌==◌, Contains, cons_option, cond-true, eq-eqb, Life, life_of, tasks_of, ScriptView, root_count, executor_count, method_actor, actor_executor, FoldedView, CheckpointView, Block, added, begun, ran, folded, folded_in, folded_of, at_first, after_blocks, Stands, AllStand, ReportView, IsLegal, LeadAlike, IsLike, FramePlan, JobPlan, plan_of, frame_plans, job_plan, FrameView, option_map, Digest, is_begun, JobFacts}
+use Rattle.swift_digest.proofs.Prelude.{◌≡◌, ℕ, ◌+◌, ◌<◌, List, [], ◌∷◌, ◌++◌, refl, sym, ◌∙◌, ap, subst, arith, append_assoc, append-nil, Option, Some, None, is_some, ◌==◌, Contains, cons_option, cond-true, eq-eqb, Life, life_of, tasks_of, ScriptView, root_count, executor_count, method_actor, actor_executor, FoldedView, CheckpointView, Block, added, begun, ran, folded, folded_in, folded_of, at_first, after_blocks, Stands, AllStand, ReportView, IsLegal, LeadAlike, IsLike, FramePlan, JobPlan, plan_of, frame_plans, job_plan, FrameView, option_map, is_begun, JobFacts}
 use Rattle.swift_laws.specs.Laws.{ActorsHaveExecutors}
 use Rattle.swift_laws.proofs.HistoriesApplied.{some_root, there}
 use Rattle.swift_history.specs.Orderly.{AllAllowed, IsOrderly, job_executor, frames_executor}
@@ -156,15 +156,7 @@ module _ (script : ScriptView) (histories : List (List Block)) (reps : AreRepres
       (has_next before b stood (not_folded script on cps before b bs stood stand.0 none) stand.0 may.0 one))
 
 pub outcome_too : (script : ScriptView) (cps : List CheckpointView) (report : ReportView) (a b : List Block) → LeadAlike script cps a b → IsOutcome script (state_of script cps a) report → IsOutcome script (state_of script cps b) report
-outcome_too script cps report a b lead is =
-    let same = lead.standing.digest in
-    record {
-      tasks = is.tasks ∙ ap (λ (d : Digest). root_count script + d.made) same;
-      endings = λ t y at.
-          let says = is.endings t y at in
-          (ap (λ (d : Digest). (d.cards t).life.origin) (sym same) ∙ says.0, ap (λ (d : Digest). (d.cards t).life.ending) (sym same) ∙ says.1);
-      fields = λ e f at. is.fields e f at ∙ lead.fields e;
-    }
+outcome_too script cps report a b lead is = grind arith
 
 pub each_represented : RepresentedHasEachOutcome
 each_represented script histories report on reps orderly folds =

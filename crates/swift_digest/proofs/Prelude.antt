@@ -1,11 +1,11 @@
 -- What the proofs of this crate take from elsewhere.
 pub use Rattle.std.proofs.Common.{Bool, Contains, List, None, Option, Some, [], ap, append-nil, append_assoc, ap₂, arith, cond, count_by, drop, false, get_or, if◌then◌else◌, inl, inr, is_some, length, length-append, map, nat_lt, not, refl, replicate, set, slice_get, subst, subst₂, suc, sum_by, sym, true, zero, ℕ, ℤ, ◌&&◌, ◌++◌, ◌+◌, ◌<◌, ◌==◌, ◌||◌, ◌∙◌, ◌∷◌, ◌≡◌, ◌≤◌, ◌⊎◌}
-pub use Rattle.std.proofs.lemmas.Bool.{cases_Bool, cases_eq, cases_lt, cond-false, cond-true, eq-eqb, ne_eqb, true≢false}
+pub use Rattle.std.proofs.lemmas.Bool.{cases_Bool, cases_eq, cond-false, cond-true, eq-eqb, ne_eqb, true≢false}
 pub use Rattle.std.proofs.lemmas.List.Elements.{Contains-append_cases, Contains-append_left, Contains-append_right, filter_map-append}
 pub use Rattle.std.specs.List.{cons_option, filter, filter_map, range_with_len}
 pub use Rattle.std.specs.Option.{option_map}
 pub use Rattle.std.specs.Prelude.{unwrap_or}
-pub use Rattle.swift_digest.specs.Digests.{AreInPlace, Card, Digest, GroupCard, HasLink, IsInPlace, all_noted, cancelled_in, card_noted, card_of, close_in, digest_of, group_card_of, group_in, group_noted, is_cancelled_group_in, is_cancelled_in, no_card, no_digest, noted, one_if, open_ending, own_link, parent_in, reserved_in, room_in, said, remembered}
+pub use Rattle.swift_digest.specs.Digests.{AreInPlace, Card, Digest, GroupCard, HasLink, IsInPlace, all_noted, cancelled_in, card_noted, card_of, close_in, digest_of, group_card_of, group_in, group_noted, is_cancelled_group_in, is_cancelled_in, no_digest, noted, one_if, open_ending, own_link, parent_in, reserved_in, room_in, said, remembered}
 pub use Rattle.swift_digest.specs.Futures.{AreAlike, IsLike, LeadAlike, SameFutures, TurnsAreDetermined}
 pub use Rattle.swift_digest.specs.Plans.{FramePlan, JobPlan, TaskPlan, WaitingTaskPlan, caller_plan, frame_plans, held_plan, held_plans, job_plan, job_plans, plan_of, task_plan}
 pub use Rattle.swift_escalation.specs.Waits.{IsGiven, IsPriority, Leads, Reaches}
@@ -18,7 +18,7 @@ pub use Rattle.swift_events.specs.Room.{IsEnv, reserved_of, room_of}
 pub use Rattle.swift_events.specs.declared.event.Event.{Event}
 pub use Rattle.swift_events.specs.declared.event.Event.TheVariants.{Apply, Begin, CancelGroup, CancelTask, Child, Close, End, Free, Give, Next, Open, Skip}
 pub use Rattle.swift_events.specs.declared.life.JobStage.{JobStage}
-pub use Rattle.swift_events.specs.declared.life.JobStage.TheVariants.{Applied, Asks, Begun, Closes, Given, Waits}
+pub use Rattle.swift_events.specs.declared.life.JobStage.TheVariants.{Asks, Begun, Closes}
 pub use Rattle.swift_events.specs.declared.life.Life.{Life}
 pub use Rattle.swift_groups.specs.Close.{close_among, close_of}
 pub use Rattle.swift_groups.specs.Groups.{GroupView, has_ended, is_among, unfinished_of}

@@ -1,5 +1,5 @@
 -- In each history, where a task is in a turn that has begun, the log has that begin.
-use Rattle.swift_laws.proofs.Prelude.{◌≡◌, ℕ, List, [], ◌∷◌, ◌++◌, refl, sym, ◌∙◌, ap, false, inl, inr, subst, append_assoc, Option, Some, None, IfSome, list_any, cases_eq, ne_eqb, false≢true, true≢false, Env, ScriptView, root_count, RecordView, CheckpointView, Event, Root, Begin, Apply, Free, Open, Child, Skip, CancelTask, CancelGroup, Wait, Next, Close, End, Give, Life, LastJob, JobStage, task_of, later, life_of, given_in, stage_in, list_any-push_no, life_of-push_same, life_of-push_other, unborn_without, is_begun, task, Block, ran, Standing, AllStand, IsLegal, ReportView, after_blocks, at_first, IsRecord, begins_turn, BeginsIn}
+use Rattle.swift_laws.proofs.Prelude.{◌≡◌, ℕ, List, [], ◌∷◌, ◌++◌, refl, sym, ◌∙◌, ap, false, inl, inr, subst, append_assoc, Option, Some, None, IfSome, list_any, cases_eq, ne_eqb, false≢true, true≢false, Env, ScriptView, root_count, RecordView, CheckpointView, Event, Begin, Apply, Wait, Next, Close, Give, Life, LastJob, JobStage, task_of, later, life_of, given_in, stage_in, list_any-push_no, life_of-push_same, life_of-push_other, unborn_without, is_begun, task, Block, ran, Standing, AllStand, IsLegal, ReportView, after_blocks, at_first, IsRecord, begins_turn, BeginsIn}
 use Rattle.swift_events.specs.declared.life.JobStage.TheVariants as stage
 use Rattle.swift_events.specs.Room.{IsEnv}
 use Rattle.swift_laws.proofs.HistoriesCounted.{HasNumber}

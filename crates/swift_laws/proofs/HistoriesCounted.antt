@@ -1,6 +1,6 @@
 -- In each history the turns of a task are counted: its next turn, whether its job was made or it waits, has for its number how
 -- many turns of it were applied.
-use Rattle.swift_laws.proofs.Prelude.{◌≡◌, ◌≢◌, ℕ, ◌+◌, ◌<◌, ◌≤◌, List, [], ◌∷◌, ◌++◌, length, zero, suc, refl, sym, ◌∙◌, ap, arith, Bool, true, false, inl, inr, subst, ◌⊎◌, Option, Some, None, IfSome, if◌then◌else◌, slice_index_or, cons_option, range_with_len, cases_eq, false≢true, true≢false, eq-eqb, ne_eqb, none-some, length-append, filter_map-append, Env, Event, Root, Begin, Apply, Free, Open, Child, Skip, CancelTask, CancelGroup, Wait, Next, Close, End, Give, Life, Origin, LastJob, JobStage, task_of, is_made, tasks_of, later, life_of, lived, origin_in, given_in, stage_in, life_of-push_same, life_of-push_other, origin-push, tasks_of-push_made, tasks_of-push_other, filter_map-push_none, is_under_way, task, JobFacts, WaitingTaskView, turn_in, turns_of}
+use Rattle.swift_laws.proofs.Prelude.{◌≡◌, ◌≢◌, ℕ, ◌+◌, ◌<◌, ◌≤◌, List, [], ◌∷◌, ◌++◌, length, zero, suc, refl, sym, ◌∙◌, ap, arith, Bool, true, false, inl, inr, subst, ◌⊎◌, Option, Some, None, IfSome, if◌then◌else◌, slice_index_or, cons_option, range_with_len, cases_eq, false≢true, true≢false, eq-eqb, ne_eqb, none-some, length-append, filter_map-append, Env, Event, Root, Begin, Apply, Free, Child, Wait, Next, Close, Give, Life, Origin, LastJob, JobStage, task_of, is_made, tasks_of, later, life_of, lived, origin_in, given_in, stage_in, life_of-push_same, life_of-push_other, origin-push, tasks_of-push_made, tasks_of-push_other, filter_map-push_none, is_under_way, task, JobFacts, WaitingTaskView, turn_in, turns_of}
 use Rattle.swift_events.specs.declared.life.JobStage.TheVariants as stage
 use Rattle.swift_laws.proofs.HistoriesWritten.{IsWritten}
 use Rattle.swift_laws.proofs.OpenLogs.{cases_of}
@@ -97,11 +97,7 @@ some_held x made rest number c = record { unmade = λ none. absurd (made none); 
 counts_push : (log : List Event) (held : List (Option WaitingTaskView)) (e : Event) (t : ℕ)
     → (task_of e ≡ t → IsCounted (later (origin_in e) (life_of t log).origin) (later (given_in e) (life_of t log).given) (later (stage_in e) (life_of t log).stage) (applied t (log ++ e ∷ [])) (held_at held t))
     → (task_of e ≢ t → applied t (log ++ e ∷ []) ≡ applied t log) → Counts log held t → Counts (log ++ e ∷ []) held t
-counts_push log held e t own none is = elim (cases_eq (task_of e) t) [
-  | inl same ↦ subst (λ (l : Life). IsCounted l.origin l.given l.stage (applied t (log ++ e ∷ [])) (held_at held t)) (sym (life_of-push_same t log e same)) (own same)
-  | inr other ↦ subst (λ (l : Life). IsCounted l.origin l.given l.stage (applied t (log ++ e ∷ [])) (held_at held t)) (sym (life_of-push_other t log e other))
-      (subst (λ (n : ℕ). IsCounted (life_of t log).origin (life_of t log).given (life_of t log).stage n (held_at held t)) (sym (none other)) is)
-]
+counts_push log held e t own none is = grind (arith, cases_eq, life_of-push_same, life_of-push_other)
 
 pub tasks-grow : (roots : ℕ) (log : List Event) (e : Event) → tasks_of roots log ≤ tasks_of roots (log ++ e ∷ [])
 tasks-grow roots log e = by (is_made e) refl
@@ -237,10 +233,7 @@ later_made (Some x) y made none = (let e : Some x ≡ None = none in cc)
 later_made None y made none = made none
 
 pub made_push : (t : ℕ) (log : List Event) (e : Event) → (life_of t log).origin ≢ None → (life_of t (log ++ e ∷ [])).origin ≢ None
-made_push t log e made = elim (cases_eq (task_of e) t) [
-  | inl same ↦ subst (λ (l : Life). l.origin ≢ None) (sym (life_of-push_same t log e same)) (later_made (origin_in e) (life_of t log).origin made)
-  | inr other ↦ subst (λ (l : Life). l.origin ≢ None) (sym (life_of-push_other t log e other)) made
-]
+made_push t log e made = grind (arith, cases_eq, life_of-push_same, later_made, life_of-push_other)
 
 pub idle_stage : (e : Event) (s : Option JobStage) → starts e ≡ false → is_under_way s ≡ false → is_under_way (later (stage_in e) s) ≡ false
 idle_stage (Begin u n env) s h is = absurd (true≢false h)
@@ -252,10 +245,7 @@ idle_stage (Close o g) s h is = refl
 idle_stage _ s h is = is
 
 pub rest_push : (t : ℕ) (log : List Event) (e : Event) → starts e ≡ false → is_under_way (life_of t log).stage ≡ false → is_under_way (life_of t (log ++ e ∷ [])).stage ≡ false
-rest_push t log e idle rest = elim (cases_eq (task_of e) t) [
-  | inl same ↦ subst (λ (l : Life). is_under_way l.stage ≡ false) (sym (life_of-push_same t log e same)) (idle_stage e (life_of t log).stage idle rest)
-  | inr other ↦ subst (λ (l : Life). is_under_way l.stage ≡ false) (sym (life_of-push_other t log e other)) rest
-]
+rest_push t log e idle rest = grind (arith, cases_eq, life_of-push_same, idle_stage, life_of-push_other)
 
 pub rests_push : (log : List Event) (held : List (Option WaitingTaskView)) (t n : ℕ) (e : Event) → starts e ≡ false → Rests log held t n → Rests (log ++ e ∷ []) held t n
 rests_push log held t n e idle r = record {

@@ -1,5 +1,5 @@
 -- Frames of jobs and of tasks that wait: what the end of a turn keeps of them.
-use Rattle.swift_laws.proofs.Prelude.{◌≡◌, ℕ, ◌+◌, List, [], ◌∷◌, ◌++◌, length, refl, sym, ◌∙◌, ap, Bool, true, false, inl, inr, subst, replicate, ◌==◌, Option, Some, None, if◌then◌else◌, slice_set, AllByRecursion, cases_eq, eqb-true, cases_Bool, none-some, same_Some, TaskId, Ending, Resume, Priority, close_of, ScriptView, root_count, EffectView, ExitView, Step, Run, Ended, Await, TaskView, Advanced, Event, Apply, JobStage, life_of, group_of, parent_of, waiters_of, task, JobFacts, WaitingTaskView, AfterTurn, woken, wake, wake_each, wake_closing, wake_owner, wake_parent, wake_all, followed, resume_of, exit_events, exit_resume, log_after, jobs_made, turn_end, with_jobs, taken}
+use Rattle.swift_laws.proofs.Prelude.{◌≡◌, ℕ, ◌+◌, List, [], ◌∷◌, ◌++◌, length, refl, sym, ◌∙◌, ap, Bool, true, false, inl, inr, subst, replicate, ◌==◌, Option, Some, None, if◌then◌else◌, slice_set, AllByRecursion, cases_eq, eqb-true, cases_Bool, none-some, same_Some, TaskId, Ending, Resume, Priority, close_of, ScriptView, root_count, EffectView, ExitView, Step, Ended, TaskView, Advanced, Event, Apply, JobStage, life_of, group_of, parent_of, waiters_of, task, JobFacts, WaitingTaskView, AfterTurn, woken, wake, wake_each, wake_closing, wake_owner, wake_parent, wake_all, followed, resume_of, exit_events, exit_resume, log_after, jobs_made, turn_end, with_jobs, taken}
 use Rattle.swift_groups.specs.declared.answer.Close.{Close as Closing}
 use Rattle.swift_groups.specs.declared.answer.Close.TheVariants as closing
 use Rattle.swift_events.specs.declared.life.JobStage.TheVariants as stage

@@ -1,6 +1,6 @@
 -- In each history the jobs that the log gives for a task are those of the turns that it applies, and one more while a turn is
 -- under way.
-use Rattle.swift_laws.proofs.Prelude.{◌≡◌, ◌≢◌, ℕ, ◌+◌, ◌<◌, ◌≤◌, List, [], ◌∷◌, ◌++◌, length, zero, suc, refl, sym, ◌∙◌, ap, arith, Bool, true, false, inl, inr, subst, append_assoc, nat_lt, Option, Some, None, is_some, if◌then◌else◌, AllByRecursion, cons_option, range_with_len, cases_eq, true≢false, eq-eqb, ne_eqb, ltb-true, ltb-false, append-nil, filter_map-append, Resume, Priority, Env, ScriptView, root_count, root_priority, FrameView, EffectView, ExitView, Advanced, advanced, CheckpointView, Event, Root, Begin, Apply, Free, Open, Child, Skip, CancelTask, CancelGroup, Wait, Next, Close, End, Give, Life, task_of, tasks_of, later, life_of, stage_in, life_of-push_same, life_of-push_other, filter_map-push_none, unborn_without, is_under_way, task, JobFacts, WaitingTaskView, exit_events, log_after, gives, turn_end, root_job, root_events, Block, added, begun, ran, folded, Standing, Stands, AllStand, TurnStands, IsLegal, ReportView, after_block, after_blocks, at_first, left_as, begun_priority, turn_applied, turns_of, turn_in, jobs_given, given_job, TurnsAreNumbered, GivenJobsAreApplied, AcceptedTurnsStand, AcceptedJobsStand}
+use Rattle.swift_laws.proofs.Prelude.{◌≡◌, ◌≢◌, ℕ, ◌+◌, ◌<◌, ◌≤◌, List, [], ◌∷◌, ◌++◌, length, zero, suc, refl, sym, ◌∙◌, ap, arith, Bool, true, false, inl, inr, subst, append_assoc, nat_lt, Option, Some, None, is_some, if◌then◌else◌, AllByRecursion, cons_option, range_with_len, cases_eq, true≢false, eq-eqb, ne_eqb, ltb-true, ltb-false, append-nil, filter_map-append, Resume, Priority, Env, ScriptView, root_count, root_priority, FrameView, EffectView, ExitView, Advanced, CheckpointView, Event, Root, Begin, Apply, Wait, Next, Close, Give, Life, task_of, tasks_of, later, life_of, stage_in, life_of-push_same, life_of-push_other, filter_map-push_none, unborn_without, is_under_way, task, JobFacts, WaitingTaskView, exit_events, log_after, gives, turn_end, root_job, root_events, Block, added, begun, ran, folded, Standing, Stands, AllStand, TurnStands, IsLegal, ReportView, after_block, after_blocks, at_first, turn_applied, turns_of, turn_in, jobs_given, given_job, TurnsAreNumbered, GivenJobsAreApplied, AcceptedTurnsStand, AcceptedJobsStand}
 use Rattle.swift_laws.proofs.OpenLogs.{In, in_contains}
 use Rattle.swift_laws.proofs.OpenGroups.{in_filter_map}
 use Rattle.swift_laws.proofs.OpenReports.{any_sound}
@@ -62,20 +62,11 @@ same_way roots t log (Close o g) w rest = sym (subst (λ (k : ℕ). is_under_way
 same_way roots t log _ w rest = refl
 
 written_given : (roots t : ℕ) (log : List Event) (e : Event) → IsWritten roots t log e → is_under_way (life_of t log).stage ≡ false → AreGiven log → AreGiven (log ++ e ∷ [])
-written_given roots t log e w rest are =
-    let idle = written_idle roots t log e w in
-    given_idle log e (λ u. idle_job u e idle) (λ u. idle_turn u e idle) (same_way roots t log e w rest) are
+written_given roots t log e w rest are = grind (arith, written_idle, given_idle, idle_job, idle_turn, same_way)
 
 -- a turn is applied
 apply_given : (log : List Event) (t n : ℕ) → n ≡ applied t log → is_under_way (life_of t log).stage ≡ true → AreGiven log → AreGiven (log ++ Apply (task t) n ∷ [])
-apply_given log t n number under are u =
-    let e : Event = Apply (task t) n in
-    elim (cases_eq t u) [
-      | inl same ↦ subst (IsOwed (log ++ e ∷ [])) same
-          (owed_at (jobs_given t (log ++ e ∷ [])) (turns_of t (log ++ e ∷ [])) _ (sym (ap (λ (l : Life). is_under_way l.stage) (life_of-push_same t log e refl)))
-          (filter_map-push_none (given_job t) log e refl ∙ owed_at (jobs_given t log) (turns_of t log) true under (are t) ∙ ap (λ (k : ℕ). turns_of t log ++ k ∷ []) (sym number) ∙ sym (turns_push t n log)))
-      | inr other ↦ owed_other u log e other refl (ap (λ (b : Bool). if b then Some n else None) (ne_eqb t u other)) (are u)
-    ]
+apply_given log t n number under are u = grind (arith, cases_eq, owed_at, life_of-push_same, filter_map-push_none, turns_push, owed_other, ne_eqb)
 
 -- a job is given
 
@@ -128,10 +119,7 @@ turn_given script held t n own log effects exit after has under are given =
 
 turn_gives : (script : ScriptView) (s : Standing) (e t n : ℕ) (effects : List EffectView) (exit : ExitView) (after : Option FrameView) (job : JobFacts) (env : Env) (frame : FrameView)
     → TurnStands script s e t n effects exit job env frame → AreCounted (root_count script) s.log s.held → AreGiven s.log → AreGiven (turn_applied script s t n effects exit after).log
-turn_gives script s e t n effects exit after job env frame stands are given =
-    let is = current_is (life_of t s.log) n job.resume stands.current in
-    subst (λ (x : Standing). AreGiven x.log) (sym (applied_is script s t n job frame stands.runs.0 effects exit after stands.given stands.runs.1))
-    (turn_given script s.held t n (begun_priority (life_of t s.log).stage) s.log effects exit (advanced script (left_as frame effects after) stands.runs.0 job.frames.outer exit) is.0 is.1 are given)
+turn_gives script s e t n effects exit after job env frame stands are given = grind (arith, current_is, applied_is, turn_given)
 
 root_gives : (script : ScriptView) (s : Standing) (r : ℕ) → (life_of r s.log).origin ≡ None → AreCounted (root_count script) s.log s.held → AreGiven s.log → AreGiven (s.log ++ root_events script r)
 root_gives script s r none are given =
@@ -144,9 +132,7 @@ root_gives script s r none are given =
 block_gives : (script : ScriptView) (cps : List CheckpointView) (before : List Block) (b : Block) → Stands script cps before b
     → (let s = after_blocks script (at_first script) before in AreCounted (root_count script) s.log s.held → AreGiven s.log → AreGiven (after_block script s b).log)
 block_gives script cps before (added r) stands are given = root_gives script (after_blocks script (at_first script) before) r stands.1 are given
-block_gives script cps before (begun t n env) stands are given =
-    let s = after_blocks script (at_first script) before in
-    given_idle s.log (Begin (task t) n env) (λ u. refl) (λ u. refl) (sym (current_is (life_of t s.log) n stands.0.resume stands.2).1) given
+block_gives script cps before (begun t n env) stands are given = grind (arith, given_idle, current_is)
 block_gives script cps before (ran e r) stands are given =
     turn_gives script (after_blocks script (at_first script) before) e r.task r.number r.effects r.exit r.after stands.job r.env r.frame stands.stands are given
 block_gives script cps before (folded e f) stands are given =

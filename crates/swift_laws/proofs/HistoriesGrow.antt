@@ -1,5 +1,5 @@
 -- What each block writes keeps a property of logs that each event but a begin keeps.
-use Rattle.swift_laws.proofs.Prelude.{◌≡◌, ℕ, ◌≤◌, List, [], ◌∷◌, ◌++◌, length, refl, sym, ◌∙◌, ap, arith, Bool, true, false, subst, append_assoc, Option, filter_map, append-nil, length-append, filter_map-append, Priority, Env, ScriptView, root_count, root_priority, FrameView, EffectView, ExitView, Advanced, advanced, CheckpointView, Event, Root, Begin, Apply, Free, Open, Child, Skip, CancelTask, CancelGroup, Wait, Next, Close, End, Give, life_of, task, JobFacts, WaitingTaskView, exit_events, log_after, gives, turn_end, root_job, Block, added, begun, ran, folded, Standing, Stands, AllStand, TurnStands, after_block, after_blocks, at_first, left_as, begun_priority, turn_applied, turn_in, turns_of}
+use Rattle.swift_laws.proofs.Prelude.{◌≡◌, ℕ, ◌≤◌, List, [], ◌∷◌, ◌++◌, length, refl, sym, ◌∙◌, ap, arith, Bool, true, false, subst, append_assoc, Option, filter_map, append-nil, length-append, filter_map-append, Priority, Env, ScriptView, root_count, root_priority, FrameView, EffectView, ExitView, Advanced, advanced, CheckpointView, Event, Root, Begin, Apply, Give, life_of, task, JobFacts, WaitingTaskView, exit_events, log_after, gives, turn_end, root_job, Block, added, begun, ran, folded, Standing, Stands, AllStand, TurnStands, after_block, after_blocks, at_first, left_as, begun_priority, turn_applied, turn_in, turns_of}
 use Rattle.swift_laws.proofs.HistoriesWritten.{IsWritten, keeps_effects, keeps_exit}
 use Rattle.swift_laws.proofs.HistoriesCounted.{applied}
 use Rattle.swift_laws.proofs.HistoriesTurns.{applied_is, after_push}
@@ -40,9 +40,7 @@ module _ (P : List Event → Type 0) (keeps : (log : List Event) (e : Event) →
 
   keeps_stand : (script : ScriptView) (s : Standing) (e t n : ℕ) (effects : List EffectView) (exit : ExitView) (after : Option FrameView) (job : JobFacts) (env : Env) (frame : FrameView)
       → TurnStands script s e t n effects exit job env frame → P s.log → P (turn_applied script s t n effects exit after).log
-  keeps_stand script s e t n effects exit after job env frame stands is =
-      subst (λ (z : Standing). P z.log) (sym (applied_is script s t n job frame stands.runs.0 effects exit after stands.given stands.runs.1))
-      (keeps_turn script s.log s.held t n (begun_priority (life_of t s.log).stage) effects exit (advanced script (left_as frame effects after) stands.runs.0 job.frames.outer exit) is)
+  keeps_stand script s e t n effects exit after job env frame stands is = grind (arith, applied_is, keeps_turn)
 
   pub keeps_block : (script : ScriptView) (cps : List CheckpointView) (before : List Block) (b : Block)
       → (let s = after_blocks script (at_first script) before in

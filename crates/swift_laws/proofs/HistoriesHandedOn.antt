@@ -1,5 +1,5 @@
 -- The bindings in the effects of a turn.
-use Rattle.swift_laws.proofs.Prelude.{◌≡◌, ℕ, zero, suc, ℤ, Bool, true, false, List, [], ◌∷◌, ◌++◌, length, inl, inr, refl, sym, subst, ap, arith, ◌∙◌, ◌⊎◌, nat_lt, ◌^◌, length-append, STEPS, Fault, Invariant, Turns, Resume, Start, Go, Value, Term, Operation, Wanted, Code, ev, evs, NumberPlace, Variable, Field, ScriptView, executor_invariants, actor_executor, method_actor, TurnStateView, TurnInputView, InvocationView, EffectView, ExitView, failing, AfterStatement, goes, leaves, Played, scene, standing, with_value, with_invocation, given, perform, settled, at_limit, on, end_of, caught, received, raised_by, taken_by, whole_turn, left_by, exits, undoes, all_hold, kept_of, kept, RecordView, state_at, IsLegal, ReportView, fields_of, IsRecord, GoesOn, Passes, HandsOn, IsHandedOn}
+use Rattle.swift_laws.proofs.Prelude.{◌≡◌, ℕ, zero, suc, ℤ, Bool, true, false, List, [], ◌∷◌, ◌++◌, length, inl, inr, refl, sym, ap, arith, ◌∙◌, ◌⊎◌, nat_lt, ◌^◌, length-append, STEPS, Fault, Turns, Resume, Start, Go, Value, Term, Operation, Wanted, Code, ev, evs, NumberPlace, Variable, ScriptView, executor_invariants, actor_executor, method_actor, TurnStateView, TurnInputView, InvocationView, EffectView, ExitView, failing, AfterStatement, goes, leaves, Played, scene, standing, with_value, with_invocation, given, perform, settled, at_limit, on, end_of, caught, raised_by, taken_by, whole_turn, left_by, exits, kept, RecordView, state_at, IsLegal, ReportView, fields_of, IsRecord, GoesOn, Passes, HandsOn, IsHandedOn}
 use Rattle.std.proofs.Common.{if◌then◌else◌, Option, Some, None}
 use Rattle.swift_types.specs.declared.outcome.Resume.TheVariants.{Fault as Raise}
 use Rattle.script_code.specs.Tree as code
@@ -124,24 +124,8 @@ Done g P first_effects effects = (before : List EffectView) (x : EffectView) (af
 step_done : (g : TurnInputView) (n : ℕ) (at : TurnStateView) (first_effects : List EffectView) (next : AfterStatement) (P : TurnStateView → Type 0) → act g (first at.todo) at ≡ next → at.effects ≡ first_effects → P at → ((y : TurnStateView) → GoesOn next (λ m. Passes g n m y) → P y)
     → ((m : TurnStateView) → Done g (Passes g n m) m.effects (turn g n m).state.effects) → Step (standing g at) at.effects next → Done g P first_effects (on next (turn g n)).state.effects
 step_done g n at es (leaves s e) P acts same here later rest steps before x after is = inl (after, sym same ∙ sym steps ∙ is)
-step_done g n at es (goes m) P acts same here later rest (inl none) before x after is = elim (rest m before x after is) [
-  | inl has ↦ inl (has.0, sym same ∙ sym none ∙ has.1)
-  | inr done ↦ inr (record { at = done.at; passes = later done.at done.passes; has = done.has; adds = done.adds; hands_on = done.hands_on })
-]
-step_done g n at es (goes m) P acts same here later rest (inr adds) before x after is = elim (rest m before x after is) [
-  | inl has ↦ (elim (last_or_before before x has.0 at.effects adds.effect (sym adds.more ∙ has.1)) [
-    | inl last ↦ inr (record {
-      at = at;
-      passes = here;
-      has = sym last.0;
-      adds = subst (λ next. GoesOn next (λ s. s.effects ≡ before ++ x ∷ [])) (sym acts)
-          (adds.more ∙ ap (λ es. es ++ adds.effect ∷ []) (sym last.0) ∙ ap (λ e. before ++ e ∷ []) (sym last.1));
-      hands_on = subst (HandsOn (standing g at)) (sym last.1) adds.hands_on;
-    })
-    | inr more ↦ inl (more.0, sym same ∙ more.1)
-  ])
-  | inr done ↦ inr (record { at = done.at; passes = later done.at done.passes; has = done.has; adds = done.adds; hands_on = done.hands_on })
-]
+step_done g n at es (goes m) P acts same here later rest (inl none) before x after is = grind arith
+step_done g n at es (goes m) P acts same here later rest (inr adds) before x after is = grind (arith, last_or_before)
 
 turn_done : (g : TurnInputView) (n : ℕ) (s : TurnStateView) → Done g (Passes g n s) s.effects (turn g n s).state.effects
 unfolding turn
@@ -186,10 +170,7 @@ taken_same g (Some f) here resume s = refl
 
 on_done : (g : TurnInputView) (n : ℕ) (es : List EffectView) (next : AfterStatement) → SameEffects es next → Done g (λ at. GoesOn next (λ m. Passes g n m at)) es (on next (turn g n)).state.effects
 on_done g n es (leaves s e) same before x after is = inl (after, sym same ∙ is)
-on_done g n es (goes m) same before x after is = elim (turn_done g n m before x after is) [
-  | inl has ↦ inl (has.0, sym same ∙ has.1)
-  | inr done ↦ inr done
-]
+on_done g n es (goes m) same before x after is = grind (arith, turn_done)
 
 -- what is kept of a turn
 
@@ -209,10 +190,7 @@ if_one xs ys true p q h k = h
 if_one xs ys false p q h k = k
 
 kept_one : (g : TurnInputView) (n : ℕ) (invariants : List Term) (s : TurnStateView) (resume : Resume) → OneOf s.effects (whole_turn g n s resume).state.effects (kept g n invariants s resume).state.effects
-kept_one g n invariants s resume =
-    let p = whole_turn g n s resume in
-    if_one s.effects p.state.effects (undoes p.exit) _ _ (inl (exits_effects s p.exit))
-    (if_one s.effects p.state.effects (all_hold invariants p.state.fields) _ _ (inr (exits_effects p.state p.exit)) (inl (exits_effects s (failing Invariant))))
+kept_one g n invariants s resume = grind (arith, if_one, exits_effects)
 
 no_effect : (before : List EffectView) (x : EffectView) (after : List EffectView) → ◌≡◌ {A = List EffectView} [] (before ++ x ∷ after) → ⊥
 no_effect before x after is = let a = ap length is in let b = length-append before (x ∷ after) in omega (arith, a, b)

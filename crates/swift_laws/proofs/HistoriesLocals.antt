@@ -1,6 +1,6 @@
 -- In each history, the bindings that stand below the frame of a task are those of its callers, and then those that the task was
 -- made with.
-use Rattle.swift_laws.proofs.Prelude.{◌≡◌, ℕ, ℤ, List, [], ◌∷◌, ◌++◌, length, drop, refl, sym, ◌∙◌, ap, Bool, true, false, inl, inr, subst, append_assoc, nat_lt, Option, Some, if◌then◌else◌, unwrap_or, AllByRecursion, none-some, append-nil, FRAMES, Ending, Resume, Priority, value_of, Env, ScriptView, root_count, FrameView, InvocationView, EffectView, spawning, detaching, opening, adding, cancelling_task, cancelling_group, ExitView, calling, waiting, asking_next, closing, yielding, returning, failing, TaskView, Advanced, advanced, resumed, callers_of, RecordView, CheckpointView, Event, Apply, tasks_of, life_of, task, JobFacts, first_job, effect_events, effect_jobs, is_left_out, jobs_made, root_job, Block, added, begun, ran, folded, Standing, Stands, AllStand, TurnStands, IsLegal, ReportView, after_block, after_blocks, at_first, taken, left_as, begun_priority, turn_applied, IsRecord, OneMakes, BlockMakes, IsMadeWith, bindings_over, FindsInherited}
+use Rattle.swift_laws.proofs.Prelude.{◌≡◌, ℕ, ℤ, List, [], ◌∷◌, ◌++◌, length, drop, refl, sym, ◌∙◌, ap, Bool, true, false, inl, inr, subst, append_assoc, nat_lt, Option, Some, if◌then◌else◌, unwrap_or, AllByRecursion, none-some, append-nil, FRAMES, Ending, Resume, Priority, value_of, Env, ScriptView, root_count, FrameView, InvocationView, EffectView, spawning, detaching, adding, ExitView, calling, returning, failing, TaskView, Advanced, advanced, resumed, callers_of, RecordView, CheckpointView, Event, Apply, tasks_of, life_of, task, JobFacts, first_job, effect_events, effect_jobs, is_left_out, jobs_made, root_job, Block, added, begun, ran, folded, Standing, Stands, AllStand, TurnStands, IsLegal, ReportView, after_block, after_blocks, at_first, taken, left_as, begun_priority, turn_applied, IsRecord, OneMakes, BlockMakes, IsMadeWith, bindings_over, FindsInherited}
 use Rattle.std.proofs.Math.Seq.{drop-append_seam}
 use Rattle.swift_laws.proofs.HistoriesTurns.{all_map, all_append, none_in, applied_is, after_push}
 use Rattle.swift_laws.proofs.HistoriesFrames.{JobHas, HeldHave, JobsHave, turn_has, taken_jobs_have, with_jobs_have}

@@ -102,10 +102,7 @@ module _ (script : ScriptView) (cps : List CheckpointView) (before : List Block)
   applied_beyond t n good = beyond_push (root_count script) (after_blocks script (at_first script) before).log (Apply (task t) n) (inl refl) good.beyond
 
   turn_unborn : (u n : ℕ) (own : Priority) (es : List EffectView) (t : ℕ) (bindings : List (ℕ × ℤ)) → Good → OneMakes script u own ((after_blocks script (at_first script) before).log ++ Apply (task u) n ∷ []) es t bindings → IsUnborn t (after_blocks script (at_first script) before).log
-  turn_unborn u n own es t bindings good m =
-      let log = (after_blocks script (at_first script) before).log in
-      let e : Event = Apply (task u) n in
-      unborn_before t log (log ++ e ∷ []) (made_push t log e) (one_unborn script u own (log ++ e ∷ []) es t bindings (applied_beyond u n good) m)
+  turn_unborn u n own es t bindings good m = grind (arith, unborn_before, made_push, one_unborn, applied_beyond)
 
   block_unborn : (b : Block) (t : ℕ) (bindings : List (ℕ × ℤ)) → Stands script cps before b → Good → BlockMakes script (after_blocks script (at_first script) before) b t bindings → IsUnborn t (after_blocks script (at_first script) before).log
   block_unborn (added r) t bindings stands good m = subst (λ (k : ℕ). IsUnborn k (after_blocks script (at_first script) before).log) (sym m.0) stands.1

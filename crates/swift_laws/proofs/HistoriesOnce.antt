@@ -15,9 +15,7 @@ pub record IsNext (before after : Standing) (t n : ℕ) : Type 0 where
   pub is : applied t after.log ≡ n + 1
 
 same_next : (x y : Standing) (t n u m : ℕ) → ◌≡◌ {A = Option (ℕ × ℕ)} (Some (t, n)) (Some (u, m)) → IsNext x y t n → IsNext x y u m
-same_next x y t n u m same is =
-    let parts = some_pair_parts t u n m same in
-    subst (λ (k : ℕ). IsNext x y u k) parts.1 (subst (λ (k : ℕ). IsNext x y k n) parts.0 is)
+same_next x y t n u m same is = grind (arith, some_pair_parts)
 
 pub block_next : (script : ScriptView) (cps : List CheckpointView) (before : List Block) (b : Block) (t n : ℕ) → Stands script cps before b → turn_of b ≡ Some (t, n)
     → AreCounted (root_count script) (after_blocks script (at_first script) before).log (after_blocks script (at_first script) before).held

@@ -1,11 +1,11 @@
 -- The end of a turn, and each block of a history, keeps the turns of each task counted.
-use Rattle.swift_laws.proofs.Prelude.{◌≡◌, ◌≢◌, ℕ, ◌+◌, ◌<◌, ◌≤◌, List, [], ◌∷◌, ◌++◌, length, zero, suc, refl, sym, ◌∙◌, ap, arith, Bool, true, false, inl, inr, subst, append_assoc, replicate, get_or-set_other, ◌⊎◌, ◌==◌, ◌&&◌, nat_lt, Option, Some, None, IfSome, if◌then◌else◌, slice_set, unwrap_or, AllByRecursion, cases_eq, false≢true, eqb-true, ltb-true, append-nil, TaskId, Ending, Resume, Priority, Background, close_of, Env, ScriptView, root_count, root_priority, FrameView, EffectView, spawning, detaching, opening, adding, cancelling_task, cancelling_group, ExitView, Step, Run, Ended, Await, TaskView, Advanced, advanced, CheckpointView, Event, Root, Apply, Child, Skip, Give, Life, Origin, LastJob, JobStage, task_of, is_made, tasks_of, later, life_of, origin_in, group_of, parent_of, waiters_of, life_of-push_same, unborn_without, tasks_of-push_made, is_current, was_given, same_resume, is_under_way, task, JobFacts, WaitingTaskView, AfterTurn, woken, wake, wake_each, wake_closing, wake_owner, wake_parent, wake_all, followed, resume_of, first_job, effect_events, effect_jobs, exit_events, exit_resume, is_left_out, log_after, jobs_made, gives, turn_end, root_job, root_events, Block, added, begun, ran, folded, Standing, Stands, AllStand, TurnStands, after_block, after_blocks, at_first, left_as, begun_priority, frames_applied, job_applied, turn_applied}
+use Rattle.swift_laws.proofs.Prelude.{◌≡◌, ◌≢◌, ℕ, ◌+◌, ◌<◌, ◌≤◌, List, [], ◌∷◌, ◌++◌, length, zero, suc, refl, sym, ◌∙◌, ap, arith, Bool, true, false, inl, inr, subst, append_assoc, replicate, get_or-set_other, ◌⊎◌, ◌==◌, ◌&&◌, nat_lt, Option, Some, None, IfSome, if◌then◌else◌, slice_set, unwrap_or, AllByRecursion, cases_eq, false≢true, eqb-true, ltb-true, append-nil, TaskId, Ending, Resume, Priority, Background, close_of, Env, ScriptView, root_count, root_priority, FrameView, EffectView, spawning, detaching, opening, adding, cancelling_task, cancelling_group, ExitView, Step, Run, Ended, Await, TaskView, Advanced, CheckpointView, Event, Root, Apply, Child, Skip, Give, Life, Origin, LastJob, JobStage, task_of, is_made, tasks_of, later, life_of, origin_in, group_of, parent_of, waiters_of, life_of-push_same, unborn_without, tasks_of-push_made, is_current, was_given, same_resume, is_under_way, task, JobFacts, WaitingTaskView, AfterTurn, woken, wake, wake_each, wake_closing, wake_owner, wake_parent, wake_all, followed, resume_of, first_job, effect_events, effect_jobs, exit_events, exit_resume, is_left_out, log_after, jobs_made, gives, turn_end, root_job, root_events, Block, added, begun, ran, folded, Standing, Stands, AllStand, TurnStands, after_block, after_blocks, at_first, frames_applied, turn_applied}
 use Rattle.swift_groups.specs.declared.answer.Close.{Close as Closing}
 use Rattle.swift_groups.specs.declared.answer.Close.TheVariants as closing
 use Rattle.swift_events.specs.declared.life.JobStage.TheVariants as stage
 use Rattle.swift_laws.proofs.OpenLogs.{tasks_grow}
 use Rattle.swift_laws.proofs.HistoriesWritten.{IsWritten, keeps_effect, keeps_effects, keeps_exit}
-use Rattle.swift_laws.proofs.HistoriesCounted.{applied, held_at, IsCounted, Counts, AreCounted, HasNumber, Rests, JobFits, starts, idle_turn, idle_applied, idle_push, written_idle, written_within, counted_number, apply_push, rest_push, rests_push, fits_push, give_push, begin_push, none_held, some_held, unbegun, held_rests}
+use Rattle.swift_laws.proofs.HistoriesCounted.{applied, held_at, IsCounted, Counts, AreCounted, HasNumber, Rests, JobFits, starts, idle_turn, idle_applied, idle_push, written_idle, written_within, counted_number, apply_push, rest_push, rests_push, fits_push, give_push, begin_push, some_held, unbegun, held_rests}
 
 -- lists
 
@@ -51,25 +51,10 @@ pub counted_more : (roots : ℕ) (log : List Event) (held : List (Option Waiting
 counted_more roots log held k are = record { each = λ t. counts_held log held (held ++ replicate k None) t (held_more held k t) (are.each t); beyond = are.beyond; numbered = are.numbered }
 
 pub counted_taken : (roots : ℕ) (log : List Event) (held : List (Option WaitingTaskView)) (u : ℕ) → AreCounted roots log held → AreCounted roots log (slice_set held u None)
-counted_taken roots log held u are = record {
-  each = λ t. elim (cases_eq u t) [
-    | inl same ↦ subst (λ (k : ℕ). Counts log (slice_set held u None) k) same
-        (subst (λ (h : Option WaitingTaskView). IsCounted (life_of u log).origin (life_of u log).given (life_of u log).stage (applied u log) h) (sym (none_set held u)) (none_held (are.each u)))
-    | inr other ↦ counts_held log held (slice_set held u None) t (other_set held u t None (λ q. other (sym q))) (are.each t)
-  ];
-  beyond = are.beyond;
-  numbered = are.numbered;
-}
+counted_taken roots log held u are = grind (arith, cases_eq, slice_set, none_set, counts_held, other_set)
 
 pub fits_taken : (log : List Event) (held : List (Option WaitingTaskView)) (u : ℕ) (j : JobFacts) → JobFits log held j → JobFits log (slice_set held u None) j
-fits_taken log held u j f = record {
-  made = f.made;
-  number = f.number;
-  free = elim (cases_eq u j.task) [
-    | inl same ↦ subst (λ (k : ℕ). held_at (slice_set held u None) k ≡ None) same (none_set held u)
-    | inr other ↦ other_set held u j.task None (λ q. other (sym q)) ∙ f.free
-  ];
-}
+fits_taken log held u j f = grind (arith, cases_eq, slice_set, none_set, other_set)
 
 -- jobs of one end of a turn
 
@@ -331,29 +316,18 @@ number_in (Some g) n resume is = eqb-true g.number n (both (g.number == n) (same
 
 -- the turn that is current is that of the last job, and under way
 pub current_is : (l : Life) (n : ℕ) (resume : Resume) → is_current l n resume ≡ true → HasNumber l.given n × (is_under_way l.stage ≡ true)
-current_is l n resume is =
-    let p = both (was_given l.given n resume) _ is in
-    (number_in l.given n resume p.0, (both (nat_lt n _) (is_under_way l.stage) p.1).1)
+current_is l n resume is = grind (arith, both, was_given, number_in, nat_lt, is_under_way)
 
 -- what a turn of a job leaves
 pub applied_is : (script : ScriptView) (s : Standing) (t n : ℕ) (j : JobFacts) (p : FrameView) (callers : List FrameView) (effects : List EffectView) (exit : ExitView) (after : Option FrameView)
     → s.jobs t ≡ Some j → j.frames.frames ≡ p ∷ callers
     → turn_applied script s t n effects exit after ≡ frames_applied script s t n (p ∷ callers) j.frames.outer effects exit after
-applied_is script s t n j p callers effects exit after given is =
-    ap (λ (o : Option JobFacts). job_applied script s t n o effects exit after) given
-    ∙ ap (λ (fs : List FrameView). frames_applied script s t n fs j.frames.outer effects exit after) is
+applied_is script s t n j p callers effects exit after given is = grind arith
 
 pub turn_keeps : (script : ScriptView) (s : Standing) (e t n : ℕ) (effects : List EffectView) (exit : ExitView) (after : Option FrameView) (job : JobFacts) (env : Env) (frame : FrameView)
     → TurnStands script s e t n effects exit job env frame → AreCounted (root_count script) s.log s.held
     → (let z = turn_applied script s t n effects exit after in AreCounted (root_count script) z.log z.held × (applied t z.log ≡ n + 1) × (applied t s.log ≡ n))
-turn_keeps script s e t n effects exit after job env frame stands are =
-    let is = current_is (life_of t s.log) n job.resume stands.current in
-    let end = turn_counted script s.held t n (begun_priority (life_of t s.log).stage) s.log effects exit (advanced script (left_as frame effects after) stands.runs.0 job.frames.outer exit) is.0 is.1 are in
-    let z = applied_is script s t n job frame stands.runs.0 effects exit after stands.given stands.runs.1 in (
-      subst (λ (x : Standing). AreCounted (root_count script) x.log x.held) (sym z) end.0,
-      subst (λ (x : Standing). applied t x.log ≡ n + 1) (sym z) end.1,
-      sym (counted_number (root_count script) s.log s.held t n are is.0 is.1),
-    )
+turn_keeps script s e t n effects exit after job env frame stands are = grind (arith, current_is, turn_counted, applied_is, counted_number)
 
 root_keeps : (script : ScriptView) (s : Standing) (r : ℕ) → nat_lt r (root_count script) ≡ true → (life_of r s.log).origin ≡ None → AreCounted (root_count script) s.log s.held → AreCounted (root_count script) (s.log ++ root_events script r) s.held
 root_keeps script s r less none are =

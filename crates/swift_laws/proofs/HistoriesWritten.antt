@@ -1,5 +1,5 @@
 -- Which events the end of a turn writes, and what they keep.
-use Rattle.swift_laws.proofs.Prelude.{◌≡◌, ℕ, List, [], ◌∷◌, ◌++◌, refl, sym, Bool, true, false, subst, append_assoc, Option, Some, None, is_some, if◌then◌else◌, unwrap_or, append-nil, TaskId, Ending, Fault, Priority, Background, next_of, EffectView, spawning, detaching, opening, adding, cancelling_task, cancelling_group, ExitView, calling, waiting, asking_next, closing, yielding, returning, failing, Step, Run, Ended, Await, Event, Free, Open, Child, Skip, CancelTask, CancelGroup, Wait, Next, Close, End, tasks_of, life_of, opened_by, group_of, task, named_task, effect_events, is_left_out, log_after, next_events, close_events, wait_events, end_events, exit_events}
+use Rattle.swift_laws.proofs.Prelude.{◌≡◌, ℕ, List, [], ◌∷◌, ◌++◌, refl, sym, Bool, true, false, subst, append_assoc, Option, Some, None, is_some, if◌then◌else◌, unwrap_or, append-nil, TaskId, Ending, Fault, Priority, Background, next_of, EffectView, spawning, detaching, opening, adding, cancelling_task, cancelling_group, ExitView, waiting, asking_next, closing, Step, Ended, Event, Free, Open, Child, Skip, CancelTask, CancelGroup, Wait, Next, Close, End, tasks_of, life_of, opened_by, group_of, task, named_task, effect_events, is_left_out, log_after, next_events, close_events, wait_events, end_events, exit_events}
 use Rattle.swift_groups.specs.declared.answer.NextResult.{NextResult as Answer}
 use Rattle.swift_groups.specs.declared.answer.NextResult.TheVariants as answer
 

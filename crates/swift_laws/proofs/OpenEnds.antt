@@ -1,5 +1,5 @@
 -- What the end of a turn writes, and which jobs are made then.
-use Rattle.swift_laws.proofs.Prelude.{◌≡◌, inl, inr, ℕ, ℤ, Bool, true, false, List, [], ◌∷◌, ◌++◌, refl, sym, subst, ap, ◌∙◌, append_assoc, length, Option, Some, None, is_some, ◌==◌, nat_lt, slice_index_or, false≢true, append-nil, TaskId, FRAMES, Ending, Depth, Empty, Resume, Start, Go, Priority, next_of, close_of, ScriptView, FrameView, InvocationView, ExitView, calling, waiting, asking_next, yielding, returning, failing, Step, Run, Ended, Await, TaskView, Advanced, advanced, resumed, called, Event, CancelGroup, Child, Wait, Next, Close, End, JobStage, task_of, life_of, origin_in, given_in, stage_in, ending_in, waits_at, group_of, parent_of, waiters_of, JobFacts, WaitingTaskView, AfterTurn, task, named_task, wait_events, wait_resume, next_events, next_resume, close_events, close_resume, end_events, step_resume, exit_events, exit_resume, resume_of, woken, wake, wake_each, wake_closing, wake_owner, wake_parent, wake_all, followed, HasEnded}
+use Rattle.swift_laws.proofs.Prelude.{◌≡◌, inl, inr, ℕ, ℤ, Bool, true, false, List, [], ◌∷◌, ◌++◌, refl, sym, subst, ap, ◌∙◌, append_assoc, length, Option, Some, None, is_some, ◌==◌, nat_lt, slice_index_or, false≢true, append-nil, TaskId, FRAMES, Ending, Depth, Empty, Resume, Start, Go, Priority, next_of, close_of, ScriptView, FrameView, InvocationView, ExitView, calling, waiting, asking_next, yielding, returning, failing, Step, Ended, Await, TaskView, Advanced, advanced, resumed, called, Event, CancelGroup, Child, Wait, Next, Close, End, JobStage, task_of, life_of, origin_in, given_in, stage_in, ending_in, waits_at, group_of, parent_of, waiters_of, JobFacts, WaitingTaskView, AfterTurn, task, named_task, wait_events, wait_resume, next_events, next_resume, close_events, close_resume, end_events, step_resume, exit_events, exit_resume, resume_of, woken, wake, wake_each, wake_closing, wake_owner, wake_parent, wake_all, followed, HasEnded}
 use Rattle.std.proofs.Common.{if◌then◌else◌}
 use Rattle.swift_types.specs.declared.outcome.Ending.TheVariants.{Value, Fault}
 use Rattle.swift_types.specs.declared.outcome.Fault.{Fault as AnyFault}

@@ -99,11 +99,7 @@ views_many p actors e [] = refl
 views_many p actors e (x ∷ xs) = ap suc (views_many p actors (suc e) xs)
 
 plan_below : (ds : List DeclTree) → names_error ds ≡ None → AllBelow (length (executors_in ds) + owners (script_in ds).actors) (plan_in (script_in ds)).executors
-plan_below ds e =
-    let d : (directory_of ds).executors ≡ executors_in ds = ap (λ (x : DirectoryView). x.executors) (nothing_left_out ds e) in
-    let is : NamesIn (executors_in ds) ds = subst (λ (ns : List (List ℕ)). NamesIn ns ds) d (names_in (directory_of ds) _ 0 ds e) in
-    let many : ℕ = length (executors_in ds) in
-    subst (λ (p : PlanView). AllBelow (many + owners (script_in ds).actors) p.executors) (same_plan ds) (all_below (executors_in ds) many (many + owners (script_in ds).actors) ds is (omega arith) (omega arith))
+plan_below ds e = grind (arith, directory_of, executors_in, nothing_left_out, names_in, length, owners, script_in, same_plan, all_below)
 
 -- an actor's executor is the plan's, or 0 where there is no such actor
 actor_on : (p : PlanView) (k : ℕ) (actors : List ActorTree) (a bound : ℕ) → 0 < bound → AllBelow bound p.executors → (unwrap_or (slice_get (actors_from p k actors) a) no_actor).executor < bound
@@ -135,10 +131,7 @@ plan_many ds = ap (λ (p : PlanView). length p.executors) (sym (same_plan ds)) �
 
 count_is : (ds : List DeclTree) → executor_count (script_in ds) ≡ length (executors_in ds) + owners (script_in ds).actors
 unfolding parts_of
-count_is ds =
-    let s = script_in ds in
-    let a = views_many (plan_in s) s.actors 0 (s.executors ++ own_executors s.actors) in
-    omega (arith, a, length-append s.executors (own_executors s.actors), count_owners s.actors, declared_many ds)
+count_is ds = grind (arith, views_many, length-append, count_owners, declared_many)
 
 some_actor : (script : ScriptView) → 0 < method_count script → 0 < length script.actors
 unfolding parts_of
@@ -146,12 +139,7 @@ some_actor script some = methods_none (plan_in script) 0 script.actors some
 
 on_executors : (ds : List DeclTree) (a : ℕ) → names_error ds ≡ None → 0 < length (script_in ds).actors → actor_executor (script_in ds) a < executor_count (script_in ds)
 unfolding parts_of
-on_executors ds a e some =
-    let s = script_in ds in
-    let bound : ℕ = length (executors_in ds) + owners s.actors in
-    let all = plan_below ds e in
-    let positive : 0 < bound = some_bound bound (plan_in s).executors (omega (arith, plan_many ds, some)) all in
-    omega (arith, actor_on (plan_in s) 0 s.actors a bound positive all, count_is ds)
+on_executors ds a e some = grind (arith, plan_below, some_bound, plan_many, actor_on, count_is)
 
 -- in an accepted script with a root each actor runs on an executor of the script
 pub runs_on_executor : (script : ScriptView) → WasAccepted script → 0 < root_count script → (a : ℕ) → actor_executor script a < executor_count script

@@ -3,7 +3,7 @@ use Rattle.swift_laws.proofs.Prelude.{◌≡◌, inl, inr, ℕ, ◌+◌, ◌<◌
 use Rattle.std.specs.Prelude.{◌-◌}
 use Rattle.swift_events.specs.declared.life.JobStage.TheVariants as stage
 use Rattle.swift_history.specs.Checks.{was_given as given_so}
-use Rattle.swift_laws.proofs.OpenLogs.{cases_of, not_both, none_some, was_given, stage_at, origin_now, given_same, given_stays, stage_now, ending_same, IsFree, Sound, May, Leads, stays, leads_by, leads_on, sound_from, sound_leads, free_at, holds_at}
+use Rattle.swift_laws.proofs.OpenLogs.{cases_of, not_both, none_some, was_given, stage_at, origin_now, given_same, given_stays, stage_now, ending_same, Sound, May, Leads, stays, leads_by, leads_on, sound_from, sound_leads, free_at, holds_at}
 use Rattle.swift_laws.proofs.OpenSteps.{each_map, is_child, no_child, may_move, Active, Fresh, effects, Goes, goes_new, AllGo, leads_give, leads_gives}
 use Rattle.swift_laws.proofs.OpenEnds.{followed_go, exit_wrote}
 
@@ -68,11 +68,7 @@ module _ (script : ScriptView) where
 
   -- a task whose turn is under way moves on
   may_go_on : (t : ℕ) (log : List Event) (e : Event) → Sound (root_count script) log → UnderWay t log → task_of e ≡ t → origin_in e ≡ None → given_in e ≡ None → ending_in e ≡ None → is_child e ≡ false → May (root_count script) log e
-  may_go_on t log e sound u of origin none ending other =
-      may_move (root_count script) log e origin ending other (λ q. not_both (is_some (given_in e)) q (ap is_some none))
-      (subst (λ (k : ℕ). was_given k (log ++ e ∷ []) ≡ true) (sym of) (given_stays t log e u.given))
-      (subst (λ (k : ℕ). IsFree k log) (sym of) (free_at (root_count script) t log sound (under_free (stage_at t log) u.under_way)))
-      (subst (λ (k : ℕ). HasEnded k log → ⊥) (sym of) (under_alive (root_count script) t log sound u))
+  may_go_on t log e sound u of origin none ending other = grind (arith, may_move, not_both, given_stays, free_at, under_free, under_alive)
 
   -- a turn begins
   begun_leads : (s : Standing) (t n : ℕ) (env : Env) (j : JobFacts) → Written s.log → is_current (life_of t s.log) n j.resume ≡ true → Written (after_block script s (begun t n env)).log

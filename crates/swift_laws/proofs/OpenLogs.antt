@@ -51,12 +51,7 @@ Says f says = (l : Life) (e : Event) → f (lived l e) ≡ later (says e) (f l)
 
 pub field_cases : {A : Type 0} (f : Life → Option A) (says : Event → Option A) → Says f says → (t : ℕ) (log : List Event) (e : Event)
     → (f (life_of t (log ++ e ∷ [])) ≡ f (life_of t log)) ⊎ ((task_of e ≡ t) × (f (life_of t (log ++ e ∷ [])) ≡ says e) × (is_some (says e) ≡ true))
-field_cases f says law t log e = elim (cases_eq (task_of e) t) [
-  | inl same ↦
-      let now : f (life_of t (log ++ e ∷ [])) ≡ later (says e) (f (life_of t log)) = ap f (life_of-push_same t log e same) ∙ law (life_of t log) e in
-      elim (later_cases (says e) (f (life_of t log))) [ inl old ↦ inl (now ∙ old) | inr new ↦ inr (same, now ∙ new.0, new.1) ]
-  | inr other ↦ inl (ap f (life_of-push_other t log e other))
-]
+field_cases f says law t log e = grind (arith, cases_eq, life_of-push_same, later_cases, life_of-push_other)
 
 field_now : {A : Type 0} (f : Life → Option A) (says : Event → Option A) → Says f says → (t : ℕ) (log : List Event) (e : Event) → task_of e ≡ t → is_some (says e) ≡ true → f (life_of t (log ++ e ∷ [])) ≡ says e
 field_now f says law t log e same some = ap f (life_of-push_same t log e same) ∙ law (life_of t log) e ∙ later_now (says e) (f (life_of t log)) some
@@ -148,9 +143,7 @@ equal_of a b h = grind (arith, nat_tests)
 
 -- an event that closes a group is one of its owner, and says so
 pub closes_says : (o g : ℕ) (e : Event) → closes o g e ≡ true → (task_of e ≡ o) × (stage_in e ≡ Some (stage.Closes g))
-closes_says o g (Close owner group) h =
-    let both = and_both (owner.0 == o) (group == g) h in
-    (equal_of owner.0 o both.0, ap (λ (k : ℕ). Some (stage.Closes k)) (equal_of group g both.1))
+closes_says o g (Close owner group) h = grind (arith, and_both, equal_of)
 closes_says o g e h = absurd (false≢true h)
 
 -- Nothing holds the task: what it has waited for has ended, and so has each child of a group that it has closed.
@@ -186,10 +179,7 @@ pub record May (roots : ℕ) (log : List Event) (e : Event) : Type 0 where
 
 module _ (roots : ℕ) (log : List Event) (e : Event) (s : Sound roots log) (m : May roots log e) where
   next_born : (t : ℕ) → was_given t (log ++ e ∷ []) ≡ true → has_origin t (log ++ e ∷ []) ≡ true
-  next_born t h = elim (given_came t log e h) [
-    | inl old ↦ origin_stays t log e (s.born t old)
-    | inr new ↦ origin_stays t log e (subst (λ (k : ℕ). has_origin k log ≡ true) new.0 (m.born new.1))
-  ]
+  next_born t h = grind (arith, given_came, origin_stays, has_origin)
 
   next_low : (t : ℕ) → has_origin t (log ++ e ∷ []) ≡ true → t < tasks_of roots (log ++ e ∷ [])
   next_low t h = elim (origin_came t log e h) [
@@ -198,42 +188,13 @@ module _ (roots : ℕ) (log : List Event) (e : Event) (s : Sound roots log) (m :
   ]
 
   next_staged : (t : ℕ) → is_some (stage_at t (log ++ e ∷ [])) ≡ true → was_given t (log ++ e ∷ []) ≡ true
-  next_staged t h = elim (stage_came t log e h) [
-    | inl old ↦ given_stays t log e (s.staged t old)
-    | inr new ↦ subst (λ (k : ℕ). was_given k (log ++ e ∷ []) ≡ true) new.0 (m.given new.1)
-  ]
+  next_staged t h = grind (arith, stage_came, given_stays)
 
   next_rests : (t : ℕ) → HasEnded t (log ++ e ∷ []) → (was_given t (log ++ e ∷ []) ≡ true) × (stage_at t (log ++ e ∷ []) ≡ Some stage.Applied)
-  next_rests t h = elim (ended_came t log e h) [
-    | inl old ↦ (
-      given_stays t log e (s.rests t old).0,
-      elim (stage_cases t log e) [
-        | inl same ↦ same ∙ (s.rests t old).1
-        | inr moved ↦ absurd (m.alive moved.2 (subst (λ (k : ℕ). HasEnded k log) (sym moved.0) old))
-      ],
-    )
-    | inr new ↦ (let may = m.ends new.1 in (
-      given_stays t log e (subst (λ (k : ℕ). was_given k log ≡ true) new.0 may.given),
-      stage_same t log e may.still ∙ subst (λ (k : ℕ). stage_at k log ≡ Some stage.Applied) new.0 may.applied,
-    ))
-  ]
+  next_rests t h = grind (arith, ended_came, given_stays, stage_cases, stage_same)
 
   next_waits : (t u : TaskId) → In (log ++ e ∷ []) (Wait t u) → (was_given t.0 (log ++ e ∷ []) ≡ true) × (HasEnded u.0 (log ++ e ∷ []) ⊎ (stage_at t.0 (log ++ e ∷ []) ≡ Some (stage.Waits u)))
-  next_waits t u h = elim (in_push log e (Wait t u) h) [
-    | inl old ↦ (
-      given_stays t.0 log e (s.waits t u old).0,
-      elim (s.waits t u old).1 [
-        | inl ended ↦ inl (ended_stays u.0 log e ended)
-        | inr at ↦ elim (stage_cases t.0 log e) [
-          | inl same ↦ inr (same ∙ at)
-          | inr moved ↦ inl (ended_stays u.0 log e ((m.moves moved.2).waits t u (sym moved.0) old))
-        ]
-      ],
-    )
-    | inr q ↦ (let some : is_some (stage_in e) ≡ true = ap (λ (x : Event). is_some (stage_in x)) q in
-        let of : task_of e ≡ t.0 = ap task_of q in
-        (subst (λ (k : ℕ). was_given k (log ++ e ∷ []) ≡ true) of (m.given some), inr (stage_now t.0 log e of some ∙ ap stage_in q)))
-  ]
+  next_waits t u h = grind (arith, in_push, given_stays, ended_stays, stage_cases, stage_now)
 
   next_child : (u o : TaskId) (g : ℕ) (p : Priority) → In log (Child u o g p) → is_closed o.0 g (log ++ e ∷ []) ≡ true → HasEnded u.0 (log ++ e ∷ []) ⊎ (stage_at o.0 (log ++ e ∷ []) ≡ Some (stage.Closes g))
   next_child u o g p old closed = elim (closed_cases o.0 g log e closed) [
@@ -351,16 +312,7 @@ holds_at _ = false
 
 -- in any other stage it is free
 pub free_at : (roots : ℕ) (t : ℕ) (log : List Event) → Sound roots log → holds_at (stage_at t log) ≡ false → IsFree t log
-free_at roots t log s loose = record {
-  waits = λ w u of h. elim (s.waits w u h).1 [
-    | inl ended ↦ ended
-    | inr at ↦ not_both (holds_at (stage_at w.0 log)) (ap holds_at at) (ap (λ (k : ℕ). holds_at (stage_at k log)) of ∙ loose)
-  ];
-  children = λ u o g p of h closed. elim ((s.children u o g p h).2 closed) [
-    | inl ended ↦ ended
-    | inr at ↦ not_both (holds_at (stage_at o.0 log)) (ap holds_at at) (ap (λ (k : ℕ). holds_at (stage_at k log)) of ∙ loose)
-  ];
-}
+free_at roots t log s loose = grind (arith, not_both, holds_at)
 
 -- a task that has ended is free
 pub free_ended : (roots : ℕ) (t : ℕ) (log : List Event) → Sound roots log → HasEnded t log → IsFree t log

@@ -1,10 +1,9 @@
 -- The methods of accepted scripts close the groups that they open, since a group's block does not return.
-use Rattle.swift_laws.proofs.Prelude.{◌≡◌, ℕ, zero, suc, ◌-◌, Bool, true, false, List, [], ◌∷◌, ◌++◌, map, refl, sym, subst, Option, Some, None, unwrap_or, slice_get, All, AllByRecursion, false≢true, recursion_from_All, ValueTree, Computed, Waited, MakeTree, Spawned, Detached, ActionTree, Let, LetTask, Assign, Makes, Adds, Cancel, Return, Throw, Check, Yield, HeadTree, If, While, Bind, Group, Assume, StmtTree, Do, Headed, IfElse, BlockTree, nothing, first_then, block_tree, MethodTree, ActorTree, scope_after, scope_within, NumberPlace, Variable, Field, Term, Operation, Code, end, act, PlanView, MethodView, plan_in, method_of, methods_from, no_method, WasAccepted, after_operation, LeadsTo, ClosesGroups}
+use Rattle.swift_laws.proofs.Prelude.{◌≡◌, ℕ, zero, suc, ◌-◌, Bool, true, false, List, [], ◌∷◌, ◌++◌, map, refl, sym, subst, Option, Some, None, unwrap_or, slice_get, All, AllByRecursion, false≢true, recursion_from_All, ValueTree, Computed, Waited, MakeTree, Spawned, Detached, ActionTree, Let, LetTask, Assign, Makes, Return, HeadTree, If, While, Bind, Group, Assume, StmtTree, Do, Headed, IfElse, BlockTree, nothing, first_then, block_tree, MethodTree, ActorTree, scope_after, scope_within, NumberPlace, Variable, Field, Term, Operation, Code, end, act, PlanView, MethodView, plan_in, method_of, methods_from, no_method, WasAccepted, after_operation, LeadsTo, ClosesGroups}
 use Rattle.std.proofs.Common.{if◌then◌else◌}
 use Rattle.script_grammar.specs.declared.region.Region.{Region}
 use Rattle.script_grammar.specs.declared.region.Region.TheVariants as region
 use Rattle.script_grammar.specs.Grammar.{may_return}
-use Rattle.script_grammar.specs.Tree.{Await}
 use Rattle.script_names.specs.Scope.{ScopeView}
 use Rattle.script_printing.specs.Limits.{ActionFits, region_in, StmtFits, BlockFits, MethodFits, ActorFits}
 use Rattle.script_printing.proofs.Read.{actors_fit}

@@ -39,15 +39,7 @@ no_child e u o g p none q = not_both (is_child e) (ap is_child q) none
 module _ (roots : ℕ) where
   -- an event that says nothing of a life
   pub may_calm : (log : List Event) (e : Event) → Calm e → origin_in e ≡ None → is_child e ≡ false → May roots log e
-  may_calm log e calm origin other = record {
-    low = none_some (origin_in e) origin;
-    born = none_some (given_in e) calm.given;
-    given = none_some (stage_in e) calm.stage;
-    moves = none_some (stage_in e) calm.stage;
-    alive = none_some (stage_in e) calm.stage;
-    ends = none_some (ending_in e) calm.ending;
-    child = λ u o g p q. no_child e u o g p other q;
-  }
+  may_calm log e calm origin other = grind (arith, none_some, no_child)
 
   -- an event that makes a task
   pub may_make : (log : List Event) (e : Event) → Calm e → is_made e ≡ true → task_of e ≡ tasks_of roots log
@@ -65,15 +57,7 @@ module _ (roots : ℕ) where
   -- an event by which a task moves on to another stage
   pub may_move : (log : List Event) (e : Event) → origin_in e ≡ None → ending_in e ≡ None → is_child e ≡ false
       → (is_some (given_in e) ≡ true → has_origin (task_of e) log ≡ true) → was_given (task_of e) (log ++ e ∷ []) ≡ true → IsFree (task_of e) log → (HasEnded (task_of e) log → ⊥) → May roots log e
-  may_move log e origin ending other born given free alive = record {
-    low = none_some (origin_in e) origin;
-    born = born;
-    given = λ q. given;
-    moves = λ q. free;
-    alive = λ q. alive;
-    ends = none_some (ending_in e) ending;
-    child = λ u o g p q. no_child e u o g p other q;
-  }
+  may_move log e origin ending other born given free alive = grind (arith, none_some, no_child)
 
 -- A task whose turn is being applied.
 pub record Active (t : ℕ) (log : List Event) : Type 0 where
@@ -82,11 +66,7 @@ pub record Active (t : ℕ) (log : List Event) : Type 0 where
   pub alive : HasEnded t log → ⊥
 
 pub active_push : (t : ℕ) (log : List Event) (e : Event) → Calm e → Active t log → Active t (log ++ e ∷ [])
-active_push t log e calm a = record {
-  given = given_stays t log e a.given;
-  applied = stage_same t log e calm.stage ∙ a.applied;
-  alive = λ ended. a.alive (sym (ap is_some (ending_same t log e calm.ending)) ∙ ended);
-}
+active_push t log e calm a = grind (arith, given_stays, stage_same, ending_same)
 
 -- a task that was made and has had no job
 pub record Fresh (log : List Event) (j : JobFacts) : Type 0 where
@@ -273,14 +253,7 @@ pub goes_free : (roots : ℕ) (t : ℕ) (log : List Event) → Sound roots log �
 goes_free roots t log s given alive loose = record { origin = s.born t given; alive = alive; free = free_at roots t log s loose }
 
 pub goes_new : (roots : ℕ) (t : ℕ) (log : List Event) → Sound roots log → has_origin t log ≡ true → was_given t log ≡ false → Goes t log
-goes_new roots t log s origin new = record {
-  origin = origin;
-  alive = λ ended. not_both (was_given t log) (s.rests t ended).0 new;
-  free = record {
-    waits = λ w u of h. not_both (was_given t log) (subst (λ (k : ℕ). was_given k log ≡ true) of (s.waits w u h).0) new;
-    children = λ u o g p of h closed. not_both (was_given t log) (subst (λ (k : ℕ). was_given k log ≡ true) of (s.children u o g p h).0) new;
-  };
-}
+goes_new roots t log s origin new = grind (arith, not_both)
 
 -- jobs are made one after the other
 

@@ -5,7 +5,7 @@ pub use Rattle.script_code.specs.declared.instruction.NumberPlace.{NumberPlace}
 pub use Rattle.script_code.specs.declared.instruction.NumberPlace.TheVariants.{Field, Variable}
 pub use Rattle.script_compiler.specs.Compiled.{MethodView, actors_from, method_of, methods_from, own_executor, own_executors, plan_in}
 pub use Rattle.script_compiler.specs.Plan.{PlanView, executors_from, on_executor}
-pub use Rattle.script_grammar.specs.Tree.{ActionTree, ActorTree, Acts, Adds, Assign, Assume, Bind, Binds, BlockTree, Cancel, Check, Computed, DeclTree, Detached, Do, Executes, ExecutorTree, Group, HeadTree, Headed, If, IfElse, Let, LetTask, MakeTree, Makes, MethodTree, Return, Roots, Spawned, StmtTree, Throw, ValueTree, Waited, While, Yield, block_tree, first_then, nothing}
+pub use Rattle.script_grammar.specs.Tree.{ActionTree, ActorTree, Acts, Assign, Assume, Bind, Binds, BlockTree, Computed, DeclTree, Detached, Do, Executes, ExecutorTree, Group, HeadTree, Headed, If, IfElse, Let, LetTask, MakeTree, Makes, MethodTree, Return, Roots, Spawned, StmtTree, ValueTree, Waited, While, block_tree, first_then, nothing}
 pub use Rattle.script_names.specs.Rules.{SeenView, at_name, decl_error, declarations_error, names_error, on_error, past_decl, repeat_error, scope_after, scope_within, seen_after}
 pub use Rattle.script_printing.specs.Script.{script_in}
 pub use Rattle.std.proofs.Common.{Bool, List, [], ap, append_assoc, arith, cond, drop, false, get_or-set_other, inl, inr, length, map, refl, replicate, subst, suc, sym, take, true, zero, ℕ, ℤ, ◌++◌, ◌+◌, ◌-◌, ◌<◌, ◌∙◌, ◌∷◌, ◌≡◌, ◌≢◌, ◌≤◌}
@@ -33,7 +33,7 @@ pub use Rattle.swift_history.specs.Checks.{Counters, can_use, counted, counters,
 pub use Rattle.swift_history.specs.Histories.{AllStand, Block, IsLegal, ReportView, Standing, Stands, TurnStands, added, after_block, after_blocks, at_first, begun, begun_priority, fields_of, folded, folded_in, folded_of, frames_applied, job_applied, left_as, opens_group, ran, record_in, records_of, taken, turn_applied, with_jobs}
 pub use Rattle.swift_history.specs.TurnEnds.{AfterTurn, JobFacts, WaitingTaskView, close_events, close_resume, effect_events, effect_jobs, end_events, exit_events, exit_resume, first_job, followed, gives, is_left_out, jobs_made, log_after, named_task, next_events, next_resume, resume_of, root_events, root_job, step_resume, task, turn_end, wait_events, wait_resume, wake, wake_all, wake_closing, wake_each, wake_owner, wake_parent, woken}
 pub use Rattle.swift_interpreter.specs.Frames.{FrameView}
-pub use Rattle.swift_interpreter.specs.Turn.{AfterStatement, EffectView, ExitView, InvocationView, Played, TurnInputView, TurnStateView, adding, all_hold, asking_next, at_limit, calling, cancelling_group, cancelling_task, caught, closing, detaching, end_of, exits, failing, given, goes, kept, kept_of, leaves, left_by, on, opening, perform, raised_by, received, returning, scene, settled, spawning, standing, taken_by, undoes, waiting, whole_turn, with_invocation, with_value, yielding}
+pub use Rattle.swift_interpreter.specs.Turn.{AfterStatement, EffectView, ExitView, InvocationView, Played, TurnInputView, TurnStateView, adding, asking_next, at_limit, calling, cancelling_group, cancelling_task, caught, closing, detaching, end_of, exits, failing, given, goes, kept, leaves, left_by, on, opening, perform, raised_by, returning, scene, settled, spawning, standing, taken_by, waiting, whole_turn, with_invocation, with_value, yielding}
 pub use Rattle.swift_journal.specs.Checkpoints.{CheckpointView, FoldedView}
 pub use Rattle.swift_journal.specs.Records.{RecordView}
 pub use Rattle.swift_laws.specs.Accepted.{AcceptedJobsStand, AcceptedTurnsStand, ClosesGroups, LeadsTo, after_operation}
@@ -51,7 +51,7 @@ pub use Rattle.swift_types.specs.declared.id.TaskId.{TaskId}
 pub use Rattle.swift_types.specs.declared.limits.TheConstants.{FRAMES, STEPS}
 pub use Rattle.swift_types.specs.declared.outcome.Ending.{Ending}
 pub use Rattle.swift_types.specs.declared.outcome.Fault.{Fault}
-pub use Rattle.swift_types.specs.declared.outcome.Fault.TheVariants.{Depth, Empty, Invariant, Turns}
+pub use Rattle.swift_types.specs.declared.outcome.Fault.TheVariants.{Depth, Empty, Turns}
 pub use Rattle.swift_types.specs.declared.outcome.Resume.{Resume}
 pub use Rattle.swift_types.specs.declared.outcome.Resume.TheVariants.{Go, Start, Value}
 pub use Rattle.swift_types.specs.declared.priority.Priority.{Priority}

@@ -1,7 +1,6 @@
 -- Each turn of a run is known by its whole report.
-use Rattle.swift_laws.proofs.Prelude.{◌≡◌, ℕ, zero, suc, ◌<◌, List, [], ◌∷◌, ◌++◌, length, map, refl, sym, subst, ap, ◌∙◌, arith, Some, slice_get, none-some, same_Some, slice_get_within, ScriptView, Event, CheckpointView, FoldedView, RecordView, ReportView, BeginsIn, HasTurn, TurnPlace, in_checkpoint, in_journal, turns_of}
+use Rattle.swift_laws.proofs.Prelude.{◌≡◌, ℕ, zero, suc, ◌<◌, List, [], ◌∷◌, ◌++◌, length, map, refl, sym, subst, ap, ◌∙◌, arith, Some, slice_get, none-some, same_Some, slice_get_within, ScriptView, Event, FoldedView, RecordView, ReportView, BeginsIn, HasTurn, TurnPlace, in_checkpoint, in_journal, turns_of}
 use Rattle.swift_journal.specs.Checkpoints.{folded_of}
-use Rattle.swift_course.specs.Course.{starts}
 use Rattle.swift_course.specs.Whole.{AreFoldedInto, HasWhole}
 use Rattle.swift_course.proofs.Starts.{none_folded_at}
 use Rattle.swift_laws.specs.Whole.{AllTurnsAreKnown, FoldedTurnsAreKnown, IsKnownTurn}
@@ -37,10 +36,7 @@ module _ (script : ScriptView) (report : ReportView) (w : HasWhole script report
         once = λ k j q is_q task_q number_q.
             (let same = stands_once script w.whole (in_journal k j) (in_journal e i) t n w.legal.legal (q, is_q, task_q, number_q) has in (same_executor k j e i same, same_place k j e i same));
       }
-  known_at t n (in_checkpoint e i) has =
-      let is = has.1 in
-      let at : slice_get (starts script) e ≡ Some is.checkpoint = ap (λ (cps : List CheckpointView). slice_get cps e) (sym w.fold.unfolded) ∙ is.is_checkpoint in
-      absurd (none-some has.0 (ap (λ (fs : List FoldedView). slice_get fs i) (sym (none_folded_at script e is.checkpoint at)) ∙ is.stands))
+  known_at t n (in_checkpoint e i) has = grind (arith, slice_get, none-some, none_folded_at)
 
 pub all_known : AllTurnsAreKnown
 all_known script report w t n accepted lt =

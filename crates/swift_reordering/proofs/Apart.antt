@@ -1,5 +1,5 @@
 -- A root that no line names: no task has to do with it but itself, whichever blocks of others follow.
-use Rattle.swift_reordering.proofs.Prelude.{◌≡◌, ◌≢◌, ℕ, zero, suc, ◌+◌, ◌<◌, List, [], ◌∷◌, ◌++◌, length, refl, sym, ◌∙◌, ap, ap₂, subst, Bool, true, false, append_assoc, append-nil, arith, Option, Some, None, ◌==◌, ◌&&◌, nat_lt, is_some, not, if◌then◌else◌, unwrap_or, slice_get, AllByRecursion, cons_option, eq-eqb, eqb-true, false≢true, ltb-true, ne_eqb, TaskId, Env, Ending, Fault, Priority, Background, next_of, ScriptView, root_count, root_priority, FrameView, TaskName, Own, EffectView, spawning, detaching, opening, adding, cancelling_task, cancelling_group, ExitView, calling, waiting, asking_next, closing, yielding, returning, failing, Step, Run, Ended, Await, Advanced, advanced, RecordView, turn_of, CheckpointView, FoldedView, Event, Root, Begin, Apply, Free, Open, Child, Skip, CancelTask, CancelGroup, Wait, Next, Close, End, Give, Life, task_of, tasks_of, life_of, lived, own_tasks, own_in, waiter_in, child_in, opened_by, parent_by, group_of, own_tasks-push_none, own_tasks-push_same, Counters, can_name, counters, counted, fits_effect, fits_exit, fits_turn, JobFacts, TurnEnd, task, gives, named_task, is_left_out, effect_events, log_after, wait_events, next_events, close_events, end_events, exit_events, turn_end, root_job, Block, added, begun, ran, folded, Standing, at_first, after_block, after_blocks, begun_priority, folded_in, folded_of, left_as, turn_applied, fields_of, TurnStands, Stands, AllStand, after_push, all_append, applied_is, both, Digest, noted, said, IsNotFolded, own_tasks_is, tasks_of_is, digest_of-push, bare_remembered, remembered, stage_at, name_spares, EffectSpares, exit_spares, IsApart, IsOther, IsUnnamed, PlaySpares}
+use Rattle.swift_reordering.proofs.Prelude.{◌≡◌, ◌≢◌, ℕ, zero, suc, ◌+◌, ◌<◌, List, [], ◌∷◌, ◌++◌, length, refl, sym, ◌∙◌, ap, ap₂, subst, Bool, true, false, append_assoc, append-nil, arith, Option, Some, None, ◌==◌, ◌&&◌, nat_lt, is_some, not, if◌then◌else◌, unwrap_or, slice_get, AllByRecursion, cons_option, eq-eqb, eqb-true, false≢true, ltb-true, ne_eqb, TaskId, Env, Ending, Fault, Priority, Background, next_of, ScriptView, root_count, root_priority, FrameView, TaskName, Own, EffectView, spawning, detaching, opening, adding, cancelling_task, cancelling_group, ExitView, waiting, asking_next, closing, Step, Ended, Advanced, advanced, RecordView, turn_of, CheckpointView, FoldedView, Event, Root, Begin, Apply, Free, Open, Child, Skip, CancelTask, CancelGroup, Wait, Next, Close, End, Give, Life, task_of, tasks_of, life_of, lived, own_tasks, own_in, waiter_in, child_in, opened_by, parent_by, group_of, own_tasks-push_none, own_tasks-push_same, Counters, can_name, counters, counted, fits_effect, fits_exit, fits_turn, JobFacts, TurnEnd, task, gives, named_task, is_left_out, effect_events, log_after, wait_events, next_events, close_events, end_events, exit_events, turn_end, root_job, Block, added, begun, ran, folded, Standing, at_first, after_block, after_blocks, begun_priority, folded_in, folded_of, left_as, turn_applied, fields_of, TurnStands, Stands, AllStand, after_push, all_append, applied_is, both, Digest, noted, said, IsNotFolded, own_tasks_is, tasks_of_is, digest_of-push, bare_remembered, remembered, stage_at, name_spares, EffectSpares, exit_spares, IsApart, IsOther, IsUnnamed, PlaySpares}
 use Rattle.std.proofs.lemmas.List.{length-append}
 use Rattle.swift_groups.specs.declared.answer.NextResult.{NextResult as Answer}
 use Rattle.swift_groups.specs.declared.answer.NextResult.TheVariants as answer

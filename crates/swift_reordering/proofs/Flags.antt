@@ -1,5 +1,5 @@
 -- A task that is cancelled stays so as a history goes on, and a turn of it that looks away goes on looking away.
-use Rattle.swift_reordering.proofs.Prelude.{◌≡◌, ℕ, List, [], ◌∷◌, ◌++◌, refl, sym, ◌∙◌, ap, subst, Bool, true, false, inl, inr, append_assoc, append-nil, arith, Option, Some, None, ◌&&◌, ◌||◌, is_some, false≢true, Priority, Term, Wanted, Operation, Code, code_at, ScriptView, method_code, root_count, root_priority, FrameView, EffectView, ExitView, Advanced, advanced, CheckpointView, Env, Event, Root, Begin, Apply, Free, Open, Child, Skip, CancelTask, CancelGroup, Wait, Next, Close, End, Give, origin_in, is_cancelled, cancelled_stays, JobFacts, WaitingTaskView, task, gives, root_job, log_after, turn_end, Block, added, begun, ran, folded, Standing, at_first, begun_priority, left_as, turn_applied, after_block, after_blocks, TurnStands, Stands, AllStand, Beyond, beyond_push, written_within, both, all_keep, applied_is, first_counted, after_push, IsWritten, keeps_effects, keeps_exit, term_looks_away, terms_look_away, term_if_looks_away, wanted_looks_away, operation_looks_away, code_looks_away, frames_look_away, job_looks_away, turn_looks_away, stage_at, ends_turn, turn_all}
+use Rattle.swift_reordering.proofs.Prelude.{◌≡◌, ℕ, List, [], ◌∷◌, ◌++◌, refl, sym, ◌∙◌, ap, subst, Bool, true, false, inl, inr, append_assoc, append-nil, arith, Option, Some, None, ◌&&◌, ◌||◌, is_some, false≢true, Priority, Term, Wanted, Operation, Code, code_at, ScriptView, method_code, root_count, root_priority, FrameView, EffectView, ExitView, Advanced, advanced, CheckpointView, Env, Event, Root, Begin, Apply, Free, Child, Give, origin_in, is_cancelled, cancelled_stays, JobFacts, WaitingTaskView, task, gives, root_job, log_after, turn_end, Block, added, begun, ran, folded, Standing, at_first, begun_priority, left_as, turn_applied, after_block, after_blocks, TurnStands, Stands, AllStand, Beyond, beyond_push, written_within, both, all_keep, applied_is, first_counted, after_push, IsWritten, keeps_effects, keeps_exit, term_looks_away, terms_look_away, term_if_looks_away, wanted_looks_away, operation_looks_away, code_looks_away, frames_look_away, job_looks_away, turn_looks_away, stage_at, ends_turn, turn_all}
 use Rattle.script_code.specs.Tree as code
 use Rattle.swift_events.specs.Laws.{MakesNew}
 

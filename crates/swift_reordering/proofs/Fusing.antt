@@ -1,5 +1,5 @@
 -- A history goes on in one in which begins of turns that look away have been left out for later.
-use Rattle.swift_reordering.proofs.Prelude.{◌≡◌, ◌≢◌, ◌⊎◌, ℕ, ℤ, ◌+◌, ◌*◌, ◌<◌, ◌≤◌, List, [], ◌∷◌, ◌++◌, refl, sym, ◌∙◌, ap, ap₂, subst, subst₂, Bool, true, false, inl, inr, append_assoc, append-nil, arith, Option, Some, None, Contains, ◌==◌, is_some, if◌then◌else◌, cons_option, cases_Bool, cases_eq, false≢true, filter_map-append, TASKS, MADE, Env, ScriptView, root_count, executor_count, FrameView, Played, RecordView, replay, CheckpointView, Event, Begin, Life, JobStage, Given, Begun, Applied, Waits, Asks, Closes, tasks_of, life_of, is_cancelled, links_of, IsEnv, room_of, is_begun, is_under_way, JobFacts, task, root_job, root_events, Block, added, begun, ran, folded, Standing, at_first, after_block, after_blocks, with_jobs, record_in, fields_of, RecordStands, Stands, IsOrderly, job_executor, IsPriority, ActorsHaveExecutors, all_begun, keeps_block, after_push, current_is, has_origin, origin_stays, AreInPlace, IsNotFolded, histories_new, same_priority, fields_push, AreNear, AreClose, blurred_stage, stage_at, frame_looks_away, frames_look_away, job_looks_away, turn_looks_away, RunsNext, BeginLate, done_in, done_by, no_env, IsFusedStep, HasExit, unborn_without}
+use Rattle.swift_reordering.proofs.Prelude.{◌≡◌, ◌≢◌, ◌⊎◌, ℕ, ℤ, ◌+◌, ◌*◌, ◌<◌, ◌≤◌, List, [], ◌∷◌, ◌++◌, refl, sym, ◌∙◌, ap, ap₂, subst, subst₂, Bool, true, false, inl, inr, append_assoc, append-nil, arith, Option, Some, None, Contains, ◌==◌, is_some, if◌then◌else◌, cons_option, cases_Bool, cases_eq, false≢true, filter_map-append, TASKS, MADE, Env, ScriptView, root_count, executor_count, FrameView, Played, RecordView, replay, CheckpointView, Event, Begin, Life, JobStage, Given, Begun, tasks_of, life_of, is_cancelled, links_of, IsEnv, room_of, is_begun, is_under_way, JobFacts, task, root_job, root_events, Block, added, begun, ran, folded, Standing, at_first, after_block, after_blocks, with_jobs, record_in, fields_of, RecordStands, Stands, IsOrderly, job_executor, IsPriority, ActorsHaveExecutors, all_begun, keeps_block, after_push, current_is, has_origin, origin_stays, AreInPlace, IsNotFolded, histories_new, same_priority, fields_push, AreNear, AreClose, blurred_stage, stage_at, frame_looks_away, frames_look_away, job_looks_away, turn_looks_away, RunsNext, BeginLate, done_in, done_by, no_env, IsFusedStep, HasExit, unborn_without}
 use Rattle.swift_reordering.proofs.Near.{near_on, near_begin, near_origin, near_tasks, near_stage, near_cancelled, near_links, near_current}
 use Rattle.swift_reordering.proofs.NearEnds.{AreJoint, joint_first, joint_on}
 use Rattle.swift_reordering.proofs.Turning.{LooksAwayIn, MayPlayIn, AppliedClose, in_own, applied_close, record_stands_too, same_play, takes_none}

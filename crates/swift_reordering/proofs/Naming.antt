@@ -1,5 +1,5 @@
 -- The turns of a method that neither waits for a root nor cancels it by its name.
-use Rattle.swift_reordering.proofs.Prelude.{◌≡◌, ℕ, zero, suc, ℤ, List, [], ◌∷◌, ◌++◌, refl, subst, Bool, true, false, Option, Some, None, ◌&&◌, pos, if◌then◌else◌, nat_lt, ◌^◌, slice_get, unwrap_or, AllByRecursion, false≢true, Fault, Turns, Invariant, Resume, Start, Go, Value, STEPS, Term, CallTarget, Wanted, Operation, Code, followed, entry, stands_for, exchanged, ev, evs, is_zero, NextAction, first, ends, does, tests, NumberPlace, Variable, Field, method_code, InvocationView, EffectView, opening, ExitView, calling, waiting, asking_next, closing, yielding, returning, failing, TurnStateView, TurnInputView, AfterStatement, goes, leaves, Played, scene, with_value, invoked, with_invocation, given, make, close_group, wait_for, perform, act, settled, at_limit, on, end_of, caught, raised_by, taken_by, whole_turn, left_by, exits, undoes, all_hold, kept_of, invariants_at, state_at, all_append, both, wanted_spares, cancelled_spares, operation_spares, code_spares, exit_spares, EffectSpares, PlaySpares, TurnsSpare, Cancelled}
+use Rattle.swift_reordering.proofs.Prelude.{◌≡◌, ℕ, zero, suc, ℤ, List, [], ◌∷◌, ◌++◌, refl, subst, Bool, true, false, Option, Some, None, ◌&&◌, pos, if◌then◌else◌, nat_lt, ◌^◌, slice_get, unwrap_or, AllByRecursion, false≢true, Fault, Turns, Invariant, Resume, Start, Go, Value, STEPS, Term, CallTarget, Wanted, Operation, Code, followed, entry, stands_for, exchanged, ev, evs, is_zero, NextAction, first, ends, does, tests, NumberPlace, Variable, Field, method_code, InvocationView, EffectView, opening, ExitView, failing, TurnStateView, TurnInputView, AfterStatement, goes, leaves, Played, scene, with_value, invoked, with_invocation, given, make, close_group, wait_for, perform, act, settled, at_limit, on, end_of, caught, raised_by, taken_by, whole_turn, left_by, exits, undoes, all_hold, kept_of, invariants_at, state_at, all_append, both, wanted_spares, cancelled_spares, operation_spares, code_spares, exit_spares, EffectSpares, PlaySpares, TurnsSpare, Cancelled}
 use Rattle.swift_types.specs.declared.outcome.Resume.TheVariants.{Fault as Raise}
 use Rattle.script_code.specs.Tree as code
 use Rattle.script_code.specs.Layout.{code_at}

@@ -153,9 +153,6 @@ near_begin log t n env under =
 
 -- whether a turn is under way, and current, is seen
 
-pub near_under : (a b : List Event) → AreNear a b → (t : ℕ) → is_under_way (life_of t a).stage ≡ is_under_way (life_of t b).stage
-near_under a b same t = under_way_blurred (life_of t a).stage ∙ ap is_under_way (near_stage a b same t) ∙ sym (under_way_blurred (life_of t b).stage)
-
 pub near_current : (a b : List Event) → AreNear a b → AreInPlace a → AreInPlace b → (t n : ℕ) (resume : Resume) → is_current (life_of t a) n resume ≡ is_current (life_of t b) n resume
 near_current a b same new_a new_b t n resume =
     let one : Life = ((digest_of a).cards t).life in

@@ -49,7 +49,7 @@ pub use Rattle.swift_history.specs.Histories.{AllStand, Block, IsLegal, RecordSt
 pub use Rattle.swift_history.specs.Orderly.{AllAllowed, IsOrderly, IsOrderlyLegal, frames_executor, job_executor}
 pub use Rattle.swift_history.specs.TurnEnds.{AfterTurn, JobFacts, TurnEnd, WaitingTaskView, cancel_events, close_events, close_resume, effect_events, effect_jobs, end_events, exit_events, exit_resume, first_job, gives, is_left_out, jobs_made, log_after, named_task, next_events, next_resume, resume_at, resume_of, root_events, root_job, task, turn_end, wait_events, wait_resume, wake_all, wake_closing, wake_each, wake_owner, wake_parent}
 pub use Rattle.swift_interpreter.specs.Frames.{FrameView}
-pub use Rattle.swift_interpreter.specs.Turn.{AfterStatement, EffectView, ExitView, InvocationView, Played, TurnInputView, TurnStateView, act, add_child, adding, all_hold, asking_next, at_limit, calling, cancelling_group, cancelling_task, cancels, caught, close_group, closing, detaching, end_of, exits, failing, given, goes, invoked, keep, kept, kept_of, leaves, left_by, make, numbered, on, open_group, opening, perform, put, raised_by, received, returning, scene, settled, spawning, standing, taken_by, undoes, wait_for, waiting, whole_turn, with_invocation, with_room, with_value, yielding}
+pub use Rattle.swift_interpreter.specs.Turn.{AfterStatement, EffectView, ExitView, InvocationView, Played, TurnInputView, TurnStateView, act, adding, all_hold, asking_next, at_limit, calling, cancelling_group, cancelling_task, caught, close_group, closing, detaching, end_of, exits, failing, given, goes, invoked, kept, kept_of, leaves, left_by, make, on, opening, perform, raised_by, returning, scene, settled, spawning, standing, taken_by, undoes, wait_for, waiting, whole_turn, with_invocation, with_value, yielding}
 pub use Rattle.swift_interpreter.specs.declared.effect.TaskName.{TaskName}
 pub use Rattle.swift_interpreter.specs.declared.effect.TaskName.TheVariants.{Own}
 pub use Rattle.swift_journal.specs.Checkpoints.{CheckpointView, FoldedView}
@@ -76,7 +76,7 @@ pub use Rattle.swift_reordering.specs.Waiting.{BeginsAfter, BeginsMayWait, IsOfO
 pub use Rattle.swift_script.specs.Scripts.{ScriptView, actor_executor, executor_count, executor_invariants, method_actor, method_code, root_count, root_priority}
 pub use Rattle.swift_turn.specs.Body.{Advanced, HasFrames, TaskView, advanced, called, invariants_at, kept_turn, state_at}
 pub use Rattle.swift_turn.specs.declared.step.Step.{Step}
-pub use Rattle.swift_turn.specs.declared.step.Step.TheVariants.{Await, Ended, Run}
+pub use Rattle.swift_turn.specs.declared.step.Step.TheVariants.{Ended}
 pub use Rattle.swift_types.specs.declared.env.Env.{Env}
 pub use Rattle.swift_types.specs.declared.id.TaskId.{TaskId}
 pub use Rattle.swift_types.specs.declared.limits.TheConstants.{FRAMES, MADE, STEPS, TASKS}

@@ -1,5 +1,5 @@
 -- Room never binds while there are few tasks: the executors' turns have reserved 16 tasks each at most.
-use Rattle.swift_reordering.proofs.Prelude.{◌≡◌, ◌≢◌, ◌⊎◌, ℕ, zero, suc, ◌+◌, ◌*◌, ◌<◌, ◌≤◌, List, [], ◌∷◌, refl, sym, ◌∙◌, ap, subst, Bool, inl, inr, arith, Option, Some, None, ◌==◌, if◌then◌else◌, sum_by, unwrap_or, map, range_with_len, cases_eq, eq-eqb, ne_eqb, false≢true, sum_by-map-range_with_len_more, Env, TASKS, MADE, ScriptView, root_count, executor_count, actor_executor, method_actor, CheckpointView, Event, Life, JobStage, Given, Begun, Applied, Waits, Asks, Closes, tasks_of, life_of, room_held, room_in, reserved_of, room_of, is_begun, JobFacts, Block, added, begun, ran, folded, Standing, at_first, after_block, after_blocks, Stands, job_executor, ActorsHaveExecutors, all_begun, after_push, stage_at, unborn_without}
+use Rattle.swift_reordering.proofs.Prelude.{◌≡◌, ◌≢◌, ◌⊎◌, ℕ, zero, suc, ◌+◌, ◌*◌, ◌<◌, ◌≤◌, List, [], ◌∷◌, refl, sym, ◌∙◌, ap, subst, Bool, inl, inr, arith, Option, Some, ◌==◌, if◌then◌else◌, sum_by, unwrap_or, map, range_with_len, cases_eq, eq-eqb, ne_eqb, false≢true, sum_by-map-range_with_len_more, Env, TASKS, MADE, ScriptView, root_count, executor_count, actor_executor, method_actor, CheckpointView, Event, Life, JobStage, Begun, tasks_of, life_of, room_held, room_in, reserved_of, room_of, is_begun, JobFacts, Block, added, begun, ran, folded, Standing, at_first, after_block, after_blocks, Stands, job_executor, ActorsHaveExecutors, all_begun, after_push, stage_at, unborn_without}
 use Rattle.std.proofs.Math.Nat.{min-eq_left, min-le_left}
 use Rattle.swift_events.specs.Room.{lives_of}
 use Rattle.swift_reordering.proofs.Walks.{IsCourse, along, course_none}

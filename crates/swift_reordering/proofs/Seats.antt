@@ -1,5 +1,5 @@
 -- Executors run one turn at a time: two tasks whose turns have begun are at different executors.
-use Rattle.swift_reordering.proofs.Prelude.{◌≡◌, ◌≢◌, ℕ, List, [], ◌∷◌, ◌++◌, refl, sym, ◌∙◌, ap, subst, Bool, true, false, inl, inr, append_assoc, append-nil, Option, Some, None, ◌==◌, if◌then◌else◌, cases_Bool, cases_eq, eq-eqb, eqb-true, false≢true, ne_eqb, Env, Priority, ScriptView, root_count, root_priority, FrameView, EffectView, ExitView, Advanced, advanced, CheckpointView, Event, Root, Begin, Apply, Free, Open, Child, Skip, CancelTask, CancelGroup, Wait, Next, Close, End, Give, JobStage, Given, Begun, Applied, later, task_of, life_of, stage_in, is_begun, JobFacts, TurnEnd, task, gives, root_job, root_events, exit_events, log_after, turn_end, Block, added, begun, ran, folded, Standing, at_first, after_block, after_blocks, with_jobs, taken, begun_priority, left_as, turn_applied, TurnStands, Stands, IsOrderly, job_executor, after_push, applied_is, begins, keeps_applied, keeps_turn, stage_at, unborn_without, Life}
+use Rattle.swift_reordering.proofs.Prelude.{◌≡◌, ◌≢◌, ℕ, List, [], ◌∷◌, ◌++◌, refl, sym, ◌∙◌, ap, subst, Bool, true, false, inl, inr, append_assoc, append-nil, Option, Some, None, ◌==◌, if◌then◌else◌, cases_Bool, cases_eq, eq-eqb, eqb-true, false≢true, ne_eqb, Env, Priority, ScriptView, root_count, root_priority, FrameView, EffectView, ExitView, Advanced, advanced, CheckpointView, Event, Root, Begin, Apply, Wait, Next, Close, Give, JobStage, Given, Begun, Applied, later, task_of, life_of, stage_in, is_begun, JobFacts, TurnEnd, task, gives, root_job, root_events, exit_events, log_after, turn_end, Block, added, begun, ran, folded, Standing, at_first, after_block, after_blocks, with_jobs, taken, begun_priority, left_as, turn_applied, TurnStands, Stands, IsOrderly, job_executor, after_push, applied_is, begins, keeps_applied, keeps_turn, stage_at, unborn_without, Life}
 use Rattle.swift_reordering.proofs.SeenEnds.{stage_push}
 use Rattle.swift_reordering.proofs.Walks.{IsCourse, along}
 

@@ -1,5 +1,5 @@
 -- The end of a turn on two logs that are one as far as one looks at lives.
-use Rattle.swift_reordering.proofs.Prelude.{◌≡◌, ℕ, ◌+◌, List, [], ◌∷◌, ◌++◌, length, replicate, refl, sym, ◌∙◌, ap, ap₂, subst, subst₂, Bool, true, false, inl, inr, append-nil, append_assoc, ◌⊎◌, Option, Some, None, ◌&&◌, ◌==◌, is_some, if◌then◌else◌, unwrap_or, slice_get, TaskId, Ending, Resume, Priority, Background, ScriptView, root_count, TaskName, Own, EffectView, spawning, detaching, opening, adding, cancelling_task, cancelling_group, ExitView, calling, waiting, asking_next, closing, yielding, returning, failing, Step, Run, Ended, Await, TaskView, Advanced, Event, Apply, Free, Open, Child, Skip, CancelTask, Life, JobStage, Given, Begun, Applied, Waits, Asks, Closes, later, task_of, life_of, stage_in, life_of-push_same, life_of-push_other, AllByRecursion, cases_eq, eq-eqb, ne_eqb, waiters_of, parent_of, JobFacts, WaitingTaskView, AfterTurn, TurnEnd, task, first_job, named_task, is_left_out, cancel_events, effect_events, effect_jobs, log_after, jobs_made, next_events, wait_events, exit_events, wait_resume, next_resume, close_resume, exit_resume, gives, wake_each, wake_closing, wake_owner, wake_parent, wake_all, turn_end, resume_of, AreInPlace, new_prefix, stage_at}
+use Rattle.swift_reordering.proofs.Prelude.{◌≡◌, ℕ, ◌+◌, List, [], ◌∷◌, ◌++◌, length, replicate, refl, sym, ◌∙◌, ap, ap₂, subst, subst₂, Bool, true, false, inl, inr, append-nil, append_assoc, ◌⊎◌, Option, Some, None, ◌&&◌, ◌==◌, is_some, if◌then◌else◌, unwrap_or, slice_get, TaskId, Ending, Resume, Priority, Background, ScriptView, root_count, TaskName, Own, EffectView, spawning, detaching, opening, adding, cancelling_task, cancelling_group, ExitView, waiting, asking_next, closing, Step, Ended, TaskView, Advanced, Event, Apply, Free, Open, Child, Skip, CancelTask, Life, JobStage, Given, Begun, Applied, Waits, Asks, Closes, later, task_of, life_of, stage_in, life_of-push_same, life_of-push_other, AllByRecursion, cases_eq, eq-eqb, ne_eqb, waiters_of, parent_of, JobFacts, WaitingTaskView, AfterTurn, TurnEnd, task, first_job, named_task, is_left_out, cancel_events, effect_events, effect_jobs, log_after, jobs_made, next_events, wait_events, exit_events, wait_resume, next_resume, close_resume, exit_resume, gives, wake_each, wake_closing, wake_owner, wake_parent, wake_all, turn_end, resume_of, AreInPlace, new_prefix, stage_at}
 use Rattle.swift_groups.specs.declared.answer.Close.{Close as Closing}
 use Rattle.swift_interpreter.specs.declared.effect.TaskName.TheVariants.{Root as RootName}
 use Rattle.swift_history.specs.TurnEnds.{followed}

@@ -1,5 +1,5 @@
 -- Whether a turn fits, by two logs that are one as far as one looks at lives.
-use Rattle.swift_reordering.proofs.Prelude.{◌≡◌, ℕ, List, [], ◌∷◌, length, refl, ap, ap₂, Bool, Option, ◌&&◌, nat_lt, not, is_some, ScriptView, root_count, TaskName, Own, EffectView, spawning, detaching, opening, adding, cancelling_task, cancelling_group, ExitView, calling, waiting, asking_next, closing, yielding, returning, failing, Event, Counters, counters, can_name, can_use, can_run, fits_effect, counted, fits_exit, fits_turn, Life}
+use Rattle.swift_reordering.proofs.Prelude.{◌≡◌, ℕ, List, [], ◌∷◌, length, refl, ap, ap₂, Bool, Option, ◌&&◌, nat_lt, not, is_some, ScriptView, root_count, TaskName, Own, EffectView, adding, cancelling_task, cancelling_group, ExitView, waiting, asking_next, closing, Event, Counters, counters, can_name, can_use, can_run, fits_effect, counted, fits_exit, fits_turn, Life}
 use Rattle.swift_interpreter.specs.declared.effect.TaskName.TheVariants.{Root as RootName}
 use Rattle.swift_reordering.proofs.Sights.{IsSight, AreSeen, seen_origin, seen_own, seen_opened, seen_closed}
 

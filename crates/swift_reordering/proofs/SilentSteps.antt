@@ -1,5 +1,5 @@
 -- Where a silent turn leads: only the job of its own task changes, or that task has ended.
-use Rattle.swift_reordering.proofs.Prelude.{◌≡◌, ◌≢◌, ℕ, ℤ, ◌+◌, List, [], ◌∷◌, ◌++◌, length, refl, sym, ◌∙◌, ap, ap₂, subst, Bool, true, false, append-nil, Option, Some, None, ◌==◌, ◌||◌, nat_lt, if◌then◌else◌, cons_option, eq-eqb, eqb-true, ne_eqb, false≢true, Env, TaskId, Ending, FRAMES, Depth, Resume, Start, Go, Value, Priority, ScriptView, executor_invariants, FrameView, InvocationView, EffectView, ExitView, calling, waiting, asking_next, closing, yielding, returning, failing, Played, all_hold, TaskView, Advanced, advanced, called, invariants_at, RecordView, turn_of, replay, CheckpointView, Event, Begin, Apply, End, Give, Life, JobStage, Given, Begun, Applied, life_of, parent_of, waiters_of, life_of-push_same, parent_of-push, waiters_of-push_none, JobFacts, WaitingTaskView, AfterTurn, TurnEnd, task, gives, resume_at, resume_of, wake_all, wake_each, wake_parent, turn_end, Block, begun, ran, Standing, at_first, after_block, after_blocks, with_jobs, taken, begun_priority, left_as, fields_of, after_push, applied_is, digest_of, parent_of_is, waiters_of_is, fields_push, stage_at, IsSilentTurn, goes_on_alone, IsApart, ends_task, job_looks_away, turn_looks_away}
+use Rattle.swift_reordering.proofs.Prelude.{◌≡◌, ◌≢◌, ℕ, ℤ, ◌+◌, List, [], ◌∷◌, ◌++◌, length, refl, sym, ◌∙◌, ap, ap₂, subst, Bool, true, false, append-nil, Option, Some, None, ◌==◌, ◌||◌, nat_lt, if◌then◌else◌, cons_option, eq-eqb, eqb-true, ne_eqb, false≢true, Env, TaskId, Ending, FRAMES, Depth, Resume, Start, Go, Value, Priority, ScriptView, executor_invariants, FrameView, InvocationView, EffectView, ExitView, calling, yielding, returning, failing, Played, all_hold, TaskView, Advanced, advanced, called, invariants_at, RecordView, turn_of, replay, CheckpointView, Event, Begin, Apply, End, Give, Life, JobStage, Given, Begun, Applied, life_of, parent_of, waiters_of, life_of-push_same, parent_of-push, waiters_of-push_none, JobFacts, WaitingTaskView, AfterTurn, TurnEnd, task, gives, resume_at, resume_of, wake_all, wake_each, wake_parent, turn_end, Block, begun, ran, Standing, at_first, after_block, after_blocks, with_jobs, taken, begun_priority, left_as, fields_of, after_push, applied_is, digest_of, parent_of_is, waiters_of_is, fields_push, stage_at, IsSilentTurn, goes_on_alone, IsApart, ends_task, job_looks_away, turn_looks_away}
 use Rattle.swift_types.specs.declared.outcome.Ending.TheVariants as ending
 use Rattle.swift_types.specs.declared.outcome.Resume.TheVariants.{Fault as Raise}
 use Rattle.swift_reordering.proofs.Apart.{Apart, LeavesApart, apart_push}
