@@ -1,5 +1,4 @@
 pub mod Prelude
-pub mod Counted
 pub mod CrossesThreads
 pub mod Desks
 pub mod Left

@@ -1,7 +1,7 @@
 -- What the proofs of this crate take from elsewhere.
 pub use Rattle.atomic_table.specs.Seated.{TableId}
 pub use Rattle.script_code.specs.Seen.{rows_of}
-pub use Rattle.std.proofs.Common.{Bool, Contains, Err, IfNone, IfSome, IsErr, IsSome, List, None, Ok, OnOk, Option, Result, Some, [], add-zero, ap, append-nil, append_assoc, arith, cond, count_by, drop, eq-eqb, false, get_or, inl, inr, length, length-append, length-drop, length-set, map, ne_eqb, refl, rules, set, slice_get, slice_index_or, slice_set, subst, suc, sym, take, take-append-drop, true, vec_len, zero, ℕ, ℤ, ⊎_elim, ◌++◌, ◌+◌, ◌-◌, ◌<◌, ◌==◌, ◌∙◌, ◌∷◌, ◌≡◌, ◌≢◌, ◌≤◌, ◌⊎◌}
+pub use Rattle.std.proofs.Common.{Bool, Contains, Err, IfNone, IfSome, IsErr, IsSome, List, None, Ok, OnOk, Option, Result, Some, [], add-zero, ap, append-nil, append_assoc, arith, cond, drop, eq-eqb, false, get_or, inl, inr, length, length-append, length-drop, length-set, map, ne_eqb, refl, rules, set, slice_get, slice_index_or, slice_set, subst, suc, sym, take, take-append-drop, true, vec_len, zero, ℕ, ℤ, ⊎_elim, ◌++◌, ◌+◌, ◌-◌, ◌<◌, ◌==◌, ◌∙◌, ◌∷◌, ◌≡◌, ◌≢◌, ◌≤◌, ◌⊎◌}
 pub use Rattle.std.proofs.lemmas.List.{take_all}
 pub use Rattle.std.proofs.lemmas.List.Elements.{All-more, Contains-append_left, Contains-append_right}
 pub use Rattle.std.proofs.lemmas.Option.{none-some, same_Some, slice_get_read}
@@ -13,7 +13,6 @@ pub use Rattle.std.specs.declared.vec.Vec.{Vec}
 pub use Rattle.swift_course.specs.Reports.{AreAtRest, HasHistory, IsAccountedFor, IsReportOf, Knows, RunsAreOrderly}
 pub use Rattle.swift_course.specs.Seats.{account_parted, gathered, maker_left}
 pub use Rattle.swift_course.specs.Views.{Account, BookFacts, BookKnown, Maker, TurnOrder, at_rest}
-pub use Rattle.swift_events.specs.Events.{is_made}
 pub use Rattle.swift_events.specs.declared.event.Event.{Event}
 pub use Rattle.swift_events.specs.declared.life.Origin.{Origin}
 pub use Rattle.swift_executor.specs.Exec.{DeskView, ExecView, IsBookOf, IsDeskOf, after_run, has_found, has_sent, site_of}

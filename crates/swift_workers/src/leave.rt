@@ -2,7 +2,6 @@
 
 ghost use Rattle.std.specs.Prelude.{◌≡◌, ◌↔◌, ℕ, ◌+◌, Some, None, [], ◌∷◌, length, IfOk, IfSome, IsOk, IsTrue, OnOk};
 ghost use Rattle.swift_script.specs.Scripts.{ScriptView, executor_count, root_count};
-ghost use Rattle.swift_events.specs.Events.{tasks_of};
 ghost use Rattle.swift_history.specs.Orderly.{IsOrderlyLegal};
 ghost use Rattle.swift_certificate.specs.Reports.{report_view};
 ghost use Rattle.swift_executor.specs.Exec.{IsDeskOf, site_of};
@@ -28,19 +27,6 @@ use swift_script::Script;
 use swift_shared_book::{BookLock, BookSeat};
 use swift_tasks::Book;
 use swift_types::{Ending, TaskId};
-
-// How many tasks there are by a log: those of the roots, and those that were made since.
-fn tasks_in(roots: usize, log: &EventLog) -> Option<usize>
-    ensures { IfSome result (λ tasks. tasks ≡ tasks_of roots log.now.events) }
-{
-    let mut tasks = roots;
-    for place in 0..log.len() {
-        if log.event(place).makes_task() {
-            tasks = tasks.checked_add(1)?;
-        }
-    }
-    Some(tasks)
-}
 
 fn is_root(origin: Origin) -> bool
     ensures { IsTrue result ↔ (origin ≡ Origin.Root) }
@@ -70,13 +56,11 @@ fn ending_of(book: &Book, roots: usize, task: TaskId) -> Result<(Origin, Ending)
 
 // Where each task comes from, and how it has ended, in order.
 fn endings_of(alloc: Global, script: &Script, book: &Book) -> Result<Vec<(Origin, Ending)>, Halt>
+    requires { book.now.script ≡ script.now }
     ensures { IfOk result (λ endings. AreEndings (root_count script.now) book.now.log endings.items) }
 {
     let roots = script.root_count();
-    let Some(made) = tasks_in(roots, book.log()) else {
-        return Err(Halt::Unfinished);
-    };
-    let Ok(tasks) = u32::try_from(made) else {
+    let Ok(tasks) = u32::try_from(book.tasks()) else {
         return Err(Halt::Unfinished);
     };
     let mut endings = Vec::new(alloc);
@@ -92,6 +76,7 @@ fn ends_of(
     script: &Script,
     book: Book,
 ) -> Result<(EventLog, Vec<(Origin, Ending)>), Halt>
+    requires { book.script ≡ script.now }
     ensures log { IfOk result (λ r. r.0.events ≡ book.log) }
     ensures endings { IfOk result (λ r. AreEndings (root_count script.now) book.log r.1.items) }
 {
