@@ -26,12 +26,6 @@ turns_end t n i rs vs past = elim (cases_lt i (length rs)) [
 abbrev pub breaks_here : ScriptView → ℕ → ℕ → CheckpointRoomView → List RecordView → Bool
 breaks_here p t n c j = breaks_in t n j (values_from p c.view.fields j)
 
-pub executor_more : (p : ScriptView) (t n i : ℕ) (cs : List CheckpointRoomView) (js : List (List RecordView)) (c : CheckpointRoomView) (j : List RecordView) → i < length cs → i < length js
-    → breaks_at p t n (drop i cs) (drop i js) ≡ (if breaks_here p t n (get_or cs i c) (get_or js i j) then true else breaks_at p t n (drop (i + 1) cs) (drop (i + 1) js))
-executor_more p t n i cs js c j within below =
-    at_drop_more (λ (l : List CheckpointRoomView). breaks_at p t n l (drop i js)) cs i c within
-    ∙ at_drop_more (λ (l : List (List RecordView)). breaks_at p t n (get_or cs i c ∷ drop (i + 1) cs) l) js i j below
-
 no_journals : (p : ScriptView) (t n : ℕ) (cs : List CheckpointRoomView) → breaks_at p t n cs [] ≡ false
 no_journals p t n [] = refl
 no_journals p t n (c ∷ cs) = refl

@@ -38,23 +38,6 @@ is_box p es tops turn undone slot left top width more rest old new left_is top_i
   holds = record { more = more; width = width; rest = rest; is = ap₂ (λ (l t : ℕ). box_text p es turn undone more l t width rest) left_is top_is };
 }
 
--- the box of a turn that has one
-pub box_drawn : (sheet : Sheet) (turn : TurnBox) (placed : PlacedTurn) (slot : ℕ) (old new : PictureText) → own_slot sheet.cells sheet.slots sheet.first placed.moment.column ≡ Some slot
-    → SaysSome (IsBox sheet.script sheet.endings sheet.tops turn placed.is_undone slot) old new → SaysSome (IsDrawn sheet turn placed) old new
-box_drawn sheet turn placed slot old new own box = record {
-  words = box.words;
-  says = box.says;
-  holds = subst (λ (o : Option ℕ). IsDrawnAt sheet turn placed o box.words) (sym own) box.holds;
-}
-
--- a turn that has none
-pub none_drawn : (sheet : Sheet) (turn : TurnBox) (placed : PlacedTurn) (old : PictureText) → own_slot sheet.cells sheet.slots sheet.first placed.moment.column ≡ None → SaysSome (IsDrawn sheet turn placed) old old
-none_drawn sheet turn placed old own = record {
-  words = [];
-  says = says_none old;
-  holds = subst (λ (o : Option ℕ). IsDrawnAt sheet turn placed o []) (sym own) refl;
-}
-
 -- the fold of a cell that is one
 pub fold_said : (c : Cell) (rest : List ℕ) (old new : PictureText) → nat_lt 1 c.turns ≡ true → Says old new (fold_text c.turns ++ rest) → SaysSome (IsFoldOf c (nat_lt 1 c.turns)) old new
 fold_said c rest old new is says = record {
@@ -128,25 +111,6 @@ folds_more cells i c words one lt is fold before more rest =
 pub folds_all : (cells : List Cell) (i : ℕ) (words : List ℕ) → length cells ≤ i → ((more : List ℕ) → AreFolds (drop i cells) more → AreFolds cells (words ++ more)) → AreFolds cells words
 folds_all cells i words past before =
     subst (λ (xs : List ℕ). AreFolds cells xs) (append-nil words) (before [] (subst (λ (cs : List Cell). AreFolds cs []) (sym (drop_all i cells past)) refl))
-
--- the places of one cell more
-pub slots_more : (cells : List Cell) (i : ℕ) (c : Cell) (old new all : List ℕ) → i < length cells → c ≡ get_or cells i c → new ≡ old ++ replicate c.turns i
-    → old ++ slots_from i (drop i cells) ≡ all → new ++ slots_from (i + 1) (drop (i + 1) cells) ≡ all
-slots_more cells i c old new all lt is added before =
-    let rest = slots_from (i + 1) (drop (i + 1) cells) in
-    ap (λ (xs : List ℕ). xs ++ rest) added
-    ∙ append_assoc old (replicate c.turns i) rest
-    ∙ ap (λ (x : Cell). old ++ (replicate x.turns i ++ rest)) is
-    ∙ sym (at_drop_more (λ (cs : List Cell). old ++ slots_from i cs) cells i c lt)
-    ∙ before
-
--- a task that a run does not have has no name
-name_past : (n : ℕ) (p : ScriptView) (es : List (Origin × Ending)) (t : ℕ) → slice_get es t ≡ None → name_within n p es t ≡ []
-name_past zero p es t none = refl
-name_past (suc n) p es t none = ap (name_if (name_within n p es) p es t) none
-
-pub no_name : (p : ScriptView) (es : List (Origin × Ending)) (t : ℕ) → length es ≤ t → [] ≡ task_name p es t
-no_name p es t past = sym (name_past (length es) p es t (slice_get_past es t past))
 
 name_case : (p : ScriptView) (es : List (Origin × Ending)) (names : List (Vec ℕ)) (new name : Vec ℕ) (t : ℕ) → new.items ≡ task_name p es (length names)
     → ((t : ℕ) (name : Vec ℕ) → slice_get names t ≡ Some name → name.items ≡ task_name p es t) → (slice_get names t ≡ Some name) ⊎ ((t ≡ length names) × (name ≡ new)) → name.items ≡ task_name p es t

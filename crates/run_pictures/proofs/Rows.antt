@@ -42,13 +42,6 @@ pub no_difference : (changes : List Change) (actor : ℕ) (before after : List �
 no_difference changes actor before after same =
     sym (ap (λ (ys : List ℤ). changes ++ row_differences actor 0 ys after) same ∙ ap (λ (d : List Change). changes ++ d) (same_row actor 0 after) ∙ append-nil changes)
 
--- the fields of a row from one on, and where one row ends
-pub row_more : (actor i : ℕ) (xs ys : List ℤ) → i < length xs → i < length ys
-    → row_differences actor i (drop i xs) (drop i ys) ≡ difference actor i (get_or xs i (pos 0)) (get_or ys i (pos 0)) ++ row_differences actor (i + 1) (drop (i + 1) xs) (drop (i + 1) ys)
-row_more actor i xs ys within below =
-    at_drop_more (λ (l : List ℤ). row_differences actor i l (drop i ys)) xs i (pos 0) within
-    ∙ at_drop_more (λ (bs : List ℤ). row_differences actor i (get_or xs i (pos 0) ∷ drop (i + 1) xs) bs) ys i (pos 0) below
-
 row_none : (actor field : ℕ) (xs : List ℤ) → row_differences actor field xs [] ≡ []
 row_none actor field [] = refl
 row_none actor field (x ∷ xs) = refl
