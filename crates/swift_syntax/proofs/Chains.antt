@@ -1,15 +1,18 @@
 -- The statements of a block, up to one that nothing follows yet.
-use Rattle.std.proofs.Common.{◌≡◌, ◌<◌, ◌+◌, ℕ, List, [], ◌∷◌, ◌++◌, length, Some, refl, sym, ap, subst, ◌∙◌, arith, append_assoc}
+use Rattle.std.proofs.Common.{◌≡◌, ◌<◌, ℕ, List, [], ◌∷◌, ◌++◌, length, Some, refl, sym, ap, subst, ◌∙◌, arith, append_assoc}
 use Rattle.std.proofs.lemmas.List.{append-nil, length-append, set_at}
 use Rattle.std.specs.List.{slice_get}
 use Rattle.std.specs.Prelude.{IsNone, slice_set}
 use Rattle.swift_syntax.specs.declared.reader.Reader.{Reader}
 use Rattle.swift_syntax.specs.declared.sign.Sign.TheVariants as sign
+use Rattle.swift_syntax.specs.declared.token.TokenKind.TheVariants as kind
 use Rattle.swift_syntax.specs.declared.tree.Stmt.{Stmt}
+use Rattle.swift_syntax.specs.declared.word.Word.TheVariants as word
+use Rattle.swift_syntax.specs.Expressions.{kind_at}
 use Rattle.swift_syntax.specs.ReadersInside.{Adds, AddsStmt, Extends, Grows, IsBegun, IsLinked, lexed_of, source_with, with_next}
-use Rattle.swift_syntax.specs.Statements.{Lexed, Row, Separates, SpellsRest, SpellsStmt, a_sign}
+use Rattle.swift_syntax.specs.Statements.{Lexed, Row, Separates, SpellsElse, SpellsRest, SpellsStmt, a_key, a_sign}
 use Rattle.swift_syntax.specs.Statements as swift
-use Rattle.swift_syntax.proofs.Grown.{extends_of, extends_on, get_more, get_put}
+use Rattle.swift_syntax.proofs.Grown.{extends_of, extends_on, get_more, get_put, grows_same}
 use Rattle.swift_syntax.proofs.Statements.{IsMore, stmt_stays}
 use Rattle.swift_syntax.proofs.Steps.{Took, lexed_on, more_read}
 
@@ -72,7 +75,7 @@ chain_first {r} {s} {t} {u} {last} {p} (no_link same k) begun e_t d g sep =
     let begun_s : IsBegun s = rw same begun in
     let far : 0 < p = rw (d.place_is, length-append s.tree.value.stmts.items d.more) (omega (arith, begun_s)) in
     links d.more d.made (ap (λ v. v.items) g.stmts ∙ d.stmts ∙ ap (λ xs. (xs ++ d.more) ++ d.made ∷ []) same) (d.place_is ∙ ap (λ xs. length (xs ++ d.more)) same) d.next far
-      (λ n e xs l q ys j rest. k n (extends_on e_t (extends_on (extends_of g) e)) ((xs ++ d.more) ++ with_next q d.made ∷ ys) j p (one_on s t u n d begun_s g sep e xs (l ∙ sym (ap length same)) q ys j rest))
+    (λ n e xs l q ys j rest. k n (extends_on e_t (extends_on (extends_of g) e)) ((xs ++ d.more) ++ with_next q d.made ∷ ys) j p (one_on s t u n d begun_s g sep e xs (l ∙ sym (ap length same)) q ys j rest))
 chain_first (links ms made at place next begun k) b e_t d g sep = absurd (omega (arith, begun))
 
 -- where the last statement stands, and what stands behind it
@@ -100,11 +103,45 @@ chain_next {r} {s} {t} {u} {v} {first} {last} {p} (links ms made at place next b
     let now : v.tree.value.stmts.items ≡ (base ++ (ms ++ after ∷ d.more)) ++ d.made ∷ [] = link.stmts made found ∙ ap (λ xs. slice_set xs last after) before ∙ changed ∙ folded base ms d.more (d.made ∷ []) after in
     let long : p ≡ length (base ++ (ms ++ after ∷ d.more)) = d.place_is ∙ ap (λ ys. length (ys ++ d.more)) at ∙ lengths base ms d.more made after in
     links (ms ++ after ∷ d.more) d.made now long d.next begins
-      (λ n e xs l q ys j rest.
-          let e_u = extends_on x e in
-          let zs = (xs ++ ms) ++ after ∷ [] in
-          let as_one : (xs ++ (ms ++ after ∷ d.more)) ++ with_next q d.made ∷ ys ≡ (zs ++ d.more) ++ with_next q d.made ∷ ys = sym (folded xs ms d.more (with_next q d.made ∷ ys) after) ∙ sym (seam xs ms d.more (with_next q d.made ∷ ys) after) in
-          let behind : SpellsRest (source_with n ((zs ++ d.more) ++ with_next q d.made ∷ ys)) u.at j q = subst (λ i. SpellsRest (source_with n ((zs ++ d.more) ++ with_next q d.made ∷ ys)) i j q) link.at (subst (λ ws. SpellsRest (source_with n ws) v.at j q) as_one rest) in
-          let here : SpellsRest (source_with n ((zs ++ d.more) ++ with_next q d.made ∷ ys)) s.at j p = one_on s t u n d begun g sep e_u zs (as_long xs base ms after made l ∙ sym (ap length at)) q ys j behind in
-          let whole = k n (extends_on e_t (extends_on (extends_of g) e_u)) xs l p (d.more ++ with_next q d.made ∷ ys) j (subst (λ ws. SpellsRest (source_with n ws) s.at j p) (seam xs ms d.more (with_next q d.made ∷ ys) after) here) in
-          subst (λ ws. SpellsRest (source_with n ws) r.at j first) (folded xs ms d.more (with_next q d.made ∷ ys) after) whole)
+    (λ n e xs l q ys j rest.
+    let e_u = extends_on x e in
+    let zs = (xs ++ ms) ++ after ∷ [] in
+    let as_one : (xs ++ (ms ++ after ∷ d.more)) ++ with_next q d.made ∷ ys ≡ (zs ++ d.more) ++ with_next q d.made ∷ ys = sym (folded xs ms d.more (with_next q d.made ∷ ys) after) ∙ sym (seam xs ms d.more (with_next q d.made ∷ ys) after) in
+    let behind : SpellsRest (source_with n ((zs ++ d.more) ++ with_next q d.made ∷ ys)) u.at j q = subst (λ i. SpellsRest (source_with n ((zs ++ d.more) ++ with_next q d.made ∷ ys)) i j q) link.at (subst (λ ws. SpellsRest (source_with n ws) v.at j q) as_one rest) in
+    let here : SpellsRest (source_with n ((zs ++ d.more) ++ with_next q d.made ∷ ys)) s.at j p = one_on s t u n d begun g sep e_u zs (as_long xs base ms after made l ∙ sym (ap length at)) q ys j behind in
+    let whole = k n (extends_on e_t (extends_on (extends_of g) e_u)) xs l p (d.more ++ with_next q d.made ∷ ys) j (subst (λ ws. SpellsRest (source_with n ws) s.at j p) (seam xs ms d.more (with_next q d.made ∷ ys) after) here) in
+    subst (λ ws. SpellsRest (source_with n ws) r.at j first) (folded xs ms d.more (with_next q d.made ∷ ys) after) whole)
+
+pub chain_begun : {r s : Reader} {first last : ℕ} → Chain r s first last → IsBegun r → IsBegun s
+chain_begun (no_link same k) b = rw same b
+chain_begun {r} (links ms made at place next begun k) b = rw (at, length-append (r.tree.value.stmts.items ++ ms) (made ∷ []), length-append r.tree.value.stmts.items ms) (omega (arith, b))
+
+-- a statement that is read and put after the last one, or begins the block
+pub chain_follows : {r s t u v : Reader} {first last p result : ℕ} → Chain r s first last → IsBegun r → Extends s t → (IsBegun s → AddsStmt s t s.at p) → Grows t u → Separates (lexed_of u) t.at u.at → (first ≡ 0 → (result ≡ p) × (v ≡ u)) → (0 < first → (result ≡ first) × IsLinked u v last p) → Extends u v → Chain r v result p
+chain_follows {r} {s} {t} {u} {v} {first} {last} {p} {result} (no_link same k) b e_t reads g sep begins follows x =
+    let begun_s : IsBegun s = rw same b in
+    let it = begins refl in
+    let chain : Chain r u p p = chain_first {last = last} (no_link {last = last} same k) b e_t (reads begun_s) g sep in
+    subst (λ q. Chain r v q p) (sym it.0) (subst (λ w. Chain r w p p) (sym it.1) chain)
+chain_follows {r} {s} {t} {u} {v} {first} {last} {p} {result} (links ms made at place next begun k) b e_t reads g sep begins follows x =
+    let chain = links ms made at place next begun k in
+    let it = follows begun in
+    let begun_s = chain_begun chain b in
+    subst (λ q. Chain r v q p) (sym it.0) (chain_next chain begun begun_s e_t (reads begun_s) g sep it.1 x)
+
+-- an `if` behind `else`
+pub else_read : (r s t : Reader) {p : ℕ} → (row : Took r s (λ a. Row a.lexed (a_key word.Else ∷ []) r.at s.at)) → kind_at s.tokens.now s.at ≡ kind.Key word.If → Extends s t → AddsStmt s t s.at p → IsNone t.refused → IsBegun s → Adds r t (λ a. SpellsElse a r.at t.at p)
+else_read r s t {p} row is_if e d n begun =
+    let same : s.tree.value.stmts.items ≡ r.tree.value.stmts.items = ap (λ v. v.items) row.grows.stmts in
+    let far : 0 < p = rw (d.place_is, length-append s.tree.value.stmts.items d.more) (omega (arith, begun)) in
+    let there : kind_at t.tokens.now s.at ≡ kind.Key word.If = ap (λ ts. kind_at ts.now s.at) e.tokens ∙ is_if in
+    record {
+      more = d.more ++ d.made ∷ [];
+      stmts = d.stmts ∙ ap (λ xs. (xs ++ d.more) ++ d.made ∷ []) same ∙ append_assoc r.tree.value.stmts.items d.more (d.made ∷ []);
+      holds = λ xs l.
+          let long : length xs ≡ length s.tree.value.stmts.items = l ∙ sym (ap length same) in
+          let read = stmt_stays _ _ (more_read t t (xs ++ d.more) (d.made ∷ []) (extends_of (grows_same t))) (d.spelled xs long) in
+          let found = get_seam (xs ++ d.more) [] d.made p (d.place_is ∙ sym (same_long xs s.tree.value.stmts.items d.more long)) in
+          let other : SpellsElse (source_with t ((xs ++ d.more) ++ d.made ∷ [])) r.at t.at p = swift.else_if {made = d.made} (row_read s t e (row.holds (e.refused n) [])) there read found far d.end d.next in
+          subst (λ ys. SpellsElse (source_with t ys) r.at t.at p) (append_assoc xs d.more (d.made ∷ [])) other;
+    }

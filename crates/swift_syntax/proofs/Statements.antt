@@ -1,10 +1,6 @@
 -- What of statements stays where more is read, and how what is read piece by piece is read as a whole.
-use Rattle.std.proofs.Common.{◌≡◌, ◌≢◌, ◌<◌, ℕ, Bool, true, false, List, [], ◌∷◌, ◌++◌, length, Option, Some, refl, sym, ap, subst, ◌∙◌, arith, append_assoc}
-use Rattle.std.proofs.lemmas.List.{append-nil, length-append}
+use Rattle.std.proofs.Common.{◌≡◌, ◌≢◌, ℕ, Bool, true, false, List, [], ◌∷◌, ◌++◌, Some, sym, subst}
 use Rattle.std.specs.List.{slice_get}
-use Rattle.std.specs.Prelude.{IsNone}
-use Rattle.swift_syntax.specs.declared.reader.Reader.{Reader}
-use Rattle.swift_syntax.specs.declared.sign.Sign.{Sign}
 use Rattle.swift_syntax.specs.declared.closure.ClosureHead.{ClosureHead}
 use Rattle.swift_syntax.specs.declared.closure.HeadForm.{HeadForm}
 use Rattle.swift_syntax.specs.declared.sign.Sign.TheVariants as sign
@@ -15,11 +11,10 @@ use Rattle.swift_syntax.specs.declared.tree.Stmt.{Stmt}
 use Rattle.swift_syntax.specs.declared.tree.StmtForm.{StmtForm}
 use Rattle.swift_syntax.specs.declared.tree.ValueType.{ValueType}
 use Rattle.swift_syntax.specs.declared.word.Word.TheVariants as word
-use Rattle.swift_syntax.specs.Expressions.{Reads, SpellsExpr, SpellsOperands, SwiftTree, StandsAt, after, kind_at}
-use Rattle.swift_syntax.specs.ReadersInside.{Adds, Extends, Grows, IsBegun, lexed_of, source_with, taken}
+use Rattle.swift_syntax.specs.Expressions.{Reads, SpellsExpr, SpellsOperands, SwiftTree, StandsAt, kind_at}
 use Rattle.swift_syntax.specs.Statements.{IsExpr, IsSum, IsTest, Lexed, Row, Separates, Source, SpellsBlock, SpellsCovered, SpellsDeclared, SpellsElse, SpellsFront, SpellsGroup, SpellsHead, SpellsInto, SpellsNext, SpellsPerhaps, SpellsPriority, SpellsRange, SpellsRest, SpellsStmt, SpellsTarget, SpellsTests, Want, a_key, a_name, a_sign, assigning_in, begins_line, ends_return, spells_at, the_word}
 use Rattle.swift_syntax.specs.Statements as swift
-use Rattle.swift_syntax.proofs.Grown.{extends_of, extends_on, get_more, stands_more}
+use Rattle.swift_syntax.proofs.Grown.{get_more, stands_more}
 
 -- More is read behind what was.
 pub record IsMore (s t : Source) : Type 0 where

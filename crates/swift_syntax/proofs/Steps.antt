@@ -1,5 +1,5 @@
 -- What is read piece by piece is read as a whole.
-use Rattle.std.proofs.Common.{◌≡◌, ◌≢◌, ◌<◌, ℕ, Bool, true, false, List, [], ◌∷◌, ◌++◌, length, refl, sym, ap, subst, ◌∙◌, arith, append_assoc, Some}
+use Rattle.std.proofs.Common.{◌≡◌, ◌≢◌, ℕ, Bool, true, false, List, [], ◌∷◌, ◌++◌, length, refl, sym, ap, subst, ◌∙◌, arith, append_assoc, Some}
 use Rattle.std.proofs.lemmas.List.{append-nil, length-append}
 use Rattle.std.proofs.lemmas.Bool.{false≢true}
 use Rattle.std.specs.List.{slice_get}
@@ -8,6 +8,7 @@ use Rattle.swift_syntax.specs.declared.reader.Reader.{Reader}
 use Rattle.swift_syntax.specs.declared.sign.Sign.{Sign}
 use Rattle.swift_syntax.specs.declared.token.TokenKind.TheVariants as kind
 use Rattle.swift_syntax.specs.declared.sign.Sign.TheVariants as sign
+use Rattle.swift_syntax.specs.declared.tree.Assigning.{Assigning}
 use Rattle.swift_syntax.specs.declared.tree.ExprForm.{ExprForm}
 use Rattle.swift_syntax.specs.declared.tree.ExprForm.TheVariants as form
 use Rattle.swift_syntax.specs.declared.tree.Stmt.{Stmt}
@@ -15,7 +16,7 @@ use Rattle.swift_syntax.specs.declared.tree.StmtForm.{StmtForm}
 use Rattle.swift_syntax.specs.declared.word.Word.{Word}
 use Rattle.swift_syntax.specs.Expressions.{SpellsExpr, SpellsOperands, Reads, after, kind_at}
 use Rattle.swift_syntax.specs.ReadersInside.{Adds, AddsStmt, Extends, Grows, IsBegun, IsPut, IsStmtPut, lexed_of, source_with, taken, takes_if}
-use Rattle.swift_syntax.specs.Statements.{Is, IsExpr, IsSum, IsTest, Lexed, Row, Source, SpellsPerhaps, SpellsStmt, SpellsTests, Want, a_key, a_name, a_sign, spells_at, the_word}
+use Rattle.swift_syntax.specs.Statements.{Is, IsExpr, IsSum, IsTest, Lexed, Row, Source, SpellsPerhaps, SpellsStmt, SpellsTests, Want, a_key, a_name, a_sign, assigning_in, spells_at, the_word}
 use Rattle.swift_syntax.specs.Statements as swift
 use Rattle.swift_syntax.proofs.Grown.{extends_of, extends_on, grows_on, grows_same, put_there}
 use Rattle.swift_syntax.proofs.Refused.{grows_taken}
@@ -59,18 +60,18 @@ also r s t {P} {Q} stays p q =
     record {
       extends = extends_on p.extends q.extends;
       adds = λ n begun.
-        let d = p.adds (q.extends.refused n) begun in
-        let begun_s : IsBegun s = rw (d.stmts, length-append r.tree.value.stmts.items d.more) (omega (arith, begun)) in
-        let e = q.adds n begun_s in
-        record {
-          more = d.more ++ e.more;
-          stmts = e.stmts ∙ (ap (λ ys. ys ++ e.more) d.stmts ∙ append_assoc r.tree.value.stmts.items d.more e.more);
-          holds = λ xs l.
-              let long : length (xs ++ d.more) ≡ length s.tree.value.stmts.items = rw (d.stmts, length-append xs d.more, length-append r.tree.value.stmts.items d.more, l) refl in
-              let first : P (source_with t ((xs ++ d.more) ++ e.more)) = stays (source_with s (xs ++ d.more)) _ (more_read s t (xs ++ d.more) e.more q.extends) (d.holds xs l) in
-              let rest : Q (source_with t ((xs ++ d.more) ++ e.more)) = e.holds (xs ++ d.more) long in
-              subst (λ ys. P (source_with t ys) × Q (source_with t ys)) (append_assoc xs d.more e.more) (first, rest);
-        };
+          let d = p.adds (q.extends.refused n) begun in
+          let begun_s : IsBegun s = rw (d.stmts, length-append r.tree.value.stmts.items d.more) (omega (arith, begun)) in
+          let e = q.adds n begun_s in
+          record {
+            more = d.more ++ e.more;
+            stmts = e.stmts ∙ (ap (λ ys. ys ++ e.more) d.stmts ∙ append_assoc r.tree.value.stmts.items d.more e.more);
+            holds = λ xs l.
+                let long : length (xs ++ d.more) ≡ length s.tree.value.stmts.items = rw (d.stmts, length-append xs d.more, length-append r.tree.value.stmts.items d.more, l) refl in
+                let first : P (source_with t ((xs ++ d.more) ++ e.more)) = stays (source_with s (xs ++ d.more)) _ (more_read s t (xs ++ d.more) e.more q.extends) (d.holds xs l) in
+                let rest : Q (source_with t ((xs ++ d.more) ++ e.more)) = e.holds (xs ++ d.more) long in
+                subst (λ ys. P (source_with t ys) × Q (source_with t ys)) (append_assoc xs d.more e.more) (first, rest);
+          };
     }
 
 pub step_as : {r s : Reader} {P Q : Source → Type 0} → ((a : Source) → P a → Q a) → Step r s P → Step r s Q
@@ -142,8 +143,8 @@ pub took_expr : (r s : Reader) (p : ℕ) → (IsNone s.refused → Reads (Spells
 took_expr r s p d g = record { grows = g; holds = λ n xs. d n }
 
 -- a statement that is put behind what was read of it
-pub stmt_read : (r s t : Reader) {f : StmtForm} {own p : ℕ} {a b : Bool} → Step r s (λ x. SpellsStmt x r.at s.at f own a b) → (IsNone t.refused → IsStmtPut s t (record { form = f; token = own; end = s.at; next = 0; is_awaited = a; is_tried = b }) p) → Extends s t → IsNone t.refused → IsBegun r → AddsStmt r t r.at p
-stmt_read r s t {f} {own} {p} {a} {b} step puts e n begun =
+pub stmt_read : (r s t : Reader) {f : StmtForm} {i own p : ℕ} {a b : Bool} → Step r s (λ x. SpellsStmt x i s.at f own a b) → (IsNone t.refused → IsStmtPut s t (record { form = f; token = own; end = s.at; next = 0; is_awaited = a; is_tried = b }) p) → Extends s t → IsNone t.refused → IsBegun r → AddsStmt r t i p
+stmt_read r s t {f} {i} {own} {p} {a} {b} step puts e n begun =
     let made : Stmt = record { form = f; token = own; end = s.at; next = 0; is_awaited = a; is_tried = b } in
     let d = step.adds (e.refused n) begun in
     let put = puts n in
@@ -154,7 +155,7 @@ stmt_read r s t {f} {own} {p} {a} {b} step puts e n begun =
       place_is = put.behind ∙ ap length d.stmts;
       next = refl;
       end = sym put.at;
-      spelled = λ xs l. subst (λ j. SpellsStmt (source_with t (xs ++ d.more)) r.at j f own a b) (sym put.at) (stmt_stays _ _ (same_read s t (xs ++ d.more) e) (d.holds xs l));
+      spelled = λ xs l. subst (λ j. SpellsStmt (source_with t (xs ++ d.more)) i j f own a b) (sym put.at) (stmt_stays _ _ (same_read s t (xs ++ d.more) e) (d.holds xs l));
     }
 
 -- a statement that is read behind what adds none
@@ -190,13 +191,13 @@ took_line r s e f g =
     record { grows = g; holds = λ n xs. (swift.no_token (sym (ap (λ x. x.at) (e n))), subst (λ x. swift.begins_line (lexed_of x) x.at ≡ false) (sym (e n)) (f n)) }
 
 -- the pieces of a statement make it
-pub took_stmt : (r s : Reader) {P : Source → Type 0} {f : StmtForm} {own : ℕ} {x y : Bool} → ((a : Source) → P a → SpellsStmt a r.at s.at f own x y) → Took r s P → Step r s (λ a. SpellsStmt a r.at s.at f own x y)
+pub took_stmt : (r s : Reader) {P : Source → Type 0} {f : StmtForm} {i own : ℕ} {x y : Bool} → ((a : Source) → P a → SpellsStmt a i s.at f own x y) → Took r s P → Step r s (λ a. SpellsStmt a i s.at f own x y)
 took_stmt r s make d = step_of r s (took_as make d)
 
-pub stmt_of : (r s : Reader) {P : Source → Type 0} {f : StmtForm} {own : ℕ} {x y : Bool} → ((a : Source) → P a → SpellsStmt a r.at s.at f own x y) → Step r s P → Step r s (λ a. SpellsStmt a r.at s.at f own x y)
+pub stmt_of : (r s : Reader) {P : Source → Type 0} {f : StmtForm} {i own : ℕ} {x y : Bool} → ((a : Source) → P a → SpellsStmt a i s.at f own x y) → Step r s P → Step r s (λ a. SpellsStmt a i s.at f own x y)
 stmt_of r s make d = step_as make d
 
-no_row : (l : Lexed) {i j : ℕ} → Row l [] i j → i ≡ j
+pub no_row : (l : Lexed) {i j : ℕ} → Row l [] i j → i ≡ j
 no_row l (swift.no_token e) = e
 
 pub line_first : (l : Lexed) {i j : ℕ} → Row l [] i j → swift.begins_line l j ≡ false → swift.begins_line l i ≡ false
@@ -227,3 +228,26 @@ test_read r s d g = record { extends = extends_of g; adds = λ n b. d n }
 -- a row of tokens, and what is read behind it
 pub row_also : (r s t : Reader) {ws : List Want} {Q : Source → Type 0} → Took r s (λ a. Row a.lexed ws r.at s.at) → Step s t Q → Step r t (λ a. Row a.lexed ws r.at s.at × Q a)
 row_also r s t {ws} d e = also r s t (row_stays ws r.at s.at) (step_of r s d) e
+
+-- the sign of an assignment behind a name
+pub took_assigning : (r s e t : Reader) {how : Assigning} → (IsNone s.refused → s ≡ taken r) → Grows r s → (IsNone e.refused → e ≡ s) → Grows s e → t ≡ taken e → assigning_in (kind_at r.tokens.now (after r.at)) ≡ Some how → Took s t (λ a. (assigning_in (kind_at a.lexed.tokens s.at) ≡ Some how) × (after s.at ≡ t.at))
+took_assigning r s e t {how} named g even h took sign_is =
+    let k = grows_taken took in
+    record {
+      grows = grows_on h k;
+      holds = λ n xs.
+          let n_e = k.refused n in
+          let at : s.at ≡ after r.at = ap (λ x. x.at) (named (h.refused n_e)) in
+          let same : t.tokens ≡ r.tokens = (grows_on g (grows_on h k)).tokens in
+          let kept : assigning_in (kind_at t.tokens.now s.at) ≡ assigning_in (kind_at r.tokens.now s.at) = ap (λ ts. assigning_in (kind_at ts.now s.at)) same in
+          let moved : assigning_in (kind_at r.tokens.now s.at) ≡ assigning_in (kind_at r.tokens.now (after r.at)) = ap (λ p. assigning_in (kind_at r.tokens.now p)) at in
+          let next : t.at ≡ after s.at = ap (λ x. x.at) took ∙ ap (λ x. after x.at) (even n_e) in
+          (kept ∙ moved ∙ sign_is, sym next);
+    }
+
+-- a statement's token is where it is
+pub told_by : (r s : Reader) {f : StmtForm} {own i p : ℕ} {a b : Bool} → own ≡ i → IsStmtPut r s (record { form = f; token = own; end = r.at; next = 0; is_awaited = a; is_tried = b }) p → IsStmtPut r s (record { form = f; token = i; end = r.at; next = 0; is_awaited = a; is_tried = b }) p
+told_by r s {f} {p = p} {a = a} {b = b} e put = subst (λ x. IsStmtPut r s (record { form = f; token = x; end = r.at; next = 0; is_awaited = a; is_tried = b }) p) e put
+
+pub formed_by : (r s : Reader) {f g : StmtForm} {own p : ℕ} {a b : Bool} → f ≡ g → IsStmtPut r s (record { form = f; token = own; end = r.at; next = 0; is_awaited = a; is_tried = b }) p → IsStmtPut r s (record { form = g; token = own; end = r.at; next = 0; is_awaited = a; is_tried = b }) p
+formed_by r s {own = own} {p = p} {a = a} {b = b} e put = subst (λ x. IsStmtPut r s (record { form = x; token = own; end = r.at; next = 0; is_awaited = a; is_tried = b }) p) e put

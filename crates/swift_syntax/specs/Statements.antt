@@ -1,6 +1,6 @@
 -- Which tokens spell which statement and which block of a tree. Of a call, its arguments are left aside, and of a closure the table of the
 -- names in its list. (Own.)
-use Rattle.std.specs.Prelude.{ℕ, ◌≡◌, ◌≢◌, ◌<◌, Bool, true, false, ◌&&◌, ◌||◌, bytes_eq, codes, if◌then◌else◌, length, List, [], ◌∷◌, nat_le, Option, Some, None}
+use Rattle.std.specs.Prelude.{ℕ, ◌≡◌, ◌≢◌, ◌<◌, Bool, true, false, ◌&&◌, bytes_eq, codes, length, List, [], ◌∷◌, nat_le, Option, Some, None}
 use Rattle.std.specs.List.{slice_get, slice_range}
 use Rattle.swift_syntax.specs.Expressions.{Reads, SpellsExpr, SpellsOperands, after, kind_at, token_at}
 use Rattle.swift_syntax.specs.declared.closure.ClosureHead.{ClosureHead}

@@ -1,8 +1,8 @@
 //! Statements.
 
-ghost use Rattle.std.specs.Prelude.{◌≡◌, true, false, IfNone, IfSome, IsFalse, IsNone, IsSome, IsTrue, ℕ};
+ghost use Rattle.std.specs.Prelude.{◌≡◌, ◌<◌, true, false, IfNone, IfSome, IsFalse, IsNone, IsSome, IsTrue, ℕ};
 ghost use Rattle.swift_syntax.specs.Expressions.{kind_at};
-ghost use Rattle.swift_syntax.specs.ReadersInside.{Adds, AddsStmt, Extends, Grows, IsBegun, IsStmtPut, lexed_of};
+ghost use Rattle.swift_syntax.specs.ReadersInside.{Adds, AddsStmt, Extends, Grows, IsBegun, IsLinked, IsStmtPut, lexed_of};
 ghost use Rattle.swift_syntax.specs.Statements.{SpellsBlock, SpellsDeclared, SpellsElse, SpellsInto, SpellsNext, SpellsRange, SpellsRest, SpellsTarget, assigning_in, begins_line, closed_form, closed_token, ends_return};
 ghost use Rattle.swift_syntax.specs.Statements as statements;
 
@@ -83,7 +83,7 @@ fn async_let(reader: &mut Reader<'_>) -> usize
 
 // An assignment of a name, behind `self.` where the flag says so; or a toggle of it.
 fn changed(reader: &mut Reader<'_>, is_own: bool) -> Option<usize>
-    ensures spelled { IsNone reader.new.refused → IfSome result (λ p. (i : ℕ) → SpellsTarget (lexed_of reader.old) i reader.old.at is_own → AddsStmt reader.old reader.new i p) }
+    ensures spelled { IsNone reader.new.refused → IsBegun reader.old → IfSome result (λ p. (i : ℕ) → SpellsTarget (lexed_of reader.old) i reader.old.at is_own → AddsStmt reader.old reader.new i p) }
     ensures none { IfNone result (Grows reader.old reader.new) }
     ensures extends { Extends reader.old reader.new }
 {
@@ -424,7 +424,7 @@ fn target(reader: &mut Reader<'_>) -> bool
 
 // An assignment or a toggle of a field by `self`, or of a name, if one stands at the front.
 fn simple(reader: &mut Reader<'_>) -> Option<usize>
-    ensures spelled { IsNone reader.new.refused → IfSome result (λ p. AddsStmt reader.old reader.new reader.old.at p) }
+    ensures spelled { IsNone reader.new.refused → IsBegun reader.old → IfSome result (λ p. AddsStmt reader.old reader.new reader.old.at p) }
     ensures none { IfNone result (Grows reader.old reader.new) }
     ensures back { IsNone reader.new.refused → IfNone result (reader.new.at ≡ reader.old.at) }
     ensures extends { Extends reader.old reader.new }
@@ -445,7 +445,7 @@ fn simple(reader: &mut Reader<'_>) -> Option<usize>
 }
 
 fn changed_here(reader: &mut Reader<'_>, is_own: bool) -> Option<usize>
-    ensures spelled { IsNone reader.new.refused → IfSome result (λ p. (i : ℕ) → SpellsTarget (lexed_of reader.old) i reader.old.at is_own → AddsStmt reader.old reader.new i p) }
+    ensures spelled { IsNone reader.new.refused → IsBegun reader.old → IfSome result (λ p. (i : ℕ) → SpellsTarget (lexed_of reader.old) i reader.old.at is_own → AddsStmt reader.old reader.new i p) }
     ensures none { IfNone result (Grows reader.old reader.new) }
     ensures extends { Extends reader.old reader.new }
 {
@@ -456,6 +456,19 @@ fn changed_here(reader: &mut Reader<'_>, is_own: bool) -> Option<usize>
         TokenKind::Name => changed(reader, is_own),
         _ => None,
     }
+}
+
+// Puts a statement after the last one of its block, if it is not the first. The place of the first one.
+fn follow(reader: &mut Reader<'_>, first: usize, last: usize, place: usize) -> usize
+    ensures begins { first ≡ 0 → (result ≡ place) × (reader.new ≡ reader.old) }
+    ensures links { 0 < first → (result ≡ first) × IsLinked reader.old reader.new last place }
+    ensures extends { Extends reader.old reader.new }
+{
+    if first == 0 {
+        return place;
+    }
+    reader.link(last, place);
+    first
 }
 
 // The statements up to the closing brace, which is taken too. The first one's place, or 0.
@@ -478,11 +491,7 @@ fn statements(reader: &mut Reader<'_>, blocks: u32) -> usize
         }
         let place = statement(reader, blocks - 1);
         reader.separator();
-        if first == 0 {
-            first = place;
-        } else {
-            reader.link(last, place);
-        }
+        first = follow(reader, first, last, place);
         last = place;
     }
     reader.sign(Sign::CloseBrace);

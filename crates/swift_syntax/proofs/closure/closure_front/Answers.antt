@@ -1,4 +1,4 @@
-use Rattle.std.proofs.Common.{[], ℕ, ap, refl, subst, sym, ◌∙◌}
+use Rattle.std.proofs.Common.{[], ap, refl, subst, sym, ◌∙◌}
 use Rattle.swift_syntax.specs.ReadersInside.{lexed_of}
 use Rattle.swift_syntax.specs.Statements.{SpellsFront, SpellsNames, a_sign}
 use Rattle.swift_syntax.specs.Statements as swift

@@ -1,6 +1,5 @@
-use Rattle.std.proofs.Common.{refl, [], codes, subst}
+use Rattle.std.proofs.Common.{refl, [], codes}
 use Rattle.std.proofs.lemmas.Bool.{false≢true}
-use Rattle.swift_syntax.specs.ReadersInside.{lexed_of}
 use Rattle.swift_syntax.specs.Statements.{SpellsPriority, a_sign}
 use Rattle.swift_syntax.specs.Statements as swift
 use Rattle.swift_syntax.specs.declared.sign.Sign.TheVariants as sign

@@ -1,15 +1,13 @@
-use Rattle.std.proofs.Common.{[], ◌≡◌, ◌≢◌, Some, ap, refl, subst, sym}
+use Rattle.std.proofs.Common.{◌≢◌, refl}
 use Rattle.std.proofs.lemmas.Bool.{false≢true}
-use Rattle.std.specs.List.{slice_get}
 use Rattle.swift_syntax.specs.Expressions.{kind_at}
 use Rattle.swift_syntax.specs.Statements.{SpellsTests, a_sign}
 use Rattle.swift_syntax.specs.Statements as swift
 use Rattle.swift_syntax.specs.declared.sign.Sign.TheVariants as sign
 use Rattle.swift_syntax.specs.declared.token.TokenKind.TheVariants as kind
-use Rattle.swift_syntax.specs.declared.tree.ExprForm.TheVariants as form
-use Rattle.swift_syntax.proofs.Grown.{grows_on, put_there}
+use Rattle.swift_syntax.proofs.Grown.{grows_on}
 use Rattle.swift_syntax.proofs.Refused.{clash}
-use Rattle.swift_syntax.proofs.Statements.{IsMore, row_stays, expr_stays, tests_stay}
+use Rattle.swift_syntax.proofs.Statements.{expr_stays, tests_stay}
 use Rattle.swift_syntax.proofs.Steps.{adds_of, row_then, takes_one, tests_on, then, took_as, took_expr, took_put}
 use Rattle.swift_syntax.proofs.expression.test.Goals as goal
 

@@ -1,4 +1,3 @@
-use Rattle.std.proofs.Common.{IsNone}
 use Rattle.swift_syntax.specs.Statements.{SpellsTests}
 use Rattle.swift_syntax.proofs.Steps.{Took}
 use Rattle.swift_syntax.proofs.expression.test.Given as goal

@@ -1,4 +1,6 @@
-use Rattle.std.proofs.Common.{◌+◌, ◌*◌}
+use Rattle.std.proofs.Common.{◌+◌, ◌*◌, IsNone}
+use Rattle.swift_syntax.specs.ReadersInside.{Extends, IsBegun}
+use Rattle.swift_syntax.proofs.Chains.{Chain}
 use Rattle.swift_syntax.proofs.statement.+statement.Given as goal
 
 abbrev pub decreases-valued : goal.decreases-valued
@@ -30,3 +32,10 @@ decreases-statements l = l.blocks * 8
 
 abbrev pub decreases-block : goal.decreases-block
 decreases-block l = l.blocks * 8 + 1
+
+abbrev pub invariant-statements-loop : goal.invariant-statements-loop
+invariant-statements-loop l =
+    record {
+      extends : Extends l.fn.reader l.reader;
+      chain : IsNone l.reader.refused → IsBegun l.fn.reader → Chain l.fn.reader l.reader l.first l.last;
+    }

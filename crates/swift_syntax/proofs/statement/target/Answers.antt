@@ -1,4 +1,4 @@
-use Rattle.std.proofs.Common.{refl, sym, []}
+use Rattle.std.proofs.Common.{refl}
 use Rattle.swift_syntax.specs.Statements as swift
 use Rattle.swift_syntax.specs.Statements.{a_key, a_sign}
 use Rattle.swift_syntax.specs.declared.sign.Sign.TheVariants as sign

@@ -1,4 +1,4 @@
-use Rattle.std.proofs.Common.{refl, [], true}
+use Rattle.std.proofs.Common.{refl, []}
 use Rattle.std.proofs.lemmas.Bool.{false≢true}
 use Rattle.swift_syntax.specs.Statements.{SpellsType, a_sign}
 use Rattle.swift_syntax.specs.Statements as swift

@@ -13,5 +13,5 @@ returns-then-takes-clause-spelled c = λ n. swift.semicolon ((takes_one c.args.s
 pub returns-then-next-clause-spelled : goal.returns-then-next-clause-spelled
 returns-then-next-clause-spelled c = λ n.
     let there : Separates (lexed_of c.takes.new.self) c.takes.new.self.at c.takes.new.self.at =
-        elim c.then-next.branch [ then-next-via-then-next w ↦ swift.new_line (ap (λ t. t.begins_line) (sym c.here-next.ensures.token) ∙ w.if-next.true) refl | then-next-via-else-next+then-is_sign w ↦ swift.before_brace (w.if-is_sign.ensures.0 refl) refl ] in
+    elim c.then-next.branch [ then-next-via-then-next w ↦ swift.new_line (ap (λ t. t.begins_line) (sym c.here-next.ensures.token) ∙ w.if-next.true) refl | then-next-via-else-next+then-is_sign w ↦ swift.before_brace (w.if-is_sign.ensures.0 refl) refl ] in
     rw (sym c.if-takes.ensures.taken) there
