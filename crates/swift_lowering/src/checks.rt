@@ -158,12 +158,7 @@ pub(crate) fn check_globals(lowering: &mut Lowering<'_>)
 }
 
 // Refuses a literal of another type, where one is given.
-fn check_literal(
-    lowering: &mut Lowering<'_>,
-    wanted: Option<ValueType>,
-    value: usize,
-    name: usize,
-)
+fn check_literal(lowering: &mut Lowering<'_>, wanted: Option<ValueType>, value: usize, name: usize)
     ensures state { Becomes lowering.new (state_of lowering.old) }
     ensures refused { KeepsRefusal lowering.old lowering.new }
 {
