@@ -1,3 +1,4 @@
+pub mod Inputs
 pub mod LastTurns
 pub mod Runs
 pub mod Scheduled

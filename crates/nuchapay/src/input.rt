@@ -1,11 +1,15 @@
 //! The text of a script.
 
+ghost use Rattle.std.specs.Prelude.{◌≡◌, IfErr, IfOk};
+ghost use Rattle.nuchapay.specs.Inputs.{IsReadOf, IsUnreadOf};
+ghost use Rattle.nuchapay.specs.declared.input.NoScript.TheVariants.{Memory};
+
 use crate::output::{say_checked, tell};
 use nuchapay_tool::{
     Checked, FileRefusal, Input, Language, Question, Source, read_input, refused_file,
     refused_file_json,
 };
-use std::alloc::AllocError;
+use std::alloc::{AllocError, Global};
 use std::fs::File;
 use std::io;
 use swift_report::write_all;
@@ -40,6 +44,8 @@ impl From<io::Error> for NoScript {
 }
 
 impl From<AllocError> for NoScript {
+    ghost from_gives = { λ _ e. e ≡ Memory };
+
     fn from(_fault: AllocError) -> NoScript {
         NoScript::Memory
     }
@@ -56,13 +62,32 @@ pub fn name_of(source: Source<'_>) -> &str {
 /// A script; of a text of Swift that which it becomes.
 pub fn script(rt: &HostRuntime, input: Input<'_>) -> Result<ReadScript, NoScript> {
     let text = text_of(rt, input.source)?;
-    if input.language == Language::Script {
-        let places = Vec::new(rt.alloc());
-        return Ok(ReadScript { text, places });
-    }
-    match translate(rt.alloc(), &text)? {
-        Translation::Script(SwiftScript { text, places }) => Ok(ReadScript { text, places }),
-        Translation::Refused(refusal) => Err(NoScript::Refused(text, refusal)),
+    script_in(rt.alloc(), input.language, text)
+}
+
+/// The script that a text of a language is, or becomes. What is read of it afterwards is read as a script, also where it was made of Swift:
+/// so `check` says that such a text is accepted only where the script is that it becomes.
+///
+/// # Errors
+///
+/// `Refused` with the text where the subset of Swift does not take it, and `Memory` where none was left; never `Unread`.
+pub fn script_in(
+    alloc: Global,
+    language: Language,
+    text: Vec<u8>,
+) -> Result<ReadScript, NoScript>
+    ensures read { IfOk result (IsReadOf language text.items) }
+    ensures refused { IfErr result (IsUnreadOf language text.items) }
+{
+    match language {
+        Language::Script => {
+            let places = Vec::new(alloc);
+            Ok(ReadScript { text, places })
+        }
+        Language::Swift => match translate(alloc, &text)? {
+            Translation::Script(SwiftScript { text, places }) => Ok(ReadScript { text, places }),
+            Translation::Refused(refusal) => Err(NoScript::Refused(text, refusal)),
+        },
     }
 }
 
