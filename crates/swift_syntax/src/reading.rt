@@ -1,7 +1,8 @@
 //! Whole files.
 
-ghost use Rattle.std.specs.Prelude.{◌≡◌, ◌<◌, All, IfOk, IfSome, length};
+ghost use Rattle.std.specs.Prelude.{◌≡◌, ◌<◌, All, IfOk, IfSome, None, length};
 ghost use Rattle.std.specs.Option.{option_map};
+ghost use Rattle.swift_syntax.specs.Declarations.{SpellsFile};
 ghost use Rattle.swift_syntax.specs.Lexes.{AreTokensOf};
 ghost use Rattle.swift_syntax.specs.Places.{IsBlamedIn, IsTokenOf, IsTooLarge};
 
@@ -54,6 +55,8 @@ pub fn read_file(alloc: Global, text: &[u8]) -> Result<ReadFile, AllocError>
     ensures lexed { IfOk result (λ file. AreTokensOf text.now file.tokens.items) }
     ensures tokens { IfOk result (λ file. All (IsTokenOf text.now) file.tokens.items) }
     ensures blamed { IfOk result (λ file. IfSome file.refused (IsBlamedIn text.now)) }
+    // Where it is not refused, its tokens are its declarations, statements and expressions, and no others.
+    ensures spelled { IfOk result (λ file. file.refused ≡ None → SpellsFile text.now file.tokens.items file.tree.value) }
     ensures large { IfOk result (λ file. BYTES < length text.now → IsTooLarge (option_map (λ r. r.rule) file.refused)) }
 {
     let tokens = tokens(alloc, text)?;
