@@ -1,4 +1,5 @@
 pub mod Chains
+pub mod Declarations
 pub mod Declaring
 pub mod Grown
 pub mod Numbers
