@@ -40,6 +40,9 @@ with_invariant actor test r = record r { invariants = r.invariants ++ record { a
 abbrev pub with_method : MethodDecl → Rows → Rows
 with_method m r = record r { methods = r.methods ++ m ∷ [] }
 
+abbrev pub with_main : MethodDecl → Rows → Rows
+with_main m r = record r { mains = r.mains ++ m ∷ [] }
+
 -- One parameter is read and put.
 pub record PutsParam (s : Source) (from to : ℕ) (before after : Rows) : Type 0 where
   pub param : ParamDecl

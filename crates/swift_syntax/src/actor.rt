@@ -1,11 +1,11 @@
 //! Actors, with their fields, invariants and methods.
 
-ghost use Rattle.std.specs.Prelude.{[], ◌∷◌, ◌≡◌, IsNone, IsTrue, List, ℕ};
-ghost use Rattle.swift_syntax.specs.Declarations.{IsLiteral, ReadsSuch, SpellsAccess, SpellsActor, SpellsDeclaration, SpellsKeeper, SpellsMain, SpellsMember, SpellsMethod, SpellsParam, SpellsPrivate, SpellsStart};
-ghost use Rattle.swift_syntax.specs.DeclaringInside.{Declares, PutsField, PutsHead, PutsParam, PutsParams, with_field, with_invariant, with_param};
+ghost use Rattle.std.specs.Prelude.{[], ◌∷◌, ◌≡◌, IsNone, IsTrue, List, codes, false, true, ℕ};
+ghost use Rattle.swift_syntax.specs.Declarations.{IsLiteral, ReadsSuch, SpellsAccess, SpellsActor, SpellsDeclaration, SpellsKeeper, SpellsMain, SpellsMember, SpellsMethod, SpellsParam, SpellsPrivate, SpellsResult, SpellsStart, label_of};
+ghost use Rattle.swift_syntax.specs.DeclaringInside.{Declares, PutsField, PutsHead, PutsParam, PutsParams, with_field, with_invariant, with_main, with_param};
 ghost use Rattle.swift_syntax.specs.Expressions.{SpellsExpr, StandsAt, SwiftTree};
 ghost use Rattle.swift_syntax.specs.ReadersInside.{Grows, lexed_of, source_with};
-ghost use Rattle.swift_syntax.specs.StatementsInside.{Row, SpellsType, a_key};
+ghost use Rattle.swift_syntax.specs.StatementsInside.{Row, SpellsType, a_key, spells_at};
 
 use crate::expression::expression;
 use crate::reader::Reader;
@@ -61,7 +61,7 @@ fn access(reader: &mut Reader<'_>) -> Access
 
 // Takes the word that opens a member to its file or its module, if it is there.
 fn open_access(reader: &mut Reader<'_>) -> Access
-    ensures spelled { SpellsAccess (lexed_of reader.new) reader.old.at reader.new.at result }
+    ensures spelled { IsNone reader.new.refused → SpellsAccess (lexed_of reader.new) reader.old.at reader.new.at result }
     ensures grows { Grows reader.old reader.new }
 {
     if reader.takes_key(Word::Fileprivate) {
@@ -124,15 +124,21 @@ fn param_names(reader: &mut Reader<'_>) -> (usize, usize)
     ensures spelled { IsNone reader.new.refused → (k : ℕ) (t : ValueType) → SpellsType (lexed_of reader.new) reader.new.at k t → SpellsParam (lexed_of reader.new) reader.old.at k (record { label = result.0; name = result.1; value_type = t }) }
     ensures grows { Grows reader.old reader.new }
 {
-    let is_open = reader.is_word("_");
     let first = reader.name();
-    let label = if is_open { 0 } else { first };
+    let label = label(reader, first);
     if reader.takes(Sign::Colon) {
         return (label, first);
     }
     let name = reader.name();
     reader.sign(Sign::Colon);
     (label, name)
+}
+
+// The label that the first name of a parameter is: 0 for `_`.
+fn label(reader: &Reader<'_>, name: usize) -> usize
+    ensures { result ≡ label_of (lexed_of reader.now) name }
+{
+    if reader.spells(name, "_") { 0 } else { name }
 }
 
 fn put_param(reader: &mut Reader<'_>, param: ParamDecl)
@@ -334,19 +340,15 @@ fn lone_value(reader: &Reader<'_>, first: usize) -> usize {
 fn method_head(reader: &mut Reader<'_>, actor: usize, access: Access) -> MethodDecl
     ensures { Declares reader.old reader.new (λ s i j r t. PutsHead s actor access i j r t result) }
 {
-    reader.take();
+    reader.key(Word::Func);
     let name = reader.name();
-    let first_param = reader.tree.params.len();
     reader.sign(Sign::Open);
+    let first_param = reader.tree.params.len();
     params(reader);
     let params_end = reader.tree.params.len();
     let is_async = reader.takes_key(Word::Async);
     let is_throwing = reader.takes_key(Word::Throws);
-    let result = if reader.takes(Sign::Arrow) {
-        reader.value_type()
-    } else {
-        ValueType::Void
-    };
+    let result = result_type(reader);
     MethodDecl {
         actor,
         name,
@@ -359,6 +361,17 @@ fn method_head(reader: &mut Reader<'_>, actor: usize, access: Access) -> MethodD
         body: 0,
         end: 0,
     }
+}
+
+// What a method returns.
+fn result_type(reader: &mut Reader<'_>) -> ValueType
+    ensures spelled { IsNone reader.new.refused → SpellsResult (lexed_of reader.new) reader.old.at reader.new.at result }
+    ensures grows { Grows reader.old reader.new }
+{
+    if reader.takes(Sign::Arrow) {
+        return reader.value_type();
+    }
+    ValueType::Void
 }
 
 // A group or a binding that is a whole body is what is returned.
@@ -479,16 +492,37 @@ pub(crate) fn main_method(reader: &mut Reader<'_>, name: usize)
     ensures { Declares reader.old reader.new (λ s. SpellsMain s name) }
 {
     reader.key(Word::Static);
-    if !reader.is_key(Word::Func) {
-        reader.unexpected();
+    let head = method_head(reader, usize::MAX, Access::Open);
+    want_main(reader, head);
+    let body = body(reader);
+    let end = reader.at.saturating_sub(1);
+    put_main(
+        reader,
+        MethodDecl {
+            name,
+            body,
+            end,
+            ..head
+        },
+    );
+}
+
+// Refuses a method that is no `main`.
+fn want_main(reader: &mut Reader<'_>, head: MethodDecl)
+    ensures same { IsNone reader.new.refused → reader.new ≡ reader.old }
+    ensures named { IsNone reader.new.refused → spells_at reader.old.text.now reader.old.tokens.now head.name (codes "main") ≡ true }
+    ensures is_async { IsNone reader.new.refused → head.is_async ≡ true }
+    ensures throws { IsNone reader.new.refused → head.is_throwing ≡ false }
+    ensures grows { Grows reader.old reader.new }
+{
+    if !reader.spells(head.name, "main") || !head.is_async || head.is_throwing {
+        reader.refuse(Rule::Outside, head.name);
     }
-    let mut made = method_head(reader, usize::MAX, Access::Open);
-    if !reader.spells(made.name, "main") || !made.is_async || made.is_throwing {
-        reader.refuse(Rule::Outside, made.name);
-    }
-    made.name = name;
-    made.body = body(reader);
-    made.end = reader.at.saturating_sub(1);
+}
+
+fn put_main(reader: &mut Reader<'_>, made: MethodDecl)
+    ensures { Declares reader.old reader.new (λ s i j r t. (i ≡ j) × (t ≡ with_main made r)) }
+{
     let grown = reader.tree.mains.push(made).is_ok();
     reader.note(grown);
 }

@@ -1,5 +1,6 @@
 use Rattle.std.proofs.Common.{[], ◌∷◌, IsNone, refl, subst, sym}
 use Rattle.swift_syntax.specs.Declarations.{open_public, public_restricted, restricted}
+use Rattle.swift_syntax.specs.ReadersInside.{lexed_of}
 use Rattle.swift_syntax.specs.StatementsInside.{Row, a_key}
 use Rattle.swift_syntax.specs.declared.word.Word.TheVariants as word
 use Rattle.swift_syntax.proofs.Grown.{extends_of, grows_on}
@@ -22,4 +23,8 @@ returns-then-takes_key-3-clause-spelled c = λ n.
 pub returns-then-takes_key-2-clause-spelled : goal.returns-then-takes_key-2-clause-spelled
 returns-then-takes_key-2-clause-spelled c = λ n.
     let opened = takes_one c.takes_key.new.self c.takes_key-2.new.self (a_key word.Public) (c.if-takes_key-2.ensures.found.0 refl) c.if-takes_key-2.ensures.taken in
-    rw c.if-takes_key.ensures.taken at (rw c.if-takes_key-3.ensures.taken (open_public (opened.holds (subst (λ s. IsNone s.refused) c.if-takes_key-3.ensures.taken n) [])))
+    let row : Row (lexed_of c.takes_key-2.new.self) (a_key word.Public ∷ []) c.takes_key.new.self.at c.takes_key-2.new.self.at = opened.holds (subst (λ s. IsNone s.refused) c.if-takes_key-3.ensures.taken n) [] in
+    rw c.if-takes_key-3.ensures.taken (rw c.if-takes_key.ensures.taken at (open_public row))
+
+pub returns-clause-spelled : goal.returns-clause-spelled
+returns-clause-spelled c = λ n. rw c.if-takes_key.ensures.taken at (rw c.if-takes_key-2.ensures.taken at (c.open_access.ensures.spelled n))
