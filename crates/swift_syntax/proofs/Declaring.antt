@@ -171,7 +171,10 @@ so_far_stays i j r t a b m d = record { params = d.params; spelled = subst (λ l
 pub param_put_stays : (i j : ℕ) (r t : Rows) → Stays (λ a. PutsParam a i j r t)
 param_put_stays i j r t a b m d = record { param = d.param; spelled = subst (λ l. SpellsParam l i j d.param) (sym m.lexed) d.spelled; rows = d.rows }
 
-pub rows_on : {r t u : Rows} (ps : List ParamDecl) (p : ParamDecl) → t ≡ record r { params = r.params ++ ps } → u ≡ with_param p t → u ≡ record r { params = r.params ++ (ps ++ p ∷ []) }
-rows_on {r} {t} {u} ps p a b =
+pub rows_none : (r : Rows) → r ≡ record r { params = r.params ++ [] }
+rows_none r = ap (λ ps. record r { params = ps }) (sym (append-nil r.params))
+
+pub rows_on : (r t u : Rows) (ps : List ParamDecl) (p : ParamDecl) → t ≡ record r { params = r.params ++ ps } → u ≡ with_param p t → u ≡ record r { params = r.params ++ (ps ++ p ∷ []) }
+rows_on r t u ps p a b =
     let joined : (r.params ++ ps) ++ p ∷ [] ≡ r.params ++ (ps ++ p ∷ []) = append_assoc r.params ps (p ∷ []) in
     b ∙ (ap (with_param p) a ∙ ap (λ xs. record r { params = xs }) joined)
