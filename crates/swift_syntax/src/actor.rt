@@ -1,6 +1,6 @@
 //! Actors, with their fields, invariants and methods.
 
-ghost use Rattle.std.specs.Prelude.{[], ◌∷◌, ◌≡◌, IsNone, IsTrue, List, codes, false, true, ℕ};
+ghost use Rattle.std.specs.Prelude.{[], ◌∷◌, ◌≡◌, IsNone, IsTrue, List, codes, false, length, true, ℕ};
 ghost use Rattle.swift_syntax.specs.Declarations.{IsLiteral, ReadsSuch, SpellsAccess, SpellsActor, SpellsDeclaration, SpellsKeeper, SpellsMain, SpellsMember, SpellsMethod, SpellsParam, SpellsPrivate, SpellsResult, SpellsStart, label_of};
 ghost use Rattle.swift_syntax.specs.DeclaringInside.{Declares, PutsField, PutsHead, PutsParam, PutsParams, with_field, with_invariant, with_main, with_param};
 ghost use Rattle.swift_syntax.specs.Expressions.{SpellsExpr, StandsAt, SwiftTree};
@@ -343,9 +343,9 @@ fn method_head(reader: &mut Reader<'_>, actor: usize, access: Access) -> MethodD
     reader.key(Word::Func);
     let name = reader.name();
     reader.sign(Sign::Open);
-    let first_param = reader.tree.params.len();
+    let first_param = params_len(reader);
     params(reader);
-    let params_end = reader.tree.params.len();
+    let params_end = params_len(reader);
     let is_async = reader.takes_key(Word::Async);
     let is_throwing = reader.takes_key(Word::Throws);
     let result = result_type(reader);
@@ -361,6 +361,13 @@ fn method_head(reader: &mut Reader<'_>, actor: usize, access: Access) -> MethodD
         body: 0,
         end: 0,
     }
+}
+
+// How many parameters were read.
+fn params_len(reader: &Reader<'_>) -> usize
+    ensures { result ≡ length reader.now.tree.value.params.items }
+{
+    reader.tree.params.len()
 }
 
 // What a method returns.
