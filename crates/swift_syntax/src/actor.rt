@@ -1,7 +1,7 @@
 //! Actors, with their fields, invariants and methods.
 
 ghost use Rattle.std.specs.Prelude.{[], ◌∷◌, ◌≡◌, IsNone, IsTrue, List, codes, false, length, true, ℕ};
-ghost use Rattle.swift_syntax.specs.Declarations.{IsLiteral, ReadsSuch, SpellsAccess, SpellsActor, SpellsDeclaration, SpellsKeeper, SpellsMain, SpellsMember, SpellsMethod, SpellsParam, SpellsPrivate, SpellsResult, SpellsStart, label_of};
+ghost use Rattle.swift_syntax.specs.Declarations.{IsLiteral, ReadsSuch, SpellsAccess, SpellsActor, SpellsDeclaration, SpellsKeeper, SpellsMain, SpellsMember, SpellsMethod, SpellsParam, SpellsPrivate, SpellsResult, SpellsStart, changed_at, label_of, on_executor};
 ghost use Rattle.swift_syntax.specs.DeclaringInside.{Declares, PutsField, PutsHead, PutsParam, PutsParams, with_field, with_invariant, with_main, with_param};
 ghost use Rattle.swift_syntax.specs.Expressions.{SpellsExpr, StandsAt, SwiftTree};
 ghost use Rattle.swift_syntax.specs.ReadersInside.{Grows, lexed_of, source_with};
@@ -294,7 +294,7 @@ fn init(reader: &mut Reader<'_>, actor: usize)
 fn executor(reader: &mut Reader<'_>, actor: usize)
     ensures { Declares reader.old reader.new (λ s. SpellsMember s actor) }
 {
-    reader.take();
+    reader.key(Word::Nonisolated);
     reader.key(Word::Var);
     reader.word("unownedExecutor");
     reader.sign(Sign::Colon);
@@ -306,6 +306,12 @@ fn executor(reader: &mut Reader<'_>, actor: usize)
     reader.sign(Sign::Open);
     reader.sign(Sign::Close);
     reader.sign(Sign::CloseBrace);
+    set_executor(reader, actor, name);
+}
+
+fn set_executor(reader: &mut Reader<'_>, actor: usize, name: usize)
+    ensures { Declares reader.old reader.new (λ s i j r t. (i ≡ j) × (t ≡ record r { actors = changed_at (on_executor name) actor r.actors })) }
+{
     if let Some(made) = reader.tree.actors.get_mut(actor) {
         made.executor = name;
     }
@@ -383,7 +389,8 @@ fn result_type(reader: &mut Reader<'_>) -> ValueType
 
 // A group or a binding that is a whole body is what is returned.
 fn return_lone(reader: &mut Reader<'_>, method: MethodDecl) {
-    if method.result == ValueType::Void {
+    // The place 0 stands for no statement.
+    if method.result == ValueType::Void || method.body == 0 {
         return;
     }
     if let Some(stmt) = reader.tree.stmts.get_mut(method.body) {
