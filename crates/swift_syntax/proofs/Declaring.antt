@@ -201,3 +201,6 @@ access_stays i j x = lexed_stays (λ l. SpellsAccess l i j x)
 
 pub field_stays : (actor : ℕ) (access : Access) (i j : ℕ) (f : FieldDecl) → Stays (λ a. SpellsField a actor access i j f)
 field_stays actor access i j f a b m (a_field {i = i'} {j = j'} {k = k} {m = n} {n = o} {is_var = v} {t = t} {x = x} k_is row type start) = a_field (lexed_stays (λ l. SpellsKeeper l i' j' v) a b m k_is) (row_stays _ _ _ a b m row) (lexed_stays (λ l. SpellsAnnotation l k n t) a b m type) (start_stays n o x a b m start)
+
+pub more_none : (a : Source) → IsMore a a
+more_none a = record { lexed = refl; more_exprs = []; exprs = sym (append-nil a.exprs); more_stmts = []; stmts = sym (append-nil a.stmts) }

@@ -5,6 +5,7 @@ use Rattle.swift_syntax.specs.ReadersInside.{Adds, IsBegun}
 use Rattle.swift_syntax.specs.StatementsInside.{Lexed, Source}
 use Rattle.swift_syntax.specs.declared.reader.Reader.{Reader}
 use Rattle.swift_syntax.specs.declared.tree.Access.{Access}
+use Rattle.swift_syntax.specs.declared.tree.ActorDecl.{ActorDecl}
 use Rattle.swift_syntax.specs.declared.tree.Expr.{Expr}
 use Rattle.swift_syntax.specs.declared.tree.FieldDecl.{FieldDecl}
 use Rattle.swift_syntax.specs.declared.tree.MethodDecl.{MethodDecl}
@@ -39,6 +40,9 @@ with_invariant actor test r = record r { invariants = r.invariants ++ record { a
 
 abbrev pub with_method : MethodDecl → Rows → Rows
 with_method m r = record r { methods = r.methods ++ m ∷ [] }
+
+abbrev pub with_actor : ActorDecl → Rows → Rows
+with_actor a r = record r { actors = r.actors ++ a ∷ [] }
 
 abbrev pub with_main : MethodDecl → Rows → Rows
 with_main m r = record r { mains = r.mains ++ m ∷ [] }

@@ -1,8 +1,8 @@
 //! Actors, with their fields, invariants and methods.
 
 ghost use Rattle.std.specs.Prelude.{[], ◌∷◌, ◌≡◌, IsNone, IsTrue, List, codes, false, length, true, ℕ};
-ghost use Rattle.swift_syntax.specs.Declarations.{IsLiteral, ReadsSuch, SpellsAccess, SpellsActor, SpellsDeclaration, SpellsKeeper, SpellsMain, SpellsMember, SpellsMethod, SpellsParam, SpellsPrivate, SpellsResult, SpellsStart, changed_at, label_of, on_executor};
-ghost use Rattle.swift_syntax.specs.DeclaringInside.{Declares, PutsField, PutsHead, PutsParam, PutsParams, with_field, with_invariant, with_main, with_param};
+ghost use Rattle.swift_syntax.specs.Declarations.{IsLiteral, ReadsSuch, SpellsAccess, SpellsActor, SpellsDeclaration, SpellsKeeper, SpellsMain, SpellsMember, SpellsMembers, SpellsMethod, SpellsParam, SpellsPrivate, SpellsResult, SpellsStart, changed_at, label_of, named_actor, on_executor};
+ghost use Rattle.swift_syntax.specs.DeclaringInside.{Declares, PutsField, PutsHead, PutsParam, PutsParams, with_actor, with_field, with_invariant, with_main, with_param};
 ghost use Rattle.swift_syntax.specs.Expressions.{SpellsExpr, StandsAt, SwiftTree};
 ghost use Rattle.swift_syntax.specs.ReadersInside.{Grows, lexed_of, source_with};
 ghost use Rattle.swift_syntax.specs.StatementsInside.{Row, SpellsType, a_key, spells_at};
@@ -466,6 +466,15 @@ pub(crate) fn actor(reader: &mut Reader<'_>)
 {
     reader.key(Word::Actor);
     let name = reader.name();
+    let actor = put_actor(reader, name);
+    reader.sign(Sign::OpenBrace);
+    members(reader, actor);
+}
+
+// Puts an actor of which nothing but the name is known. Its place.
+fn put_actor(reader: &mut Reader<'_>, name: usize) -> usize
+    ensures { Declares reader.old reader.new (λ s i j r t. (i ≡ j) × (t ≡ with_actor (named_actor name) r) × (result ≡ length r.actors)) }
+{
     let actor = reader.tree.actors.len();
     let grown = reader
         .tree
@@ -479,7 +488,13 @@ pub(crate) fn actor(reader: &mut Reader<'_>)
         })
         .is_ok();
     reader.note(grown);
-    reader.sign(Sign::OpenBrace);
+    actor
+}
+
+// The members of an actor, up to its closing brace, which is taken too.
+fn members(reader: &mut Reader<'_>, actor: usize)
+    ensures { Declares reader.old reader.new (λ s. SpellsMembers s actor) }
+{
     for _ in 0..reader.tokens.len() {
         if reader.takes(Sign::CloseBrace) {
             return;

@@ -27,4 +27,4 @@ returns c =
     let all = row_then _ _ _ front (then _ _ _ (named_stays _ _ _) name behind) in
     let set = puts _ _ _ (λ s t m d. (row_stays _ _ _ s t m d.0, (named_stays _ _ _ s t m d.1.0, row_stays _ _ _ s t m d.1.1))) (puts_of _ _ all) c.set_executor.ensures in
     puts_as (λ a x. subst (λ j. SpellsMember a c.args.actor c.args.reader.now.at j (rows_of c.args.reader.now.tree.value) (rows_of c.set_executor.new.reader.tree.value)) x.1.0
-      (executor_of a x.0.1.0.1 (same_rows _ _ all.grows) x.1.1 x.0.0 (row_on a.lexed x.0.1.0.0 x.0.1.1))) set
+    (executor_of a x.0.1.0.1 (same_rows _ _ all.grows) x.1.1 x.0.0 (row_on a.lexed x.0.1.0.0 x.0.1.1))) set

@@ -23,9 +23,9 @@ returns c =
     let headed = puts c.key.new.self c.method_head-head.new.reader c.put_main.new.reader (head_put_stays _ _ _ _ _ _ _) c.method_head-head.ensures rest in
     let all = row_puts c.args.reader.now c.key.new.self c.put_main.new.reader first headed in
     puts_as (λ a x.
-      let h = x.1.0.head in
-      let head_rows = x.1.0.rows ∙ ap (λ (r : Rows). record r { params = r.params ++ h.params }) (same_rows _ _ first.grows) in
-      let body_rows = kept_rows _ _ block.extends ∙ (same_rows _ _ named.grows ∙ head_rows) in
-      let made = x.1.0.is ∙ ap (λ (r : Rows). method_of nobody Open (length r.params) h 0 0) (same_rows _ _ first.grows) in
-      let body = subst (λ i. SpellsBlock a i c.body-body.new.reader.at c.body-body.result) (sym (no_row a.lexed x.1.1.0.0)) x.1.1.1.0 in
-      subst (λ j. SpellsMain a c.args.name c.args.reader.now.at j (rows_of c.args.reader.now.tree.value) (rows_of c.put_main.new.reader.tree.value)) x.1.1.1.1.0 (main_of a h x.0 x.1.0.spelled body_rows made x.1.1.0.1 x.1.1.0.2 x.1.1.0.3 body c.saturating_sub-end.ensures x.1.1.1.1.1)) all
+    let h = x.1.0.head in
+    let head_rows = x.1.0.rows ∙ ap (λ (r : Rows). record r { params = r.params ++ h.params }) (same_rows _ _ first.grows) in
+    let body_rows = kept_rows _ _ block.extends ∙ (same_rows _ _ named.grows ∙ head_rows) in
+    let made = x.1.0.is ∙ ap (λ (r : Rows). method_of nobody Open (length r.params) h 0 0) (same_rows _ _ first.grows) in
+    let body = subst (λ i. SpellsBlock a i c.body-body.new.reader.at c.body-body.result) (sym (no_row a.lexed x.1.1.0.0)) x.1.1.1.0 in
+    subst (λ j. SpellsMain a c.args.name c.args.reader.now.at j (rows_of c.args.reader.now.tree.value) (rows_of c.put_main.new.reader.tree.value)) x.1.1.1.1.0 (main_of a h x.0 x.1.0.spelled body_rows made x.1.1.0.1 x.1.1.0.2 x.1.1.0.3 body c.saturating_sub-end.ensures x.1.1.1.1.1)) all

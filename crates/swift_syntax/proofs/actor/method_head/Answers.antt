@@ -31,11 +31,11 @@ returns c =
     let before : Rows = rows_of c.args.reader.now.tree.value in
     let before_params = ap (λ (r : Rows). r.params) (same_rows _ _ head.grows) in
     puts_as (λ a x.
-      let made : MethodHead = record { name = c.name-name.result; params = x.1.0.params; is_async = c.takes_key-is_async.result; is_throwing = c.takes_key-is_throwing.result; result = c.result_type-result.result } in
-      let put = x.1.0.rows ∙ ap (λ (r : Rows). record r { params = r.params ++ x.1.0.params }) (same_rows _ _ head.grows) in
-      record {
-        head = made;
-        spelled = head_of a.lexed x.0.1 x.0.0 x.1.0.spelled x.1.1.0 x.1.1.1.0 x.1.1.1.1;
-        rows = same_rows _ _ tail.grows ∙ put;
-        is = counted c.args.actor c.args.access made before.params (c.params_len-first_param.ensures ∙ ap length before_params) (c.params_len-params_end.ensures ∙ ap (λ (r : Rows). length r.params) put);
-      }) all
+    let made : MethodHead = record { name = c.name-name.result; params = x.1.0.params; is_async = c.takes_key-is_async.result; is_throwing = c.takes_key-is_throwing.result; result = c.result_type-result.result } in
+    let put = x.1.0.rows ∙ ap (λ (r : Rows). record r { params = r.params ++ x.1.0.params }) (same_rows _ _ head.grows) in
+    record {
+      head = made;
+      spelled = head_of a.lexed x.0.1 x.0.0 x.1.0.spelled x.1.1.0 x.1.1.1.0 x.1.1.1.1;
+      rows = same_rows _ _ tail.grows ∙ put;
+      is = counted c.args.actor c.args.access made before.params (c.params_len-first_param.ensures ∙ ap length before_params) (c.params_len-params_end.ensures ∙ ap (λ (r : Rows). length r.params) put);
+    }) all
