@@ -1,4 +1,5 @@
 pub mod Chains
+pub mod DeclaredRows
 pub mod Grown
 pub mod Numbers
 pub mod ReadSoFar

@@ -290,14 +290,14 @@ pub data SpellsSendable (l : Lexed) : ℕ → ℕ → Type 0 where
 
 -- how many braces are open behind a token
 abbrev pub open_behind : TokenKind → ℕ → ℕ
-open_behind (kind.Sign sign.OpenBrace) n = n + 1
+open_behind (kind.Sign sign.OpenBrace) n = after n
 open_behind (kind.Sign sign.CloseBrace) n = n - 1
 open_behind _ n = n
 
 -- Tokens up to the one behind which no more of so many braces are open. They are not read.
 pub data SpellsBalanced (l : Lexed) : ℕ → ℕ → ℕ → Type 0 where
   balanced_last : {n_open i : ℕ} → kind_at l.tokens i ≢ kind.End → open_behind (kind_at l.tokens i) n_open ≡ 0 → SpellsBalanced l n_open i (after i)
-  balanced_more : {n_open i j : ℕ} → kind_at l.tokens i ≢ kind.End → SpellsBalanced l (open_behind (kind_at l.tokens i) n_open) (after i) j → SpellsBalanced l n_open i j
+  balanced_more : {n_open i j : ℕ} → kind_at l.tokens i ≢ kind.End → open_behind (kind_at l.tokens i) n_open ≢ 0 → SpellsBalanced l (open_behind (kind_at l.tokens i) n_open) (after i) j → SpellsBalanced l n_open i j
 
 -- `struct` or `enum`.
 pub data SpellsHolder (l : Lexed) : ℕ → ℕ → Type 0 where
@@ -308,10 +308,14 @@ pub data SpellsHolder (l : Lexed) : ℕ → ℕ → Type 0 where
 pub data SpellsMain (s : Source) (of : ℕ) : ℕ → ℕ → Rows → Rows → Type 0 where
   a_main : {i j k m body : ℕ} {r : Rows} {h : MethodHead} → Row s.lexed (a_key word.Static ∷ []) i j → SpellsHead s.lexed j k h → spells_at s.lexed.text s.lexed.tokens h.name (codes "main") ≡ true → h.is_async ≡ true → h.is_throwing ≡ false → SpellsBlock s k m body → SpellsMain s of i m r (record r { params = r.params ++ h.params; mains = r.mains ++ method_of nobody Open (length r.params) (record h { name = of }) body (m - 1) ∷ [] })
 
+-- An import.
+pub data SpellsImport (l : Lexed) : ℕ → ℕ → Type 0 where
+  imports_dispatch : {i j : ℕ} → Row l (a_key word.Import ∷ the_word (codes "Dispatch") ∷ []) i j → SpellsImport l i j
+  imports_foundation : {i j : ℕ} → Row l (a_key word.Import ∷ the_word (codes "Foundation") ∷ []) i j → SpellsImport l i j
+
 -- A declaration: how it changes the rows.
 pub data SpellsDeclaration (s : Source) : ℕ → ℕ → Rows → Rows → Type 0 where
-  decl_dispatch : {i j : ℕ} {r : Rows} → Row s.lexed (a_key word.Import ∷ the_word (codes "Dispatch") ∷ []) i j → SpellsDeclaration s i j r r
-  decl_foundation : {i j : ℕ} {r : Rows} → Row s.lexed (a_key word.Import ∷ the_word (codes "Foundation") ∷ []) i j → SpellsDeclaration s i j r r
+  decl_import : {i j : ℕ} {r : Rows} → SpellsImport s.lexed i j → SpellsDeclaration s i j r r
   decl_faults : {i j k : ℕ} {r : Rows} {cs : List CaseDecl} → Row s.lexed (a_key word.Enum ∷ a_name ∷ a_sign sign.Colon ∷ the_word (codes "Error") ∷ a_sign sign.OpenBrace ∷ []) i j → SpellsCases s.lexed (after i) 0 j k cs → SpellsDeclaration s i k r (record r { cases = r.cases ++ cs })
   decl_locals : {i j k : ℕ} {r : Rows} {ls : List LocalDecl} → Row s.lexed (a_key word.Enum ∷ a_name ∷ a_sign sign.OpenBrace ∷ []) i j → SpellsLocals s (after i) j k ls → SpellsDeclaration s i k r (record r { locals = r.locals ++ ls })
   decl_executor : {i j k m n : ℕ} {r : Rows} {of : ExecutorKindDecl} → kind_at s.lexed.tokens i ≡ kind.Executor → SpellsKind s.lexed (after i) j of → begins_line s.lexed j ≡ true → Row s.lexed (a_key word.Final ∷ a_key word.Class ∷ a_name ∷ a_sign sign.Colon ∷ the_word (codes "SerialExecutor") ∷ []) j k → SpellsSendable s.lexed k m → kind_at s.lexed.tokens m ≡ kind.Sign sign.OpenBrace → SpellsBalanced s.lexed 0 m n → SpellsDeclaration s i n r (record r { executors = r.executors ++ record { name = after (after j); kind = of } ∷ [] })

@@ -1,5 +1,11 @@
 //! What a file declares.
 
+ghost use Rattle.std.specs.Prelude.{◌≡◌, ◌≢◌, ◌⊎◌, true, codes, IsNone};
+ghost use Rattle.swift_syntax.specs.Declarations.{SpellsBalanced, SpellsImport, SpellsKind, open_behind};
+ghost use Rattle.swift_syntax.specs.Expressions.{kind_at};
+ghost use Rattle.swift_syntax.specs.ReadersInside.{Grows, lexed_of, taken};
+ghost use Rattle.swift_syntax.specs.StatementsInside.{spells_at};
+
 use crate::actor::{actor, function, literal, main_method};
 use crate::expression::{call_arguments, expression};
 use crate::reader::Reader;
@@ -11,12 +17,27 @@ use crate::tree::{
 };
 use crate::word::Word;
 
-fn import(reader: &mut Reader<'_>) {
-    reader.take();
-    if !reader.is_word("Dispatch") && !reader.is_word("Foundation") {
+fn import(reader: &mut Reader<'_>)
+    ensures spelled { IsNone reader.new.refused → SpellsImport (lexed_of reader.new) reader.old.at reader.new.at }
+    ensures grows { Grows reader.old reader.new }
+{
+    reader.key(Word::Import);
+    want_module(reader);
+    reader.name();
+}
+
+// Refuses any module but these two.
+fn want_module(reader: &mut Reader<'_>)
+    ensures known { IsNone reader.new.refused → (spells_at reader.old.text.now reader.old.tokens.now reader.old.at (codes "Dispatch") ≡ true) ⊎ (spells_at reader.old.text.now reader.old.tokens.now reader.old.at (codes "Foundation") ≡ true) }
+    ensures same { IsNone reader.new.refused → reader.new ≡ reader.old }
+    ensures grows { Grows reader.old reader.new }
+{
+    if reader.is_word("Dispatch") {
+        return;
+    }
+    if !reader.is_word("Foundation") {
         reader.refuse(Rule::Outside, reader.at);
     }
-    reader.name();
 }
 
 // The cases of one line of an enum of errors, from the place of the first one on. The place of the next one.
@@ -101,7 +122,11 @@ fn enumeration(reader: &mut Reader<'_>) {
     }
 }
 
-fn kind(reader: &mut Reader<'_>) -> ExecutorKindDecl {
+// The kind of an executor.
+fn kind(reader: &mut Reader<'_>) -> ExecutorKindDecl
+    ensures spelled { IsNone reader.new.refused → SpellsKind (lexed_of reader.new) reader.old.at reader.new.at result }
+    ensures grows { Grows reader.old reader.new }
+{
     if reader.takes_word("fifo") {
         return ExecutorKindDecl::Fifo;
     }
@@ -121,24 +146,38 @@ fn kind(reader: &mut Reader<'_>) -> ExecutorKindDecl {
     }
 }
 
+// Takes a token that is not read. How many braces are open behind it.
+fn skip(reader: &mut Reader<'_>, depth: usize) -> usize
+    ensures depth { result ≡ open_behind (kind_at reader.old.tokens.now reader.old.at) depth }
+    ensures taken { IsNone reader.new.refused → (kind_at reader.old.tokens.now reader.old.at ≢ TokenKind.End) × (reader.new ≡ taken reader.old) }
+    ensures grows { Grows reader.old reader.new }
+{
+    let kind = reader.here().kind;
+    if let TokenKind::End = kind {
+        reader.unexpected();
+    }
+    reader.take();
+    match kind {
+        TokenKind::Sign(Sign::OpenBrace) => depth.saturating_add(1),
+        TokenKind::Sign(Sign::CloseBrace) => depth.saturating_sub(1),
+        _ => depth,
+    }
+}
+
 // Braces that balance, with what stands in them, which is not read.
-fn skip_braces(reader: &mut Reader<'_>) {
-    let mut open: usize = 0;
+fn skip_braces(reader: &mut Reader<'_>)
+    ensures spelled { IsNone reader.new.refused → SpellsBalanced (lexed_of reader.new) 0 reader.old.at reader.new.at }
+    ensures grows { Grows reader.old reader.new }
+{
+    let mut depth = 0;
     for _ in 0..reader.tokens.len() {
-        if reader.is_sign(Sign::OpenBrace) {
-            open = open.saturating_add(1);
-        }
-        if reader.is_sign(Sign::CloseBrace) {
-            open = open.saturating_sub(1);
-        }
-        if let TokenKind::End = reader.here().kind {
-            reader.unexpected();
-        }
-        reader.take();
-        if open == 0 {
+        depth = skip(reader, depth);
+        if depth == 0 {
             return;
         }
     }
+    // Each turn takes a token, so the tokens end before the turns do.
+    reader.unexpected();
 }
 
 // A class of executors, from the comment that says its kind on.
