@@ -1,16 +1,24 @@
 -- What is read of declarations piece by piece is read as a whole.
-use Rattle.std.proofs.Common.{◌≡◌, ◌≢◌, ◌⊎◌, inl, inr, ℕ, List, [], ◌∷◌, true, sym, ap, subst, codes}
-use Rattle.std.specs.Prelude.{IsNone}
+use Rattle.std.proofs.Common.{◌≡◌, ◌≢◌, ◌⊎◌, inl, inr, ℕ, List, [], ◌∷◌, true, refl, sym, ap, subst, codes, ◌∙◌}
+use Rattle.std.proofs.lemmas.List.{append-nil}
+use Rattle.std.specs.Prelude.{IsNone, IsSome}
 use Rattle.swift_syntax.specs.declared.reader.Reader.{Reader}
 use Rattle.swift_syntax.specs.declared.token.TokenKind.TheVariants as kind
+use Rattle.swift_syntax.specs.declared.sign.Sign.{Sign}
+use Rattle.swift_syntax.specs.declared.token.TokenKind.{TokenKind}
 use Rattle.swift_syntax.specs.declared.word.Word.TheVariants as word
-use Rattle.swift_syntax.specs.Declarations.{SpellsBalanced, SpellsImport, open_behind}
+use Rattle.swift_syntax.specs.Declarations.{SpellsBalanced, Rows, SpellsImport, open_behind, rows_of}
 use Rattle.swift_syntax.specs.Declarations as swift
+use Rattle.swift_syntax.specs.DeclaringInside.{Continues, Declares, Puts}
 use Rattle.swift_syntax.specs.Expressions.{after, kind_at}
 use Rattle.swift_syntax.specs.ReadersInside.{Grows, lexed_of, taken}
-use Rattle.swift_syntax.specs.StatementsInside.{Row, a_key, spells_at, the_word}
-use Rattle.swift_syntax.proofs.Grown.{extends_of}
-use Rattle.swift_syntax.proofs.Steps.{Took, lexed_on, rows, took_same, took_word}
+use Rattle.swift_syntax.specs.RowsInside.{ArePut}
+use Rattle.swift_syntax.specs.StatementsInside.{Row, Source, a_key, no_token, spells_at, the_word}
+use Rattle.swift_syntax.proofs.Declaring.{GoesOn, continues_of, continues_on, goes_stays, more_on, puts, puts_as, puts_of, same_rows}
+use Rattle.swift_syntax.proofs.Grown.{extends_of, grows_same}
+use Rattle.swift_syntax.proofs.Refused.{clash, grows_taken}
+use Rattle.swift_syntax.proofs.Statements.{IsMore, Stays}
+use Rattle.swift_syntax.proofs.Steps.{Took, lexed_on, no_row, rows, took_same, took_word}
 
 -- one more token of braces that balance
 pub balanced_on : (r s t : Reader) {d e j : ℕ} → Grows r s → (kind_at s.tokens.now s.at ≢ kind.End) × (t ≡ taken s) → e ≡ open_behind (kind_at s.tokens.now s.at) d → e ≢ 0 → SpellsBalanced (lexed_of r) e t.at j → SpellsBalanced (lexed_of r) d s.at j
@@ -39,3 +47,90 @@ import_of r s t u key same known g h took n = modules known
     modules : (spells_at s.text.now s.tokens.now s.at (codes "Dispatch") ≡ true) ⊎ (spells_at s.text.now s.tokens.now s.at (codes "Foundation") ≡ true) → SpellsImport (lexed_of u) r.at u.at
     modules (inl e) = swift.imports_dispatch (word_of (codes "Dispatch") e)
     modules (inr e) = swift.imports_foundation (word_of (codes "Foundation") e)
+
+-- the same, where what is read hangs on that nothing is refused
+pub puts_where : {r s : Reader} {P Q : Source → Type 0} → (IsNone s.refused → (a : Source) → P a → Q a) → Puts r s P → Puts r s Q
+puts_where f d = record { continues = d.continues; adds = λ n b. let x = d.adds n b in record { more = x.more; stmts = x.stmts; holds = λ xs l. f n _ (x.holds xs l) } }
+
+-- where all is refused
+pub puts_refused : (r s : Reader) {P : Source → Type 0} → Continues r s → IsSome s.refused → Puts r s P
+puts_refused r s g noted = record { continues = g; adds = λ n b. clash _ n noted }
+
+-- what is put into a table
+pub put_rows : (s t : Reader) {u : Rows} → (IsNone t.refused → ArePut s t u) → Continues s t → Puts s t (λ a. Row a.lexed [] s.at t.at × (rows_of t.tree.value ≡ u))
+put_rows s t put g =
+    record {
+      continues = g;
+      adds = λ n b. record { more = []; stmts = ap (λ v. v.items) (put n).stmts ∙ sym (append-nil s.tree.value.stmts.items); holds = λ xs l. (no_token (sym (put n).at), (put n).rows) };
+    }
+
+-- a row that is put behind what is read of it
+pub put_behind : (r s t : Reader) {P : Source → Type 0} (Q : Source → ℕ → ℕ → Rows → Rows → Type 0) (f : Rows → Rows) → Stays P → Took r s P → (IsNone t.refused → ArePut s t (f (rows_of s.tree.value))) → Continues s t → (IsNone s.refused → (a : Source) → P a → Q a r.at s.at (rows_of r.tree.value) (f (rows_of r.tree.value))) → Declares r t Q
+put_behind r s t Q f stays p put g make =
+    let same = same_rows r s p.grows in
+    puts_where (λ n a x.
+        let all = make (g.refused n) a x.0 in
+        let is : rows_of t.tree.value ≡ f (rows_of r.tree.value) = x.1.1 ∙ ap f same in
+        subst (λ j. Q a r.at j (rows_of r.tree.value) (rows_of t.tree.value)) (no_row a.lexed x.1.0) (subst (λ u. Q a r.at s.at (rows_of r.tree.value) u) (sym is) all)) (puts r s t stays (puts_of r s p) (put_rows s t put g))
+
+-- what declares nothing
+pub took_declares : (r s : Reader) {P : Source → Type 0} (Q : Source → ℕ → ℕ → Rows → Rows → Type 0) → Took r s P → ((a : Source) (u : Rows) → P a → Q a r.at s.at u u) → Declares r s Q
+took_declares r s Q p make = puts_as (λ a x. subst (λ u. Q a r.at s.at (rows_of r.tree.value) u) (sym (same_rows r s p.grows)) (make a (rows_of r.tree.value) x)) (puts_of r s p)
+
+-- what declares nothing, and what is declared behind it
+pub took_then : (r s t : Reader) {P : Source → Type 0} (Q S : Source → ℕ → ℕ → Rows → Rows → Type 0) → Stays P → Took r s P → Declares s t Q → (IsNone s.refused → (a : Source) (u v : Rows) → P a → Q a s.at t.at u v → S a r.at t.at u v) → Declares r t S
+took_then r s t Q S stays p q make =
+    puts_where (λ n a x. make (q.continues.refused n) a (rows_of r.tree.value) (rows_of t.tree.value) x.0 (subst (λ u. Q a s.at t.at u (rows_of t.tree.value)) (same_rows r s p.grows) x.1)) (puts r s t stays (puts_of r s p) q)
+
+-- what is declared, and what declares nothing behind it
+pub then_took : (r s t : Reader) {P : Source → Type 0} (Q S : Source → ℕ → ℕ → Rows → Rows → Type 0) → ((i j : ℕ) (u v : Rows) → Stays (λ a. Q a i j u v)) → Declares r s Q → Took s t P → ((a : Source) (u v : Rows) → Q a r.at s.at u v → P a → S a r.at t.at u v) → Declares r t S
+then_took r s t Q S stays q p make =
+    puts_as (λ a x. subst (λ v. S a r.at t.at (rows_of r.tree.value) v) (sym (same_rows s t p.grows)) (make a (rows_of r.tree.value) (rows_of s.tree.value) x.0 x.1)) (puts r s t (stays r.at s.at (rows_of r.tree.value) (rows_of s.tree.value)) q (puts_of s t p))
+
+pub continues_same : (r : Reader) → Continues r r
+continues_same r = continues_of (extends_of (grows_same r))
+
+more_none : (a : Source) → IsMore a a
+more_none a = record { lexed = refl; more_exprs = []; exprs = sym (append-nil a.exprs); more_stmts = []; stmts = sym (append-nil a.stmts) }
+
+-- where a reader is, up to where another one is
+abbrev pub Goes : (Source → ℕ → ℕ → Rows → Rows → Type 0) → Reader → Reader → Type 0
+Goes Q r s = Puts r s (GoesOn Q r.at s.at (rows_of r.tree.value) (rows_of s.tree.value))
+
+pub goes_begins : (Q : Source → ℕ → ℕ → Rows → Rows → Type 0) (r : Reader) → Goes Q r r
+goes_begins Q r = record { continues = continues_same r; adds = λ n b. record { more = []; stmts = sym (append-nil r.tree.value.stmts.items); holds = λ xs l b m k u d. d } }
+
+pub goes_on : (Q : Source → ℕ → ℕ → Rows → Rows → Type 0) (r s t : Reader) → Goes Q r s → Goes Q s t → Goes Q r t
+goes_on Q r s t p q = puts_as (λ a x b m k u d. x.0 b m k u (x.1 b m k u d)) (puts r s t (goes_stays Q r.at s.at (rows_of r.tree.value) (rows_of s.tree.value)) p q)
+
+pub goes_ends : (Q : Source → ℕ → ℕ → Rows → Rows → Type 0) (r s t : Reader) → Goes Q r s → Declares s t Q → Declares r t Q
+goes_ends Q r s t p q = puts_as (λ a x. x.0 a (more_none a) t.at (rows_of t.tree.value) x.1) (puts r s t (goes_stays Q r.at s.at (rows_of r.tree.value) (rows_of s.tree.value)) p q)
+
+-- a turn that declares nothing
+pub goes_took : (Q : Source → ℕ → ℕ → Rows → Rows → Type 0) (s t : Reader) {P : Source → Type 0} → Stays P → Took s t P → ((b : Source) (k : ℕ) (u v : Rows) → P b → Q b t.at k u v → Q b s.at k u v) → Goes Q s t
+goes_took Q s t stays p make =
+    puts_as (λ a x b m k u d. make b k (rows_of s.tree.value) u (stays a b m x) (subst (λ v. Q b t.at k v u) (same_rows s t p.grows) d)) (puts_of s t p)
+
+-- a turn
+pub goes_declared : (Q S : Source → ℕ → ℕ → Rows → Rows → Type 0) (s t : Reader) → ((i j : ℕ) (u v : Rows) → Stays (λ a. S a i j u v)) → Declares s t S → ((b : Source) (k : ℕ) (u v w : Rows) → S b s.at t.at u v → Q b t.at k v w → Q b s.at k u w) → Goes Q s t
+goes_declared Q S s t stays p make =
+    puts_as (λ a x b m k u d. make b k (rows_of s.tree.value) (rows_of t.tree.value) u (stays s.at t.at (rows_of s.tree.value) (rows_of t.tree.value) a b m x) d) p
+
+pub both_stay : {P Q : Source → Type 0} → Stays P → Stays Q → Stays (λ a. P a × Q a)
+both_stay p q a b m x = (p a b m x.0, q a b m x.1)
+
+-- a sign that is not there is not taken
+pub not_taken : (r s : Reader) (x : Sign) → kind_at r.tokens.now r.at ≢ kind.Sign x → s ≡ r → Took r s (λ a. (kind_at a.lexed.tokens s.at ≢ kind.Sign x) × Row a.lexed [] r.at s.at)
+not_taken r s x other e =
+    record {
+      grows = subst (λ y. Grows r y) (sym e) (grows_same r);
+      holds = λ n xs. (subst (λ y. kind_at y.tokens.now y.at ≢ kind.Sign x) (sym e) other, no_token (sym (ap (λ y. y.at) e)));
+    }
+
+-- a token of a kind that was there and is taken
+pub takes_kind : (r s : Reader) (k : TokenKind) → kind_at r.tokens.now r.at ≡ k → s ≡ taken r → Took r s (λ a. (kind_at a.lexed.tokens r.at ≡ k) × (after r.at ≡ s.at))
+takes_kind r s k is e =
+    record {
+      grows = grows_taken e;
+      holds = λ n xs. (subst (λ y. kind_at y.tokens.now r.at ≡ k) (sym e) is, sym (ap (λ y. y.at) e));
+    }

@@ -1,5 +1,6 @@
 pub mod Chains
 pub mod DeclaredRows
+pub mod Declaring
 pub mod Grown
 pub mod Numbers
 pub mod ReadSoFar

@@ -256,26 +256,30 @@ named_actor name = record { name = name; executor = 0; has_init = false; first_p
 pub data SpellsActor (s : Source) : ℕ → ℕ → Rows → Rows → Type 0 where
   an_actor : {i j k : ℕ} {r t : Rows} → Row s.lexed (a_key word.Actor ∷ a_name ∷ a_sign sign.OpenBrace ∷ []) i j → SpellsMembers s (length r.actors) j k (record r { actors = r.actors ++ named_actor (after i) ∷ [] }) t → SpellsActor s i k r t
 
--- Cases of an enum of errors with commas between them, from this place among its cases on.
-pub data SpellsSomeCases (l : Lexed) (of place : ℕ) : ℕ → ℕ → List CaseDecl → Type 0 where
-  one_case : {i j : ℕ} → Row l (a_name ∷ []) i j → SpellsSomeCases l of place i j (record { of = of; name = i; place = place } ∷ [])
-  one_more_case : {i j k : ℕ} {cs : List CaseDecl} → SpellsSomeCases l of place i j cs → Row l (a_sign sign.Comma ∷ a_name ∷ []) j k → SpellsSomeCases l of place i k (cs ++ record { of = of; name = after j; place = place + length cs } ∷ [])
+-- A case of an enum of errors whose first case has this place in the table.
+pub data SpellsCase (l : Lexed) (of first : ℕ) : ℕ → ℕ → Rows → Rows → Type 0 where
+  a_case : {i j : ℕ} {r : Rows} → Row l (a_name ∷ []) i j → SpellsCase l of first i j r (record r { cases = r.cases ++ record { of = of; name = i; place = length r.cases - first } ∷ [] })
+
+-- Cases with commas between them.
+pub data SpellsSomeCases (l : Lexed) (of first : ℕ) : ℕ → ℕ → Rows → Rows → Type 0 where
+  last_case : {i j : ℕ} {r t : Rows} → SpellsCase l of first i j r t → kind_at l.tokens j ≢ kind.Sign sign.Comma → SpellsSomeCases l of first i j r t
+  one_more_case : {i j k m : ℕ} {r t u : Rows} → SpellsCase l of first i j r t → Row l (a_sign sign.Comma ∷ []) j k → SpellsSomeCases l of first k m t u → SpellsSomeCases l of first i m r u
 
 -- The lines of an enum of errors up to its closing brace.
-pub data SpellsCases (l : Lexed) (of : ℕ) : ℕ → ℕ → ℕ → List CaseDecl → Type 0 where
-  cases_end : {i j place : ℕ} → Row l (a_sign sign.CloseBrace ∷ []) i j → SpellsCases l of place i j []
-  cases_blank : {i j k place : ℕ} {cs : List CaseDecl} → Row l (a_sign sign.Semicolon ∷ []) i j → SpellsCases l of place j k cs → SpellsCases l of place i k cs
-  cases_line : {i j k m n place : ℕ} {cs ds : List CaseDecl} → Row l (a_key word.Case ∷ []) i j → SpellsSomeCases l of place j k cs → Separates l k m → SpellsCases l of (place + length cs) m n ds → SpellsCases l of place i n (cs ++ ds)
+pub data SpellsCases (l : Lexed) (of first : ℕ) : ℕ → ℕ → Rows → Rows → Type 0 where
+  cases_end : {i j : ℕ} {r : Rows} → Row l (a_sign sign.CloseBrace ∷ []) i j → SpellsCases l of first i j r r
+  cases_blank : {i j k : ℕ} {r t : Rows} → Row l (a_sign sign.Semicolon ∷ []) i j → SpellsCases l of first j k r t → SpellsCases l of first i k r t
+  cases_line : {i j k m n : ℕ} {r t u : Rows} → Row l (a_key word.Case ∷ []) i j → SpellsSomeCases l of first j k r t → Separates l k m → SpellsCases l of first m n t u → SpellsCases l of first i n r u
 
 -- A task local.
-pub data SpellsLocal (s : Source) (of : ℕ) : ℕ → ℕ → LocalDecl → Type 0 where
-  a_local : {i j k m n o p : ℕ} {t : Option ValueType} → Row s.lexed (a_sign sign.At ∷ the_word (codes "TaskLocal") ∷ a_key word.Static ∷ a_key word.Var ∷ []) i j → Row s.lexed (a_name ∷ []) j k → SpellsAnnotation s.lexed k m t → Row s.lexed (a_sign sign.Assign ∷ []) m n → ReadsSuch IsLiteral s n o p → SpellsLocal s of i o (record { of = of; name = j; value_type = t; value = p })
+pub data SpellsLocal (s : Source) (of : ℕ) : ℕ → ℕ → Rows → Rows → Type 0 where
+  a_local : {i j k m n o p : ℕ} {r : Rows} {t : Option ValueType} → Row s.lexed (a_sign sign.At ∷ the_word (codes "TaskLocal") ∷ a_key word.Static ∷ a_key word.Var ∷ []) i j → Row s.lexed (a_name ∷ []) j k → SpellsAnnotation s.lexed k m t → Row s.lexed (a_sign sign.Assign ∷ []) m n → ReadsSuch IsLiteral s n o p → SpellsLocal s of i o r (record r { locals = r.locals ++ record { of = of; name = j; value_type = t; value = p } ∷ [] })
 
 -- Task locals up to the closing brace of their enum.
-pub data SpellsLocals (s : Source) (of : ℕ) : ℕ → ℕ → List LocalDecl → Type 0 where
-  locals_end : {i j : ℕ} → Row s.lexed (a_sign sign.CloseBrace ∷ []) i j → SpellsLocals s of i j []
-  locals_blank : {i j k : ℕ} {ls : List LocalDecl} → Row s.lexed (a_sign sign.Semicolon ∷ []) i j → SpellsLocals s of j k ls → SpellsLocals s of i k ls
-  locals_more : {i j k m : ℕ} {x : LocalDecl} {ls : List LocalDecl} → SpellsLocal s of i j x → Separates s.lexed j k → SpellsLocals s of k m ls → SpellsLocals s of i m (x ∷ ls)
+pub data SpellsLocals (s : Source) (of : ℕ) : ℕ → ℕ → Rows → Rows → Type 0 where
+  locals_end : {i j : ℕ} {r : Rows} → Row s.lexed (a_sign sign.CloseBrace ∷ []) i j → SpellsLocals s of i j r r
+  locals_blank : {i j k : ℕ} {r t : Rows} → Row s.lexed (a_sign sign.Semicolon ∷ []) i j → SpellsLocals s of j k r t → SpellsLocals s of i k r t
+  locals_more : {i j k m : ℕ} {r t u : Rows} → SpellsLocal s of i j r t → Separates s.lexed j k → SpellsLocals s of k m t u → SpellsLocals s of i m r u
 
 -- The kind of an executor.
 pub data SpellsKind (l : Lexed) : ℕ → ℕ → ExecutorKindDecl → Type 0 where
@@ -308,6 +312,10 @@ pub data SpellsHolder (l : Lexed) : ℕ → ℕ → Type 0 where
 pub data SpellsMain (s : Source) (of : ℕ) : ℕ → ℕ → Rows → Rows → Type 0 where
   a_main : {i j k m body : ℕ} {r : Rows} {h : MethodHead} → Row s.lexed (a_key word.Static ∷ []) i j → SpellsHead s.lexed j k h → spells_at s.lexed.text s.lexed.tokens h.name (codes "main") ≡ true → h.is_async ≡ true → h.is_throwing ≡ false → SpellsBlock s k m body → SpellsMain s of i m r (record r { params = r.params ++ h.params; mains = r.mains ++ method_of nobody Open (length r.params) (record h { name = of }) body (m - 1) ∷ [] })
 
+-- An instance of this name, from that of its actor or executor on.
+pub data SpellsInstance (l : Lexed) (name : ℕ) : ℕ → ℕ → Rows → Rows → Type 0 where
+  an_instance : (arguments : ℕ) {i j k : ℕ} {r : Rows} → Row l (a_name ∷ a_sign sign.Open ∷ []) i j → SpellsInstance l name i k r (record r { instances = r.instances ++ record { name = name; of = i; arguments = arguments } ∷ [] })
+
 -- An import.
 pub data SpellsImport (l : Lexed) : ℕ → ℕ → Type 0 where
   imports_dispatch : {i j : ℕ} → Row l (a_key word.Import ∷ the_word (codes "Dispatch") ∷ []) i j → SpellsImport l i j
@@ -316,11 +324,11 @@ pub data SpellsImport (l : Lexed) : ℕ → ℕ → Type 0 where
 -- A declaration: how it changes the rows.
 pub data SpellsDeclaration (s : Source) : ℕ → ℕ → Rows → Rows → Type 0 where
   decl_import : {i j : ℕ} {r : Rows} → SpellsImport s.lexed i j → SpellsDeclaration s i j r r
-  decl_faults : {i j k : ℕ} {r : Rows} {cs : List CaseDecl} → Row s.lexed (a_key word.Enum ∷ a_name ∷ a_sign sign.Colon ∷ the_word (codes "Error") ∷ a_sign sign.OpenBrace ∷ []) i j → SpellsCases s.lexed (after i) 0 j k cs → SpellsDeclaration s i k r (record r { cases = r.cases ++ cs })
-  decl_locals : {i j k : ℕ} {r : Rows} {ls : List LocalDecl} → Row s.lexed (a_key word.Enum ∷ a_name ∷ a_sign sign.OpenBrace ∷ []) i j → SpellsLocals s (after i) j k ls → SpellsDeclaration s i k r (record r { locals = r.locals ++ ls })
+  decl_faults : {i j k : ℕ} {r t : Rows} → Row s.lexed (a_key word.Enum ∷ a_name ∷ a_sign sign.Colon ∷ the_word (codes "Error") ∷ a_sign sign.OpenBrace ∷ []) i j → SpellsCases s.lexed (after i) (length r.cases) j k r t → SpellsDeclaration s i k r t
+  decl_locals : {i j k : ℕ} {r t : Rows} → Row s.lexed (a_key word.Enum ∷ a_name ∷ a_sign sign.OpenBrace ∷ []) i j → SpellsLocals s (after i) j k r t → SpellsDeclaration s i k r t
   decl_executor : {i j k m n : ℕ} {r : Rows} {of : ExecutorKindDecl} → kind_at s.lexed.tokens i ≡ kind.Executor → SpellsKind s.lexed (after i) j of → begins_line s.lexed j ≡ true → Row s.lexed (a_key word.Final ∷ a_key word.Class ∷ a_name ∷ a_sign sign.Colon ∷ the_word (codes "SerialExecutor") ∷ []) j k → SpellsSendable s.lexed k m → kind_at s.lexed.tokens m ≡ kind.Sign sign.OpenBrace → SpellsBalanced s.lexed 0 m n → SpellsDeclaration s i n r (record r { executors = r.executors ++ record { name = after (after j); kind = of } ∷ [] })
   decl_expectation : {i j test : ℕ} {r : Rows} → kind_at s.lexed.tokens i ≡ kind.Expect → IsExpr s (after i) j test → SpellsDeclaration s i j r (record r { expectations = r.expectations ++ record { token = i; test = test } ∷ [] })
-  decl_instance : (arguments : ℕ) {i j k m n : ℕ} {r : Rows} {t : Option ValueType} → Row s.lexed (a_key word.Let ∷ a_name ∷ []) i j → SpellsAnnotation s.lexed j k t → Row s.lexed (a_sign sign.Assign ∷ a_name ∷ a_sign sign.Open ∷ []) k m → SpellsDeclaration s i n r (record r { instances = r.instances ++ record { name = after i; of = after k; arguments = arguments } ∷ [] })
+  decl_instance : {i j k m n : ℕ} {r u : Rows} {t : Option ValueType} → Row s.lexed (a_key word.Let ∷ a_name ∷ []) i j → SpellsAnnotation s.lexed j k t → Row s.lexed (a_sign sign.Assign ∷ []) k m → SpellsInstance s.lexed (after i) m n r u → SpellsDeclaration s i n r u
   decl_constant : {i j k m n p : ℕ} {r : Rows} {t : Option ValueType} → Row s.lexed (a_key word.Let ∷ a_name ∷ []) i j → SpellsAnnotation s.lexed j k t → Row s.lexed (a_sign sign.Assign ∷ []) k m → ReadsSuch IsLiteral s m n p → SpellsDeclaration s i n r (record r { constants = r.constants ++ record { name = after i; value_type = t; value = p } ∷ [] })
   decl_main : {i j k m n o : ℕ} {r t : Rows} → Row s.lexed (a_sign sign.At ∷ the_word (codes "main") ∷ []) i j → SpellsHolder s.lexed j k → Row s.lexed (a_name ∷ a_sign sign.OpenBrace ∷ []) k m → SpellsMain s k m n r t → Row s.lexed (a_sign sign.CloseBrace ∷ []) n o → SpellsDeclaration s i o r t
   decl_actor : {i j : ℕ} {r t : Rows} → SpellsActor s i j r t → SpellsDeclaration s i j r t

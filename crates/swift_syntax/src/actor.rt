@@ -1,5 +1,10 @@
 //! Actors, with their fields, invariants and methods.
 
+ghost use Rattle.std.specs.Prelude.{◌≡◌, IsNone, List};
+ghost use Rattle.swift_syntax.specs.Declarations.{IsLiteral, ReadsSuch, SpellsActor, SpellsDeclaration, SpellsMain};
+ghost use Rattle.swift_syntax.specs.DeclaringInside.{Declares};
+ghost use Rattle.swift_syntax.specs.ReadersInside.{Grows, source_with};
+
 use crate::expression::expression;
 use crate::reader::Reader;
 use crate::rule::Rule;
@@ -8,12 +13,15 @@ use crate::statement::body;
 use crate::token::TokenKind;
 use crate::tree::{
     Access, ActorDecl, ExprForm, FieldDecl, FieldStart, Into, InvariantDecl, MethodDecl, ParamDecl,
-    StmtForm, ValueType,
+    Stmt, StmtForm, ValueType,
 };
 use crate::word::Word;
 
 /// A literal: a number, perhaps below 0, `true` or `false`. Its place.
-pub(crate) fn literal(reader: &mut Reader<'_>) -> usize {
+pub(crate) fn literal(reader: &mut Reader<'_>) -> usize
+    ensures spelled { IsNone reader.new.refused → (xs : List Stmt) → ReadsSuch IsLiteral (source_with reader.new xs) reader.old.at reader.new.at result }
+    ensures grows { Grows reader.old reader.new }
+{
     let place = reader.at;
     let found = expression(reader);
     if !is_literal(reader, found) {
@@ -346,7 +354,9 @@ fn member(reader: &mut Reader<'_>, actor: usize) {
 }
 
 /// An actor, from its keyword on.
-pub(crate) fn actor(reader: &mut Reader<'_>) {
+pub(crate) fn actor(reader: &mut Reader<'_>)
+    ensures { Declares reader.old reader.new SpellsActor }
+{
     reader.key(Word::Actor);
     let name = reader.name();
     let actor = reader.tree.actors.len();
@@ -377,13 +387,17 @@ pub(crate) fn actor(reader: &mut Reader<'_>) {
 }
 
 /// A function outside of actors, from the word on that says who may call it: the whole file may.
-pub(crate) fn function(reader: &mut Reader<'_>) {
+pub(crate) fn function(reader: &mut Reader<'_>)
+    ensures { Declares reader.old reader.new SpellsDeclaration }
+{
     let _ = access(reader);
     method(reader, usize::MAX, Access::Open);
 }
 
 /// `main`, from `static` on, of the type of this name.
-pub(crate) fn main_method(reader: &mut Reader<'_>, name: usize) {
+pub(crate) fn main_method(reader: &mut Reader<'_>, name: usize)
+    ensures { Declares reader.old reader.new (λ s. SpellsMain s name) }
+{
     reader.key(Word::Static);
     if !reader.is_key(Word::Func) {
         reader.unexpected();
