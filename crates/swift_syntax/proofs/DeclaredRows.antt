@@ -5,19 +5,20 @@ use Rattle.std.specs.Prelude.{IsNone, IsSome}
 use Rattle.swift_syntax.specs.declared.reader.Reader.{Reader}
 use Rattle.swift_syntax.specs.declared.token.TokenKind.TheVariants as kind
 use Rattle.swift_syntax.specs.declared.sign.Sign.{Sign}
+use Rattle.swift_syntax.specs.declared.tree.Stmt.{Stmt}
 use Rattle.swift_syntax.specs.declared.token.TokenKind.{TokenKind}
 use Rattle.swift_syntax.specs.declared.word.Word.TheVariants as word
-use Rattle.swift_syntax.specs.Declarations.{SpellsBalanced, Rows, SpellsImport, open_behind, rows_of}
+use Rattle.swift_syntax.specs.Declarations.{IsLiteral, ReadsSuch, Rows, SpellsBalanced, SpellsHead, SpellsImport, SpellsLocal, SpellsMain, open_behind, rows_of}
 use Rattle.swift_syntax.specs.Declarations as swift
 use Rattle.swift_syntax.specs.DeclaringInside.{Continues, Declares, Puts}
-use Rattle.swift_syntax.specs.Expressions.{after, kind_at}
-use Rattle.swift_syntax.specs.ReadersInside.{Grows, lexed_of, taken}
+use Rattle.swift_syntax.specs.Expressions.{SpellsExpr, StandsAt, after, kind_at}
+use Rattle.swift_syntax.specs.ReadersInside.{Grows, lexed_of, source_with, taken}
 use Rattle.swift_syntax.specs.RowsInside.{ArePut}
-use Rattle.swift_syntax.specs.StatementsInside.{Row, Source, a_key, no_token, spells_at, the_word}
+use Rattle.swift_syntax.specs.StatementsInside.{Row, Source, SpellsAnnotation, a_key, begins_line, no_token, spells_at, the_word}
 use Rattle.swift_syntax.proofs.Declaring.{GoesOn, continues_of, continues_on, goes_stays, more_on, puts, puts_as, puts_of, same_rows}
-use Rattle.swift_syntax.proofs.Grown.{extends_of, grows_same}
+use Rattle.swift_syntax.proofs.Grown.{extends_of, grows_same, stands_more}
 use Rattle.swift_syntax.proofs.Refused.{clash, grows_taken}
-use Rattle.swift_syntax.proofs.Statements.{IsMore, Stays}
+use Rattle.swift_syntax.proofs.Statements.{IsMore, Stays, block_stays, lexed_stays, row_stays}
 use Rattle.swift_syntax.proofs.Steps.{Took, lexed_on, no_row, rows, took_same, took_word}
 
 -- one more token of braces that balance
@@ -134,3 +135,25 @@ takes_kind r s k is e =
       grows = grows_taken e;
       holds = λ n xs. (subst (λ y. kind_at y.tokens.now r.at ≡ k) (sym e) is, sym (ap (λ y. y.at) e));
     }
+
+-- a token that begins a line, and is not taken
+pub took_begins : (r s : Reader) → (IsNone s.refused → s ≡ r) → (IsNone s.refused → begins_line (lexed_of r) r.at ≡ true) → Grows r s → Took r s (λ a. Row a.lexed [] r.at s.at × (begins_line a.lexed r.at ≡ true))
+took_begins r s e f g = record { grows = g; holds = λ n xs. (no_token (sym (ap (λ y. y.at) (e n))), subst (λ y. begins_line (lexed_of y) r.at ≡ true) (sym (e n)) (f n)) }
+
+pub literal_stays : (i j p : ℕ) → Stays (λ a. ReadsSuch IsLiteral a i j p)
+literal_stays i j p s t m d =
+    record {
+      value = d.value;
+      such = d.such;
+      spelled = subst (λ l. SpellsExpr l.tokens i j d.value) (sym m.lexed) d.spelled;
+      stands = subst (λ xs. StandsAt xs p d.value) (sym m.exprs) (stands_more s.exprs m.more_exprs d.stands);
+    }
+
+pub took_literal : (r s : Reader) (p : ℕ) → (IsNone s.refused → (xs : List Stmt) → ReadsSuch IsLiteral (source_with s xs) r.at s.at p) → Grows r s → Took r s (λ a. ReadsSuch IsLiteral a r.at s.at p)
+took_literal r s p d g = record { grows = g; holds = d }
+
+pub local_stays : (of i j : ℕ) (u v : Rows) → Stays (λ a. SpellsLocal a of i j u v)
+local_stays of i j u v s t m (swift.a_local {k = x} {m = y} {t = w} a b c d e) = swift.a_local (row_stays _ _ _ s t m a) (row_stays _ _ _ s t m b) (lexed_stays (λ l. SpellsAnnotation l x y w) s t m c) (row_stays _ _ _ s t m d) (literal_stays _ _ _ s t m e)
+
+pub main_there : (of i j : ℕ) (u v : Rows) → Stays (λ a. SpellsMain a of i j u v)
+main_there of i j u v s t m (swift.a_main {j = k} {k = n} {h = h} a b c d e f) = swift.a_main (row_stays _ _ _ s t m a) (lexed_stays (λ l. SpellsHead l k n h) s t m b) (lexed_stays (λ l. spells_at l.text l.tokens h.name (codes "main") ≡ true) s t m c) d e (block_stays s t m f)
