@@ -11,12 +11,13 @@ use Rattle.swift_syntax.specs.declared.word.Word.TheVariants as word
 use Rattle.swift_syntax.specs.Declarations.{IsLiteral, ReadsSuch, Rows, SpellsBalanced, SpellsHead, SpellsImport, SpellsLocal, SpellsMain, open_behind, rows_of}
 use Rattle.swift_syntax.specs.Declarations as swift
 use Rattle.swift_syntax.specs.DeclaringInside.{Continues, Declares, Puts}
-use Rattle.swift_syntax.specs.Expressions.{SpellsExpr, StandsAt, after, kind_at}
+use Rattle.swift_syntax.specs.Expressions.{after, kind_at}
 use Rattle.swift_syntax.specs.ReadersInside.{Grows, lexed_of, source_with, taken}
 use Rattle.swift_syntax.specs.RowsInside.{ArePut}
 use Rattle.swift_syntax.specs.StatementsInside.{Row, Source, SpellsAnnotation, a_key, begins_line, no_token, spells_at, the_word}
+use Rattle.swift_syntax.proofs.Declarations.{such_stays}
 use Rattle.swift_syntax.proofs.Declaring.{GoesOn, continues_of, continues_on, goes_stays, more_on, puts, puts_as, puts_of, same_rows}
-use Rattle.swift_syntax.proofs.Grown.{extends_of, grows_same, stands_more}
+use Rattle.swift_syntax.proofs.Grown.{extends_of, grows_same}
 use Rattle.swift_syntax.proofs.Refused.{clash, grows_taken}
 use Rattle.swift_syntax.proofs.Statements.{IsMore, Stays, block_stays, lexed_stays, row_stays}
 use Rattle.swift_syntax.proofs.Steps.{Took, lexed_on, no_row, rows, took_same, took_word}
@@ -141,13 +142,7 @@ pub took_begins : (r s : Reader) → (IsNone s.refused → s ≡ r) → (IsNone 
 took_begins r s e f g = record { grows = g; holds = λ n xs. (no_token (sym (ap (λ y. y.at) (e n))), subst (λ y. begins_line (lexed_of y) r.at ≡ true) (sym (e n)) (f n)) }
 
 pub literal_stays : (i j p : ℕ) → Stays (λ a. ReadsSuch IsLiteral a i j p)
-literal_stays i j p s t m d =
-    record {
-      value = d.value;
-      such = d.such;
-      spelled = subst (λ l. SpellsExpr l.tokens i j d.value) (sym m.lexed) d.spelled;
-      stands = subst (λ xs. StandsAt xs p d.value) (sym m.exprs) (stands_more s.exprs m.more_exprs d.stands);
-    }
+literal_stays = such_stays IsLiteral
 
 pub took_literal : (r s : Reader) (p : ℕ) → (IsNone s.refused → (xs : List Stmt) → ReadsSuch IsLiteral (source_with s xs) r.at s.at p) → Grows r s → Took r s (λ a. ReadsSuch IsLiteral a r.at s.at p)
 took_literal r s p d g = record { grows = g; holds = d }

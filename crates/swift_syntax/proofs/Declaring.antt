@@ -1,16 +1,28 @@
 -- What is declared piece by piece is declared as a whole.
-use Rattle.std.proofs.Common.{◌≡◌, ℕ, List, [], ◌∷◌, ◌++◌, length, refl, sym, ap, subst, ◌∙◌, arith, append_assoc}
+use Rattle.std.proofs.Common.{◌≡◌, ◌≢◌, ℕ, ◌-◌, Bool, true, false, Option, List, [], ◌∷◌, ◌++◌, length, refl, sym, ap, subst, ◌∙◌, arith, append_assoc}
 use Rattle.std.proofs.lemmas.List.{append-nil, length-append}
-use Rattle.std.specs.Prelude.{IsNone}
+use Rattle.std.specs.Prelude.{IsNone, codes}
 use Rattle.swift_syntax.specs.declared.reader.Reader.{Reader}
 use Rattle.swift_syntax.specs.declared.tree.Stmt.{Stmt}
-use Rattle.swift_syntax.specs.Declarations.{Rows, rows_of}
-use Rattle.swift_syntax.specs.DeclaringInside.{Continues, Puts}
-use Rattle.swift_syntax.specs.ReadersInside.{Adds, Extends, Grows, IsBegun, lexed_of, source_with}
-use Rattle.swift_syntax.specs.StatementsInside.{Lexed, Row, Source, Want}
+use Rattle.swift_syntax.specs.declared.sign.Sign.TheVariants as sign
+use Rattle.swift_syntax.specs.declared.tree.Access.{Access}
+use Rattle.swift_syntax.specs.declared.tree.Access.TheVariants.{Open}
+use Rattle.swift_syntax.specs.declared.tree.FieldStart.{FieldStart}
+use Rattle.swift_syntax.specs.declared.tree.MethodDecl.{MethodDecl}
+use Rattle.swift_syntax.specs.declared.word.Word.TheVariants as word
+use Rattle.swift_syntax.specs.declared.tree.ParamDecl.{ParamDecl}
+use Rattle.swift_syntax.specs.declared.tree.ValueType.{ValueType}
+use Rattle.swift_syntax.specs.Expressions.{after}
+use Rattle.swift_syntax.specs.Expressions as swift
+use Rattle.swift_syntax.specs.declared.token.TokenKind.TheVariants as kind
+use Rattle.swift_syntax.specs.Declarations.{IsLiteral, MethodHead, Rows, SpellsField, SpellsHead, SpellsKeeper, SpellsMain, SpellsResult, a_field, a_head, a_main, method_of, nobody, SpellsParam, SpellsParams, SpellsSomeParams, SpellsStart, label_of, not_started, one_more_param, one_name, one_param, rows_of, some_params, started, two_names}
+use Rattle.swift_syntax.specs.DeclaringInside.{Continues, Puts, PutsHead, PutsParam, PutsParams, with_main, with_param}
+use Rattle.swift_syntax.specs.ReadersInside.{Adds, Extends, Grows, IsBegun, lexed_of, source_with, taken}
+use Rattle.swift_syntax.specs.StatementsInside.{Lexed, Row, Source, SpellsAnnotation, SpellsBlock, SpellsPerhaps, SpellsType, Want, a_key, a_name, a_sign, spells_at}
+use Rattle.swift_syntax.proofs.Declarations.{such_stays}
 use Rattle.swift_syntax.proofs.Grown.{extends_of}
-use Rattle.swift_syntax.proofs.Statements.{IsMore, Stays, row_stays}
-use Rattle.swift_syntax.proofs.Steps.{Step, Took, adds_of}
+use Rattle.swift_syntax.proofs.Statements.{IsMore, Stays, lexed_stays, row_stays}
+use Rattle.swift_syntax.proofs.Steps.{Step, Took, adds_of, took_name}
 
 pub continues_of : {r s : Reader} → Extends r s → Continues r s
 continues_of e = record { refused = e.refused; text = e.text; tokens = e.tokens; more = e.more; exprs = e.exprs }
@@ -94,3 +106,75 @@ GoesOn Q i j r t a = (b : Source) → IsMore a b → (k : ℕ) (u : Rows) → Q 
 
 pub goes_stays : (Q : Source → ℕ → ℕ → Rows → Rows → Type 0) (i j : ℕ) (r t : Rows) → Stays (GoesOn Q i j r t)
 goes_stays Q i j r t a b m go = λ c n k u d. go c (more_on m n) k u d
+
+pub both_stay : {P Q : Source → Type 0} → Stays P → Stays Q → Stays (λ a. P a × Q a)
+both_stay p q s t m d = (p s t m d.0, q s t m d.1)
+
+pub start_stays : (i j : ℕ) (x : FieldStart) → Stays (λ a. SpellsStart a i j x)
+start_stays i j x s t m (started {p = p} row d) = started (row_stays _ _ _ s t m row) (such_stays IsLiteral _ _ p s t m d)
+start_stays i j x s t m (not_started k e) = not_started (subst (λ l. swift.kind_at l.tokens i ≢ kind.Sign sign.Assign) (sym m.lexed) k) e
+
+-- a parameter of which the label and the name are known
+pub param_one : (l : Lexed) {i j k p q : ℕ} {t : ValueType} → q ≡ label_of l i → p ≡ i → Row l (a_name ∷ a_sign sign.Colon ∷ []) i j → SpellsType l j k t → SpellsParam l i k (record { label = q; name = p; value_type = t })
+param_one l a b row d = rw (a, b) (one_name row d)
+
+pub param_two : (l : Lexed) {i j k p q : ℕ} {t : ValueType} → q ≡ label_of l i → p ≡ after i → Row l (a_name ∷ a_name ∷ a_sign sign.Colon ∷ []) i j → SpellsType l j k t → SpellsParam l i k (record { label = q; name = p; value_type = t })
+param_two l a b row d = rw (a, b) (two_names row d)
+
+-- Parameters before another one.
+pub data ParamsSoFar (l : Lexed) (i j : ℕ) : List ParamDecl → Type 0 where
+  none_yet : i ≡ j → ParamsSoFar l i j []
+  before_comma : {k : ℕ} {ps : List ParamDecl} → SpellsSomeParams l i k ps → Row l (a_sign sign.Comma ∷ []) k j → ParamsSoFar l i j ps
+
+pub param_on : (l : Lexed) {i j k : ℕ} {ps : List ParamDecl} {p : ParamDecl} → ParamsSoFar l i j ps → SpellsParam l j k p → SpellsSomeParams l i k (ps ++ p ∷ [])
+param_on l {k = k} {p = p} (none_yet e) d = one_param (subst (λ i. SpellsParam l i k p) (sym e) d)
+param_on l (before_comma some comma) d = one_more_param some comma d
+
+-- a name that is taken, and its place
+pub took_named : (r s : Reader) {p : ℕ} → (IsNone s.refused → (swift.kind_at r.tokens.now r.at ≡ kind.Name) × (p ≡ r.at) × (s ≡ taken r)) → Grows r s → Took r s (λ a. Row a.lexed (a_name ∷ []) r.at s.at × (p ≡ r.at))
+took_named r s d g = let t = took_name r s d g in record { grows = g; holds = λ n xs. (t.holds n xs, (d n).1) }
+
+pub named_stays : (i j p : ℕ) → Stays (λ a. Row a.lexed (a_name ∷ []) i j × (p ≡ i))
+named_stays i j p s t m d = (row_stays _ _ _ s t m d.0, d.1)
+
+-- a field of which the place of the name is known
+pub field_of : (a : Source) {actor i j k m n p : ℕ} {access : Access} {is_var : Bool} {t : Option ValueType} {x : FieldStart} → p ≡ j → SpellsKeeper a.lexed i j is_var → Row a.lexed (a_name ∷ []) j k → SpellsAnnotation a.lexed k m t → SpellsStart a m n x → SpellsField a actor access i n (record { actor = actor; name = p; is_var = is_var; access = access; value_type = t; start = x; given = 0 })
+field_of a e k r t x = rw e (a_field k r t x)
+
+pub params_stay : (i j : ℕ) (r t : Rows) → Stays (λ a. PutsParams a i j r t)
+params_stay i j r t a b m d = record { params = d.params; spelled = subst (λ l. SpellsParams l i j d.params) (sym m.lexed) d.spelled; rows = d.rows }
+
+pub head_put_stays : (actor : ℕ) (access : Access) (i j : ℕ) (r t : Rows) (made : MethodDecl) → Stays (λ a. PutsHead a actor access i j r t made)
+head_put_stays actor access i j r t made a b m d = record { head = d.head; spelled = subst (λ l. SpellsHead l i j d.head) (sym m.lexed) d.spelled; rows = d.rows; is = d.is }
+
+-- the head of a method, whose parts are known
+pub head_of : (l : Lexed) {i j k m n o p : ℕ} {ps : List ParamDecl} {is_async is_throwing : Bool} {t : ValueType} → p ≡ after i → Row l (a_key word.Func ∷ a_name ∷ a_sign sign.Open ∷ []) i j → SpellsParams l j k ps → SpellsPerhaps l word.Async k m is_async → SpellsPerhaps l word.Throws m n is_throwing → SpellsResult l n o t → SpellsHead l i o (record { name = p; params = ps; is_async = is_async; is_throwing = is_throwing; result = t })
+head_of l e a b c d f = rw e (a_head a b c d f)
+
+-- the row of a method whose parameters were counted
+pub counted : (actor : ℕ) (access : Access) (h : MethodHead) (ps : List ParamDecl) {first end : ℕ} → first ≡ length ps → end ≡ length (ps ++ h.params) → (record { actor = actor; name = h.name; access = access; is_async = h.is_async; is_throwing = h.is_throwing; result = h.result; first_param = first; params_end = end; body = 0; end = 0 }) ≡ method_of actor access (length ps) h 0 0
+counted actor access h ps a b = rw (a, b, length-append ps h.params) refl
+
+-- `main`, whose parts are known
+pub main_of : (s : Source) {i j k m body of end : ℕ} {r t u : Rows} {made : MethodDecl} (h : MethodHead) → Row s.lexed (a_key word.Static ∷ []) i j → SpellsHead s.lexed j k h → u ≡ record r { params = r.params ++ h.params } → made ≡ method_of nobody Open (length r.params) h 0 0 → spells_at s.lexed.text s.lexed.tokens made.name (codes "main") ≡ true → made.is_async ≡ true → made.is_throwing ≡ false → SpellsBlock s k m body → end ≡ m - 1 → t ≡ with_main (record made { name = of; body = body; end = end }) u → SpellsMain s of i m r t
+main_of s {r = r} h a b u_is made_is named async throws block end_is t_is = rw t_is (rw u_is (rw made_is (rw end_is (a_main a b (rw made_is at named) (rw made_is at async) (rw made_is at throws) block))))
+
+-- The same, put.
+pub record PutSoFar (a : Source) (i j : ℕ) (r t : Rows) : Type 0 where
+  pub params : List ParamDecl
+  pub spelled : ParamsSoFar a.lexed i j params
+  pub rows : t ≡ record r { params = r.params ++ params }
+
+pub so_far_stays : (i j : ℕ) (r t : Rows) → Stays (λ a. PutSoFar a i j r t)
+so_far_stays i j r t a b m d = record { params = d.params; spelled = subst (λ l. ParamsSoFar l i j d.params) (sym m.lexed) d.spelled; rows = d.rows }
+
+pub param_put_stays : (i j : ℕ) (r t : Rows) → Stays (λ a. PutsParam a i j r t)
+param_put_stays i j r t a b m d = record { param = d.param; spelled = subst (λ l. SpellsParam l i j d.param) (sym m.lexed) d.spelled; rows = d.rows }
+
+pub rows_none : (r : Rows) → r ≡ record r { params = r.params ++ [] }
+rows_none r = ap (λ ps. record r { params = ps }) (sym (append-nil r.params))
+
+pub rows_on : (r t u : Rows) (ps : List ParamDecl) (p : ParamDecl) → t ≡ record r { params = r.params ++ ps } → u ≡ with_param p t → u ≡ record r { params = r.params ++ (ps ++ p ∷ []) }
+rows_on r t u ps p a b =
+    let joined : (r.params ++ ps) ++ p ∷ [] ≡ r.params ++ (ps ++ p ∷ []) = append_assoc r.params ps (p ∷ []) in
+    b ∙ (ap (with_param p) a ∙ ap (λ xs. record r { params = xs }) joined)

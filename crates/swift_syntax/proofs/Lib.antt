@@ -1,4 +1,5 @@
 pub mod Chains
+pub mod Declarations
 pub mod DeclaredRows
 pub mod Declaring
 pub mod Grown

@@ -1,9 +1,11 @@
 //! Actors, with their fields, invariants and methods.
 
-ghost use Rattle.std.specs.Prelude.{◌≡◌, IsNone, List};
-ghost use Rattle.swift_syntax.specs.Declarations.{IsLiteral, ReadsSuch, SpellsActor, SpellsDeclaration, SpellsMain};
-ghost use Rattle.swift_syntax.specs.DeclaringInside.{Declares};
-ghost use Rattle.swift_syntax.specs.ReadersInside.{Grows, source_with};
+ghost use Rattle.std.specs.Prelude.{[], ◌∷◌, ◌≡◌, IsNone, IsTrue, List, codes, false, true, ℕ};
+ghost use Rattle.swift_syntax.specs.Declarations.{IsLiteral, ReadsSuch, SpellsAccess, SpellsActor, SpellsDeclaration, SpellsKeeper, SpellsMain, SpellsMember, SpellsMethod, SpellsParam, SpellsPrivate, SpellsResult, SpellsStart, label_of};
+ghost use Rattle.swift_syntax.specs.DeclaringInside.{Declares, PutsField, PutsHead, PutsParam, PutsParams, with_field, with_invariant, with_main, with_param};
+ghost use Rattle.swift_syntax.specs.Expressions.{SpellsExpr, StandsAt, SwiftTree};
+ghost use Rattle.swift_syntax.specs.ReadersInside.{Grows, lexed_of, source_with};
+ghost use Rattle.swift_syntax.specs.StatementsInside.{Row, SpellsType, a_key, spells_at};
 
 use crate::expression::expression;
 use crate::reader::Reader;
@@ -30,7 +32,9 @@ pub(crate) fn literal(reader: &mut Reader<'_>) -> usize
     found
 }
 
-fn is_literal(reader: &Reader<'_>, place: usize) -> bool {
+fn is_literal(reader: &Reader<'_>, place: usize) -> bool
+    ensures { IsTrue result → (i j : ℕ) (v : SwiftTree) → SpellsExpr reader.now.tokens.now i j v → StandsAt reader.now.tree.value.exprs.items place v → IsLiteral v }
+{
     match reader.tree.expr(place).form {
         ExprForm::Number(_) | ExprForm::Truth(_) => true,
         ExprForm::Negate(inner) => matches!(reader.tree.expr(inner).form, ExprForm::Number(_)),
@@ -39,7 +43,10 @@ fn is_literal(reader: &Reader<'_>, place: usize) -> bool {
 }
 
 // Takes the words that say who may use a member, and who may set it.
-fn access(reader: &mut Reader<'_>) -> Access {
+fn access(reader: &mut Reader<'_>) -> Access
+    ensures spelled { IsNone reader.new.refused → SpellsAccess (lexed_of reader.new) reader.old.at reader.new.at result }
+    ensures grows { Grows reader.old reader.new }
+{
     if reader.takes_key(Word::Private) {
         return private_access(reader);
     }
@@ -49,12 +56,28 @@ fn access(reader: &mut Reader<'_>) -> Access {
         }
         return Access::Open;
     }
-    let _ = reader.takes_key(Word::Fileprivate) || reader.takes_key(Word::Internal);
+    open_access(reader)
+}
+
+// Takes the word that opens a member to its file or its module, if it is there.
+fn open_access(reader: &mut Reader<'_>) -> Access
+    ensures spelled { IsNone reader.new.refused → SpellsAccess (lexed_of reader.new) reader.old.at reader.new.at result }
+    ensures grows { Grows reader.old reader.new }
+{
+    if reader.takes_key(Word::Fileprivate) {
+        return Access::Open;
+    }
+    if reader.takes_key(Word::Internal) {
+        return Access::Open;
+    }
     Access::Open
 }
 
 // `(set)` behind `private`, if it is there.
-fn private_access(reader: &mut Reader<'_>) -> Access {
+fn private_access(reader: &mut Reader<'_>) -> Access
+    ensures spelled { IsNone reader.new.refused → (i : ℕ) → Row (lexed_of reader.old) (a_key Word.Private ∷ []) i reader.old.at → SpellsPrivate (lexed_of reader.new) i reader.new.at result }
+    ensures grows { Grows reader.old reader.new }
+{
     if reader.takes(Sign::Open) {
         reader.word("set");
         reader.sign(Sign::Close);
@@ -65,56 +88,77 @@ fn private_access(reader: &mut Reader<'_>) -> Access {
 }
 
 // Parameters behind their parenthesis, which are taken up to the one that closes them.
-fn params(reader: &mut Reader<'_>) {
+fn params(reader: &mut Reader<'_>)
+    ensures { Declares reader.old reader.new PutsParams }
+{
     if reader.takes(Sign::Close) {
         return;
     }
     for _ in 0..reader.tokens.len() {
         param(reader);
         if !reader.takes(Sign::Comma) {
-            break;
+            reader.sign(Sign::Close);
+            return;
         }
     }
-    reader.sign(Sign::Close);
+    reader.unexpected();
 }
 
-fn param(reader: &mut Reader<'_>) {
-    let is_open = reader.is_word("_");
-    let first = reader.name();
-    let name = match reader.here().kind {
-        TokenKind::Name => reader.take(),
-        _ => first,
-    };
-    let label = if is_open { 0 } else { first };
-    reader.sign(Sign::Colon);
+fn param(reader: &mut Reader<'_>)
+    ensures { Declares reader.old reader.new PutsParam }
+{
+    let (label, name) = param_names(reader);
     let value_type = reader.value_type();
-    let grown = reader
-        .tree
-        .params
-        .push(ParamDecl {
+    put_param(
+        reader,
+        ParamDecl {
             label,
             name,
             value_type,
-        })
-        .is_ok();
+        },
+    );
+}
+
+// The label of a parameter and its name, with the colon behind them.
+fn param_names(reader: &mut Reader<'_>) -> (usize, usize)
+    ensures spelled { IsNone reader.new.refused → (k : ℕ) (t : ValueType) → SpellsType (lexed_of reader.new) reader.new.at k t → SpellsParam (lexed_of reader.new) reader.old.at k (record { label = result.0; name = result.1; value_type = t }) }
+    ensures grows { Grows reader.old reader.new }
+{
+    let first = reader.name();
+    let label = label(reader, first);
+    if reader.takes(Sign::Colon) {
+        return (label, first);
+    }
+    let name = reader.name();
+    reader.sign(Sign::Colon);
+    (label, name)
+}
+
+// The label that the first name of a parameter is: 0 for `_`.
+fn label(reader: &Reader<'_>, name: usize) -> usize
+    ensures { result ≡ label_of (lexed_of reader.now) name }
+{
+    if reader.spells(name, "_") { 0 } else { name }
+}
+
+fn put_param(reader: &mut Reader<'_>, param: ParamDecl)
+    ensures { Declares reader.old reader.new (λ s i j r t. (i ≡ j) × (t ≡ with_param param r)) }
+{
+    let grown = reader.tree.params.push(param).is_ok();
     reader.note(grown);
 }
 
 // A field, from its `var` or `let` on.
-fn field(reader: &mut Reader<'_>, actor: usize, access: Access) {
-    let is_var = reader.is_key(Word::Var);
-    reader.take();
+fn field(reader: &mut Reader<'_>, actor: usize, access: Access)
+    ensures { Declares reader.old reader.new (λ s. PutsField s actor access) }
+{
+    let is_var = keeper(reader);
     let name = reader.name();
     let value_type = reader.annotation();
-    let start = if reader.takes(Sign::Assign) {
-        FieldStart::Value(literal(reader))
-    } else {
-        FieldStart::None
-    };
-    let grown = reader
-        .tree
-        .fields
-        .push(FieldDecl {
+    let start = start(reader);
+    put_field(
+        reader,
+        FieldDecl {
             actor,
             name,
             is_var,
@@ -122,8 +166,38 @@ fn field(reader: &mut Reader<'_>, actor: usize, access: Access) {
             value_type,
             start,
             given: 0,
-        })
-        .is_ok();
+        },
+    );
+}
+
+// Takes `var` or `let`. Whether it is `var`.
+fn keeper(reader: &mut Reader<'_>) -> bool
+    ensures spelled { IsNone reader.new.refused → SpellsKeeper (lexed_of reader.new) reader.old.at reader.new.at result }
+    ensures grows { Grows reader.old reader.new }
+{
+    if reader.takes_key(Word::Var) {
+        return true;
+    }
+    reader.key(Word::Let);
+    false
+}
+
+// The start value of a field, if there is one.
+fn start(reader: &mut Reader<'_>) -> FieldStart
+    ensures spelled { IsNone reader.new.refused → (xs : List Stmt) → SpellsStart (source_with reader.new xs) reader.old.at reader.new.at result }
+    ensures grows { Grows reader.old reader.new }
+{
+    if reader.takes(Sign::Assign) {
+        FieldStart::Value(literal(reader))
+    } else {
+        FieldStart::None
+    }
+}
+
+fn put_field(reader: &mut Reader<'_>, field: FieldDecl)
+    ensures { Declares reader.old reader.new (λ s i j r t. (i ≡ j) × (t ≡ with_field field r)) }
+{
+    let grown = reader.tree.fields.push(field).is_ok();
     reader.note(grown);
 }
 
@@ -188,7 +262,9 @@ fn init_step(reader: &mut Reader<'_>, actor: usize, first_param: usize) {
 }
 
 // An init, from its keyword on.
-fn init(reader: &mut Reader<'_>, actor: usize) {
+fn init(reader: &mut Reader<'_>, actor: usize)
+    ensures { Declares reader.old reader.new (λ s. SpellsMember s actor) }
+{
     if reader.tree.actors.get(actor).is_some_and(|a| a.has_init) {
         reader.refuse(Rule::NameTwice, reader.at);
     }
@@ -215,7 +291,9 @@ fn init(reader: &mut Reader<'_>, actor: usize) {
 }
 
 // The executor of an actor, from `nonisolated` on.
-fn executor(reader: &mut Reader<'_>, actor: usize) {
+fn executor(reader: &mut Reader<'_>, actor: usize)
+    ensures { Declares reader.old reader.new (λ s. SpellsMember s actor) }
+{
     reader.take();
     reader.key(Word::Var);
     reader.word("unownedExecutor");
@@ -234,7 +312,9 @@ fn executor(reader: &mut Reader<'_>, actor: usize) {
 }
 
 // What has to hold of an actor.
-fn invariant(reader: &mut Reader<'_>, actor: usize, test: usize) {
+fn invariant(reader: &mut Reader<'_>, actor: usize, test: usize)
+    ensures { Declares reader.old reader.new (λ s i j r t. (i ≡ j) × (t ≡ with_invariant actor test r)) }
+{
     let grown = reader
         .tree
         .invariants
@@ -257,20 +337,18 @@ fn lone_value(reader: &Reader<'_>, first: usize) -> usize {
 }
 
 // The head of a method, from its `func` on, without a body.
-fn method_head(reader: &mut Reader<'_>, actor: usize, access: Access) -> MethodDecl {
-    reader.take();
+fn method_head(reader: &mut Reader<'_>, actor: usize, access: Access) -> MethodDecl
+    ensures { Declares reader.old reader.new (λ s i j r t. PutsHead s actor access i j r t result) }
+{
+    reader.key(Word::Func);
     let name = reader.name();
-    let first_param = reader.tree.params.len();
     reader.sign(Sign::Open);
+    let first_param = reader.tree.params.len();
     params(reader);
     let params_end = reader.tree.params.len();
     let is_async = reader.takes_key(Word::Async);
     let is_throwing = reader.takes_key(Word::Throws);
-    let result = if reader.takes(Sign::Arrow) {
-        reader.value_type()
-    } else {
-        ValueType::Void
-    };
+    let result = result_type(reader);
     MethodDecl {
         actor,
         name,
@@ -283,6 +361,17 @@ fn method_head(reader: &mut Reader<'_>, actor: usize, access: Access) -> MethodD
         body: 0,
         end: 0,
     }
+}
+
+// What a method returns.
+fn result_type(reader: &mut Reader<'_>) -> ValueType
+    ensures spelled { IsNone reader.new.refused → SpellsResult (lexed_of reader.new) reader.old.at reader.new.at result }
+    ensures grows { Grows reader.old reader.new }
+{
+    if reader.takes(Sign::Arrow) {
+        return reader.value_type();
+    }
+    ValueType::Void
 }
 
 // A group or a binding that is a whole body is what is returned.
@@ -307,7 +396,9 @@ fn return_lone(reader: &mut Reader<'_>, method: MethodDecl) {
 }
 
 // A method, from its `func` on.
-fn method(reader: &mut Reader<'_>, actor: usize, access: Access) {
+fn method(reader: &mut Reader<'_>, actor: usize, access: Access)
+    ensures { Declares reader.old reader.new (λ s. SpellsMethod s actor access) }
+{
     let mut made = method_head(reader, actor, access);
     made.body = body(reader);
     made.end = reader.at.saturating_sub(1);
@@ -326,7 +417,9 @@ fn method(reader: &mut Reader<'_>, actor: usize, access: Access) {
 }
 
 // A member, up to what separates it from the next one.
-fn member(reader: &mut Reader<'_>, actor: usize) {
+fn member(reader: &mut Reader<'_>, actor: usize)
+    ensures { Declares reader.old reader.new (λ s. SpellsMember s actor) }
+{
     match reader.here().kind {
         TokenKind::Invariant => {
             reader.take();
@@ -399,16 +492,37 @@ pub(crate) fn main_method(reader: &mut Reader<'_>, name: usize)
     ensures { Declares reader.old reader.new (λ s. SpellsMain s name) }
 {
     reader.key(Word::Static);
-    if !reader.is_key(Word::Func) {
-        reader.unexpected();
+    let head = method_head(reader, usize::MAX, Access::Open);
+    want_main(reader, head);
+    let body = body(reader);
+    let end = reader.at.saturating_sub(1);
+    put_main(
+        reader,
+        MethodDecl {
+            name,
+            body,
+            end,
+            ..head
+        },
+    );
+}
+
+// Refuses a method that is no `main`.
+fn want_main(reader: &mut Reader<'_>, head: MethodDecl)
+    ensures same { IsNone reader.new.refused → reader.new ≡ reader.old }
+    ensures named { IsNone reader.new.refused → spells_at reader.old.text.now reader.old.tokens.now head.name (codes "main") ≡ true }
+    ensures is_async { IsNone reader.new.refused → head.is_async ≡ true }
+    ensures throws { IsNone reader.new.refused → head.is_throwing ≡ false }
+    ensures grows { Grows reader.old reader.new }
+{
+    if !reader.spells(head.name, "main") || !head.is_async || head.is_throwing {
+        reader.refuse(Rule::Outside, head.name);
     }
-    let mut made = method_head(reader, usize::MAX, Access::Open);
-    if !reader.spells(made.name, "main") || !made.is_async || made.is_throwing {
-        reader.refuse(Rule::Outside, made.name);
-    }
-    made.name = name;
-    made.body = body(reader);
-    made.end = reader.at.saturating_sub(1);
+}
+
+fn put_main(reader: &mut Reader<'_>, made: MethodDecl)
+    ensures { Declares reader.old reader.new (λ s i j r t. (i ≡ j) × (t ≡ with_main made r)) }
+{
     let grown = reader.tree.mains.push(made).is_ok();
     reader.note(grown);
 }
