@@ -408,7 +408,7 @@ pub(crate) fn declaration(reader: &mut Reader<'_>)
         TokenKind::Sign(Sign::At) => main_type(reader),
         TokenKind::Key(Word::Actor) => actor(reader),
         TokenKind::Key(Word::Final) => {
-            reader.take();
+            reader.key(Word::Final);
             actor(reader);
         }
         TokenKind::Key(_) => reader.refuse(Rule::Outside, reader.at),

@@ -1,10 +1,12 @@
 //! Whole files.
 
-ghost use Rattle.std.specs.Prelude.{◌≡◌, ◌<◌, All, IfOk, IfSome, None, length};
+ghost use Rattle.std.specs.Prelude.{◌≡◌, ◌<◌, All, IfOk, IfSome, IsNone, None, length};
 ghost use Rattle.std.specs.Option.{option_map};
-ghost use Rattle.swift_syntax.specs.Declarations.{SpellsFile};
+ghost use Rattle.swift_syntax.specs.Declarations.{SpellsDeclarations, SpellsFile, rows_of};
+ghost use Rattle.swift_syntax.specs.DeclaringInside.{Puts};
 ghost use Rattle.swift_syntax.specs.Lexes.{AreTokensOf};
 ghost use Rattle.swift_syntax.specs.Places.{IsBlamedIn, IsTokenOf, IsTooLarge};
+ghost use Rattle.swift_syntax.specs.ReadersInside.{Extends, IsBegun};
 
 use crate::declaration::declaration;
 use crate::list::tokens;
@@ -27,12 +29,21 @@ pub struct ReadFile {
     pub refused: Option<Refusal>,
 }
 
-// All declarations of a file.
-fn declarations(reader: &mut Reader<'_>) {
-    // The places 0 stand for none.
+// Puts what the places 0 stand for: none.
+fn begin(reader: &mut Reader<'_>)
+    ensures begun { IsNone reader.new.refused → IsBegun reader.new }
+    ensures at { IsNone reader.new.refused → reader.new.at ≡ reader.old.at }
+    ensures extends { Extends reader.old reader.new }
+{
     reader.expr(ExprForm::Missing, 0);
     reader.argument(0, 0, 0);
     reader.stmt(StmtForm::Return, 0);
+}
+
+// All declarations of a file.
+fn declarations(reader: &mut Reader<'_>)
+    ensures { Puts reader.old reader.new (λ s. SpellsDeclarations s reader.old.at (rows_of reader.old.tree.value) (rows_of reader.new.tree.value)) }
+{
     for _ in 0..reader.tokens.len() {
         if reader.takes(Sign::Semicolon) {
             continue;
@@ -42,6 +53,9 @@ fn declarations(reader: &mut Reader<'_>) {
         }
         declaration(reader);
         reader.separator();
+    }
+    if !matches!(reader.here().kind, TokenKind::End) {
+        reader.unexpected();
     }
 }
 
@@ -87,6 +101,7 @@ fn read_tokens(
     text: &[u8],
     tokens: &[Token],
 ) -> Result<(Box<Tree>, Option<Breach>), AllocError>
+    ensures spelled { IfOk result (λ read. read.1 ≡ None → SpellsFile text.now tokens.now read.0.value) }
     ensures large { IfOk result (λ read. BYTES < length text.now → IsTooLarge (option_map (λ b. b.rule) read.1)) }
 {
     if text.len() > BYTES {
@@ -97,6 +112,7 @@ fn read_tokens(
         return Ok((Box::new(alloc, Tree::new(alloc))?, Some(breach)));
     }
     let mut reader = Reader::new(alloc, text, tokens)?;
+    begin(&mut reader);
     declarations(&mut reader);
     Ok((reader.tree, reader.refused))
 }
