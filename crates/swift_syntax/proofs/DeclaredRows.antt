@@ -1,25 +1,27 @@
 -- What is read of declarations piece by piece is read as a whole.
-use Rattle.std.proofs.Common.{◌≡◌, ◌≢◌, ◌⊎◌, inl, inr, ℕ, List, [], ◌∷◌, true, refl, sym, ap, subst, codes, ◌∙◌}
+use Rattle.std.proofs.Common.{◌≡◌, ◌≢◌, ◌⊎◌, inl, inr, ℕ, List, [], ◌∷◌, true, length, refl, sym, ap, subst, codes, ◌∙◌}
 use Rattle.std.proofs.lemmas.List.{append-nil}
 use Rattle.std.specs.Prelude.{IsNone, IsSome}
 use Rattle.swift_syntax.specs.declared.reader.Reader.{Reader}
 use Rattle.swift_syntax.specs.declared.token.TokenKind.TheVariants as kind
 use Rattle.swift_syntax.specs.declared.sign.Sign.{Sign}
+use Rattle.swift_syntax.specs.declared.sign.Sign.TheVariants as sign
+use Rattle.swift_syntax.specs.declared.tree.Access.TheVariants.{Open}
 use Rattle.swift_syntax.specs.declared.tree.Stmt.{Stmt}
 use Rattle.swift_syntax.specs.declared.token.TokenKind.{TokenKind}
 use Rattle.swift_syntax.specs.declared.word.Word.TheVariants as word
-use Rattle.swift_syntax.specs.Declarations.{IsLiteral, ReadsSuch, Rows, SpellsBalanced, SpellsHead, SpellsImport, SpellsLocal, SpellsMain, open_behind, rows_of}
+use Rattle.swift_syntax.specs.Declarations.{IsLiteral, ReadsSuch, Rows, SpellsAccess, SpellsActor, SpellsBalanced, SpellsCases, SpellsDeclaration, SpellsHead, SpellsHolder, SpellsImport, SpellsInstance, SpellsKind, SpellsLocal, SpellsLocals, SpellsMain, SpellsMethod, SpellsSendable, nobody, open_behind, rows_of}
 use Rattle.swift_syntax.specs.Declarations as swift
 use Rattle.swift_syntax.specs.DeclaringInside.{Continues, Declares, Puts}
 use Rattle.swift_syntax.specs.Expressions.{after, kind_at}
 use Rattle.swift_syntax.specs.ReadersInside.{Grows, lexed_of, source_with, taken}
 use Rattle.swift_syntax.specs.RowsInside.{ArePut}
-use Rattle.swift_syntax.specs.StatementsInside.{Row, Source, SpellsAnnotation, a_key, begins_line, no_token, spells_at, the_word}
+use Rattle.swift_syntax.specs.StatementsInside.{Row, Source, Separates, SpellsAnnotation, a_key, begins_line, no_token, spells_at, the_word}
 use Rattle.swift_syntax.proofs.Declarations.{such_stays}
 use Rattle.swift_syntax.proofs.Declaring.{GoesOn, continues_of, continues_on, goes_stays, more_on, puts, puts_as, puts_of, same_rows}
 use Rattle.swift_syntax.proofs.Grown.{extends_of, grows_same}
 use Rattle.swift_syntax.proofs.Refused.{clash, grows_taken}
-use Rattle.swift_syntax.proofs.Statements.{IsMore, Stays, block_stays, lexed_stays, row_stays}
+use Rattle.swift_syntax.proofs.Statements.{IsMore, Stays, block_stays, expr_stays, lexed_stays, row_stays}
 use Rattle.swift_syntax.proofs.Steps.{Took, lexed_on, no_row, rows, took_same, took_word}
 
 -- one more token of braces that balance
@@ -150,5 +152,24 @@ took_literal r s p d g = record { grows = g; holds = d }
 pub local_stays : (of i j : ℕ) (u v : Rows) → Stays (λ a. SpellsLocal a of i j u v)
 local_stays of i j u v s t m (swift.a_local {k = x} {m = y} {t = w} a b c d e) = swift.a_local (row_stays _ _ _ s t m a) (row_stays _ _ _ s t m b) (lexed_stays (λ l. SpellsAnnotation l x y w) s t m c) (row_stays _ _ _ s t m d) (literal_stays _ _ _ s t m e)
 
+pub locals_stay : {of : ℕ} (s t : Source) {i j : ℕ} {u v : Rows} → IsMore s t → SpellsLocals s of i j u v → SpellsLocals t of i j u v
+locals_stay s t m (swift.locals_end a) = swift.locals_end (row_stays _ _ _ s t m a)
+locals_stay s t m (swift.locals_blank a b) = swift.locals_blank (row_stays _ _ _ s t m a) (locals_stay s t m b)
+locals_stay s t m (swift.locals_more {j = j} {k = k} a b c) = swift.locals_more (local_stays _ _ _ _ _ s t m a) (lexed_stays (λ l. Separates l j k) s t m b) (locals_stay s t m c)
+
 pub main_there : (of i j : ℕ) (u v : Rows) → Stays (λ a. SpellsMain a of i j u v)
 main_there of i j u v s t m (swift.a_main {j = k} {k = n} {h = h} a b c d e f) = swift.a_main (row_stays _ _ _ s t m a) (lexed_stays (λ l. SpellsHead l k n h) s t m b) (lexed_stays (λ l. spells_at l.text l.tokens h.name (codes "main") ≡ true) s t m c) d e (block_stays s t m f)
+
+-- a declaration stays where actors and methods do
+pub declaration_stays : ((i j : ℕ) (u v : Rows) → Stays (λ a. SpellsActor a i j u v)) → ((i j : ℕ) (u v : Rows) → Stays (λ a. SpellsMethod a nobody Open i j u v)) → (i j : ℕ) (u v : Rows) → Stays (λ a. SpellsDeclaration a i j u v)
+declaration_stays actor method i j u v s t m (swift.decl_import a) = swift.decl_import (lexed_stays (λ l. SpellsImport l i j) s t m a)
+declaration_stays actor method i j u v s t m (swift.decl_faults {j = k} a b) = swift.decl_faults (row_stays _ _ _ s t m a) (lexed_stays (λ l. SpellsCases l (after i) (length u.cases) k j u v) s t m b)
+declaration_stays actor method i j u v s t m (swift.decl_locals a b) = swift.decl_locals (row_stays _ _ _ s t m a) (locals_stay s t m b)
+declaration_stays actor method i n u v s t m (swift.decl_executor {j = j} {k = k} {m = o} {of = of} a b c d e f g) = swift.decl_executor (lexed_stays (λ l. kind_at l.tokens i ≡ kind.Executor) s t m a) (lexed_stays (λ l. SpellsKind l (after i) j of) s t m b) (lexed_stays (λ l. begins_line l j ≡ true) s t m c) (row_stays _ _ _ s t m d) (lexed_stays (λ l. SpellsSendable l k o) s t m e) (lexed_stays (λ l. kind_at l.tokens o ≡ kind.Sign sign.OpenBrace) s t m f) (lexed_stays (λ l. SpellsBalanced l 0 o n) s t m g)
+declaration_stays actor method i j u v s t m (swift.decl_expectation a b) = swift.decl_expectation (lexed_stays (λ l. kind_at l.tokens i ≡ kind.Expect) s t m a) (expr_stays _ _ _ s t m b)
+declaration_stays actor method i n u v s t m (swift.decl_instance {j = j} {k = k} {m = o} {t = w} a b c d) = swift.decl_instance (row_stays _ _ _ s t m a) (lexed_stays (λ l. SpellsAnnotation l j k w) s t m b) (row_stays _ _ _ s t m c) (lexed_stays (λ l. SpellsInstance l (after i) o n u v) s t m d)
+declaration_stays actor method i n u v s t m (swift.decl_constant {j = j} {k = k} {t = w} a b c d) = swift.decl_constant (row_stays _ _ _ s t m a) (lexed_stays (λ l. SpellsAnnotation l j k w) s t m b) (row_stays _ _ _ s t m c) (literal_stays _ _ _ s t m d)
+declaration_stays actor method i n u v s t m (swift.decl_main {j = j} {k = k} a b c d e) = swift.decl_main (row_stays _ _ _ s t m a) (lexed_stays (λ l. SpellsHolder l j k) s t m b) (row_stays _ _ _ s t m c) (main_there _ _ _ _ _ s t m d) (row_stays _ _ _ s t m e)
+declaration_stays actor method i j u v s t m (swift.decl_actor a) = swift.decl_actor (actor _ _ _ _ s t m a)
+declaration_stays actor method i j u v s t m (swift.decl_final_actor a b) = swift.decl_final_actor (row_stays _ _ _ s t m a) (actor _ _ _ _ s t m b)
+declaration_stays actor method i n u v s t m (swift.decl_function {j = j} {access = access} a b) = swift.decl_function (lexed_stays (λ l. SpellsAccess l i j access) s t m a) (method _ _ _ _ s t m b)
