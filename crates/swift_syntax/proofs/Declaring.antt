@@ -1,12 +1,16 @@
 -- What is declared piece by piece is declared as a whole.
-use Rattle.std.proofs.Common.{◌≡◌, ◌≢◌, ℕ, ◌-◌, Bool, true, false, Option, List, [], ◌∷◌, ◌++◌, length, refl, sym, ap, subst, ◌∙◌, arith, append_assoc}
+use Rattle.std.proofs.Common.{◌≡◌, ◌≢◌, ℕ, ◌-◌, Bool, true, false, Option, Some, List, [], ◌∷◌, ◌++◌, length, refl, sym, ap, subst, ◌∙◌, arith, append_assoc}
 use Rattle.std.proofs.lemmas.List.{append-nil, length-append}
-use Rattle.std.specs.Prelude.{IsNone, codes}
+use Rattle.std.specs.List.{slice_get}
+use Rattle.std.specs.Prelude.{IsNone, codes, slice_set}
 use Rattle.swift_syntax.specs.declared.reader.Reader.{Reader}
 use Rattle.swift_syntax.specs.declared.tree.Stmt.{Stmt}
 use Rattle.swift_syntax.specs.declared.sign.Sign.TheVariants as sign
 use Rattle.swift_syntax.specs.declared.tree.Access.{Access}
 use Rattle.swift_syntax.specs.declared.tree.Access.TheVariants.{Open}
+use Rattle.swift_syntax.specs.declared.tree.ActorDecl.{ActorDecl}
+use Rattle.swift_syntax.specs.declared.tree.Tree.{Tree}
+use Rattle.swift_syntax.specs.declared.tree.FieldDecl.{FieldDecl}
 use Rattle.swift_syntax.specs.declared.tree.FieldStart.{FieldStart}
 use Rattle.swift_syntax.specs.declared.tree.MethodDecl.{MethodDecl}
 use Rattle.swift_syntax.specs.declared.word.Word.TheVariants as word
@@ -15,13 +19,13 @@ use Rattle.swift_syntax.specs.declared.tree.ValueType.{ValueType}
 use Rattle.swift_syntax.specs.Expressions.{after}
 use Rattle.swift_syntax.specs.Expressions as swift
 use Rattle.swift_syntax.specs.declared.token.TokenKind.TheVariants as kind
-use Rattle.swift_syntax.specs.Declarations.{IsLiteral, MethodHead, Rows, SpellsField, SpellsHead, SpellsKeeper, SpellsMain, SpellsResult, a_field, a_head, a_main, method_of, nobody, SpellsParam, SpellsParams, SpellsSomeParams, SpellsStart, label_of, not_started, one_more_param, one_name, one_param, rows_of, some_params, started, two_names}
+use Rattle.swift_syntax.specs.Declarations.{IsLiteral, MethodHead, Rows, SpellsAccess, SpellsField, SpellsHead, SpellsKeeper, SpellsMain, SpellsMember, SpellsResult, changed_at, changed_in, member_executor, on_executor, a_field, a_head, a_main, method_of, nobody, SpellsParam, SpellsParams, SpellsSomeParams, SpellsStart, label_of, not_started, one_more_param, one_name, one_param, rows_of, some_params, started, two_names}
 use Rattle.swift_syntax.specs.DeclaringInside.{Continues, Puts, PutsHead, PutsParam, PutsParams, with_main, with_param}
 use Rattle.swift_syntax.specs.ReadersInside.{Adds, Extends, Grows, IsBegun, lexed_of, source_with, taken}
-use Rattle.swift_syntax.specs.StatementsInside.{Lexed, Row, Source, SpellsAnnotation, SpellsBlock, SpellsPerhaps, SpellsType, Want, a_key, a_name, a_sign, spells_at}
+use Rattle.swift_syntax.specs.StatementsInside.{Lexed, Row, Source, SpellsAnnotation, SpellsBlock, SpellsPerhaps, SpellsType, Want, a_key, a_name, a_sign, spells_at, the_word}
 use Rattle.swift_syntax.proofs.Declarations.{such_stays}
 use Rattle.swift_syntax.proofs.Grown.{extends_of}
-use Rattle.swift_syntax.proofs.Statements.{IsMore, Stays, lexed_stays, row_stays}
+use Rattle.swift_syntax.proofs.Statements.{IsMore, Stays, block_stays, lexed_stays, row_stays}
 use Rattle.swift_syntax.proofs.Steps.{Step, Took, adds_of, took_name}
 
 pub continues_of : {r s : Reader} → Extends r s → Continues r s
@@ -178,3 +182,22 @@ pub rows_on : (r t u : Rows) (ps : List ParamDecl) (p : ParamDecl) → t ≡ rec
 rows_on r t u ps p a b =
     let joined : (r.params ++ ps) ++ p ∷ [] ≡ r.params ++ (ps ++ p ∷ []) = append_assoc r.params ps (p ∷ []) in
     b ∙ (ap (with_param p) a ∙ ap (λ xs. record r { params = xs }) joined)
+
+-- an executor whose name's place is known
+pub executor_of : (s : Source) {actor i j k p : ℕ} {r t u : Rows} → p ≡ j → u ≡ r → t ≡ record u { actors = changed_at (on_executor p) actor u.actors } → Row s.lexed (a_key word.Nonisolated ∷ a_key word.Var ∷ the_word (codes "unownedExecutor") ∷ a_sign sign.Colon ∷ the_word (codes "UnownedSerialExecutor") ∷ a_sign sign.OpenBrace ∷ []) i j → Row s.lexed (a_name ∷ a_sign sign.Dot ∷ the_word (codes "asUnownedSerialExecutor") ∷ a_sign sign.Open ∷ a_sign sign.Close ∷ a_sign sign.CloseBrace ∷ []) j k → SpellsMember s actor i k r t
+executor_of s p_is u_is t_is a b = rw t_is (rw u_is (rw p_is (member_executor a b)))
+
+-- an actor that is changed in its table
+pub changed_rows : (t u : Tree) (f : ActorDecl → ActorDecl) (p : ℕ) (a : ActorDecl) → slice_get t.actors.items p ≡ Some a → t ≡ u → record (rows_of t) { actors = slice_set t.actors.items p (f a) } ≡ record (rows_of u) { actors = changed_at f p u.actors.items }
+changed_rows t u f p a found same =
+    ap (λ o. record (rows_of t) { actors = changed_in f p t.actors.items o }) (sym found)
+    ∙ ap (λ (v : Tree). record (rows_of v) { actors = changed_at f p v.actors.items }) same
+
+pub main_stays : (of i j : ℕ) (r t : Rows) → Stays (λ a. SpellsMain a of i j r t)
+main_stays of i j r t a b m (a_main {i = i'} {j = j'} {k = k} {m = n} {h = h} x y z u v w) = a_main (row_stays _ _ _ a b m x) (lexed_stays (λ l. SpellsHead l j' k h) a b m y) (lexed_stays (λ l. spells_at l.text l.tokens h.name (codes "main") ≡ true) a b m z) u v (block_stays a b m w)
+
+pub access_stays : (i j : ℕ) (x : Access) → Stays (λ a. SpellsAccess a.lexed i j x)
+access_stays i j x = lexed_stays (λ l. SpellsAccess l i j x)
+
+pub field_stays : (actor : ℕ) (access : Access) (i j : ℕ) (f : FieldDecl) → Stays (λ a. SpellsField a actor access i j f)
+field_stays actor access i j f a b m (a_field {i = i'} {j = j'} {k = k} {m = n} {n = o} {is_var = v} {t = t} {x = x} k_is row type start) = a_field (lexed_stays (λ l. SpellsKeeper l i' j' v) a b m k_is) (row_stays _ _ _ a b m row) (lexed_stays (λ l. SpellsAnnotation l k n t) a b m type) (start_stays n o x a b m start)

@@ -1,3 +1,4 @@
+pub mod Bodies
 pub mod Chains
 pub mod Declarations
 pub mod DeclaredRows

@@ -159,11 +159,14 @@ pub data SpellsGiving (s : Source) (actor : ℕ) : ℕ → ℕ → List FieldDec
   gives_blank : {i j k : ℕ} {fs gs : List FieldDecl} → Row s.lexed (a_sign sign.Semicolon ∷ []) i j → SpellsGiving s actor j k fs gs → SpellsGiving s actor i k fs gs
   gives_one : {i j k m n o p : ℕ} {fs gs : List FieldDecl} → SpellsOwn s.lexed i j → Row s.lexed (a_name ∷ a_sign sign.Assign ∷ []) j k → ReadsSuch IsPlain s k m p → Separates s.lexed m n → SpellsGiving s actor n o (given_to s.lexed actor j p fs) gs → SpellsGiving s actor i o fs gs
 
+-- the actors, of which the one at a place is changed, where it was found
+abbrev pub changed_in : (ActorDecl → ActorDecl) → ℕ → List ActorDecl → Option ActorDecl → List ActorDecl
+changed_in f place actors None = actors
+changed_in f place actors (Some a) = slice_set actors place (f a)
+
 -- the actors, of which the one at a place is changed
-pub changed_at : (ActorDecl → ActorDecl) → ℕ → List ActorDecl → List ActorDecl
-changed_at f place [] = []
-changed_at f zero (a ∷ actors) = f a ∷ actors
-changed_at f (suc place) (a ∷ actors) = a ∷ changed_at f place actors
+abbrev pub changed_at : (ActorDecl → ActorDecl) → ℕ → List ActorDecl → List ActorDecl
+changed_at f place actors = changed_in f place actors (slice_get actors place)
 
 -- an actor with an init whose parameters have these places
 abbrev pub with_init : ℕ → ℕ → ActorDecl → ActorDecl
@@ -200,17 +203,18 @@ returned (stmt.Group into.Nothing found is_throwing body) = stmt.Group into.Retu
 returned (stmt.Bind into.Nothing of value body) = stmt.Bind into.Return of value body
 returned other = other
 
--- A body: a block; where it is one statement alone, and a value is to be returned, that one returns it.
--- the statement at a place, where it was found
+-- the statements, of which the one at a place, where it was found, returns what it gives
 abbrev pub found_returned : ℕ → List Stmt → Option Stmt → List Stmt
 found_returned p xs None = xs
 found_returned p xs (Some made) = if nat_eq made.next 0 then slice_set xs p (record made { form = returned made.form }) else xs
 
--- the statements, of which the one at a place, where it is the last of its block, returns what it gives
+-- the statements, of which the one at a place, where it is the last of its block, returns what it gives; the place 0 stands for none
 abbrev pub lone_returned : ValueType → ℕ → List Stmt → List Stmt
 lone_returned type.Void p xs = xs
-lone_returned _ p xs = found_returned p xs (slice_get xs p)
+lone_returned _ zero xs = xs
+lone_returned _ (suc p) xs = found_returned (suc p) xs (slice_get xs (suc p))
 
+-- A body: a block; where it is one statement alone, and a value is to be returned, that one returns it.
 pub record SpellsBody (s : Source) (result : ValueType) (from to place : ℕ) : Type 0 where
   pub before : List Stmt
   pub block : SpellsBlock (record s { stmts = before }) from to place

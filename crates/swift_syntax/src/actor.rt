@@ -1,7 +1,7 @@
 //! Actors, with their fields, invariants and methods.
 
-ghost use Rattle.std.specs.Prelude.{[], ◌∷◌, ◌≡◌, IsNone, IsTrue, List, codes, false, true, ℕ};
-ghost use Rattle.swift_syntax.specs.Declarations.{IsLiteral, ReadsSuch, SpellsAccess, SpellsActor, SpellsDeclaration, SpellsKeeper, SpellsMain, SpellsMember, SpellsMethod, SpellsParam, SpellsPrivate, SpellsResult, SpellsStart, label_of};
+ghost use Rattle.std.specs.Prelude.{[], ◌∷◌, ◌≡◌, IsNone, IsTrue, List, codes, false, length, true, ℕ};
+ghost use Rattle.swift_syntax.specs.Declarations.{IsLiteral, ReadsSuch, SpellsAccess, SpellsActor, SpellsDeclaration, SpellsKeeper, SpellsMain, SpellsMember, SpellsMethod, SpellsParam, SpellsPrivate, SpellsResult, SpellsStart, changed_at, label_of, on_executor};
 ghost use Rattle.swift_syntax.specs.DeclaringInside.{Declares, PutsField, PutsHead, PutsParam, PutsParams, with_field, with_invariant, with_main, with_param};
 ghost use Rattle.swift_syntax.specs.Expressions.{SpellsExpr, StandsAt, SwiftTree};
 ghost use Rattle.swift_syntax.specs.ReadersInside.{Grows, lexed_of, source_with};
@@ -294,7 +294,7 @@ fn init(reader: &mut Reader<'_>, actor: usize)
 fn executor(reader: &mut Reader<'_>, actor: usize)
     ensures { Declares reader.old reader.new (λ s. SpellsMember s actor) }
 {
-    reader.take();
+    reader.key(Word::Nonisolated);
     reader.key(Word::Var);
     reader.word("unownedExecutor");
     reader.sign(Sign::Colon);
@@ -306,6 +306,12 @@ fn executor(reader: &mut Reader<'_>, actor: usize)
     reader.sign(Sign::Open);
     reader.sign(Sign::Close);
     reader.sign(Sign::CloseBrace);
+    set_executor(reader, actor, name);
+}
+
+fn set_executor(reader: &mut Reader<'_>, actor: usize, name: usize)
+    ensures { Declares reader.old reader.new (λ s i j r t. (i ≡ j) × (t ≡ record r { actors = changed_at (on_executor name) actor r.actors })) }
+{
     if let Some(made) = reader.tree.actors.get_mut(actor) {
         made.executor = name;
     }
@@ -343,9 +349,9 @@ fn method_head(reader: &mut Reader<'_>, actor: usize, access: Access) -> MethodD
     reader.key(Word::Func);
     let name = reader.name();
     reader.sign(Sign::Open);
-    let first_param = reader.tree.params.len();
+    let first_param = params_len(reader);
     params(reader);
-    let params_end = reader.tree.params.len();
+    let params_end = params_len(reader);
     let is_async = reader.takes_key(Word::Async);
     let is_throwing = reader.takes_key(Word::Throws);
     let result = result_type(reader);
@@ -363,6 +369,13 @@ fn method_head(reader: &mut Reader<'_>, actor: usize, access: Access) -> MethodD
     }
 }
 
+// How many parameters were read.
+fn params_len(reader: &Reader<'_>) -> usize
+    ensures { result ≡ length reader.now.tree.value.params.items }
+{
+    reader.tree.params.len()
+}
+
 // What a method returns.
 fn result_type(reader: &mut Reader<'_>) -> ValueType
     ensures spelled { IsNone reader.new.refused → SpellsResult (lexed_of reader.new) reader.old.at reader.new.at result }
@@ -376,7 +389,8 @@ fn result_type(reader: &mut Reader<'_>) -> ValueType
 
 // A group or a binding that is a whole body is what is returned.
 fn return_lone(reader: &mut Reader<'_>, method: MethodDecl) {
-    if method.result == ValueType::Void {
+    // The place 0 stands for no statement.
+    if method.result == ValueType::Void || method.body == 0 {
         return;
     }
     if let Some(stmt) = reader.tree.stmts.get_mut(method.body) {

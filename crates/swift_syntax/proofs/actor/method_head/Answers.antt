@@ -1,4 +1,4 @@
-use Rattle.std.proofs.Common.{◌≡◌, ◌∷◌, [], ◌++◌, ◌∙◌, ap, length, subst, sym}
+use Rattle.std.proofs.Common.{◌≡◌, ◌∷◌, [], ◌++◌, ◌∙◌, ap, length}
 use Rattle.swift_syntax.specs.Declarations.{MethodHead, Rows, SpellsResult, rows_of}
 use Rattle.swift_syntax.specs.Expressions.{after}
 use Rattle.swift_syntax.specs.StatementsInside.{Lexed, Row, SpellsPerhaps, a_key, a_name, a_sign}
@@ -37,5 +37,5 @@ returns c =
         head = made;
         spelled = head_of a.lexed x.0.1 x.0.0 x.1.0.spelled x.1.1.0 x.1.1.1.0 x.1.1.1.1;
         rows = same_rows _ _ tail.grows ∙ put;
-        is = counted c.args.actor c.args.access made before.params (c.len-first_param.ensures ∙ ap (λ t. length t.params.items) c.deref.ensures ∙ ap length before_params) (c.len-params_end.ensures ∙ ap (λ t. length t.params.items) c.deref-2.ensures ∙ ap (λ (r : Rows). length r.params) put);
+        is = counted c.args.actor c.args.access made before.params (c.params_len-first_param.ensures ∙ ap length before_params) (c.params_len-params_end.ensures ∙ ap (λ (r : Rows). length r.params) put);
       }) all
