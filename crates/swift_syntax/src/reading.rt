@@ -4,9 +4,10 @@ ghost use Rattle.std.specs.Prelude.{◌≡◌, ◌<◌, All, IfOk, IfSome, IsNon
 ghost use Rattle.std.specs.Option.{option_map};
 ghost use Rattle.swift_syntax.specs.Declarations.{SpellsDeclarations, SpellsFile, rows_of};
 ghost use Rattle.swift_syntax.specs.DeclaringInside.{Puts};
+ghost use Rattle.swift_syntax.specs.Expressions.{kind_at};
 ghost use Rattle.swift_syntax.specs.Lexes.{AreTokensOf};
 ghost use Rattle.swift_syntax.specs.Places.{IsBlamedIn, IsTokenOf, IsTooLarge};
-ghost use Rattle.swift_syntax.specs.ReadersInside.{Extends, IsBegun};
+ghost use Rattle.swift_syntax.specs.ReadersInside.{Extends, Grows, IsBegun};
 
 use crate::declaration::declaration;
 use crate::list::tokens;
@@ -54,8 +55,17 @@ fn declarations(reader: &mut Reader<'_>)
         declaration(reader);
         reader.separator();
     }
-    if !matches!(reader.here().kind, TokenKind::End) {
-        reader.unexpected();
+    want_end(reader);
+}
+
+// Refuses all but the end of the text.
+fn want_end(reader: &mut Reader<'_>)
+    ensures end { IsNone reader.new.refused → (kind_at reader.old.tokens.now reader.old.at ≡ TokenKind.End) × (reader.new ≡ reader.old) }
+    ensures grows { Grows reader.old reader.new }
+{
+    match reader.here().kind {
+        TokenKind::End => {}
+        _ => reader.unexpected(),
     }
 }
 
