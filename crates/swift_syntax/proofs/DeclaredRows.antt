@@ -46,8 +46,10 @@ import_of r s t u key same known g h took n = modules known
   where
     of_same : (x : List ℕ) → spells_at s.text.now s.tokens.now s.at x ≡ true → spells_at t.text.now t.tokens.now t.at x ≡ true
     of_same x e = subst (λ y. spells_at y.text.now y.tokens.now y.at x ≡ true) (sym same) e
+
     word_of : (x : List ℕ) → spells_at s.text.now s.tokens.now s.at x ≡ true → Row (lexed_of u) (a_key word.Import ∷ the_word x ∷ []) r.at u.at
     word_of x e = (rows r s u key (rows s t u (took_same s t (λ m. same) g) (took_word t u x (λ m. (of_same x e, took)) h))).holds n []
+
     modules : (spells_at s.text.now s.tokens.now s.at (codes "Dispatch") ≡ true) ⊎ (spells_at s.text.now s.tokens.now s.at (codes "Foundation") ≡ true) → SpellsImport (lexed_of u) r.at u.at
     modules (inl e) = swift.imports_dispatch (word_of (codes "Dispatch") e)
     modules (inr e) = swift.imports_foundation (word_of (codes "Foundation") e)
@@ -73,9 +75,9 @@ pub put_behind : (r s t : Reader) {P : Source → Type 0} (Q : Source → ℕ �
 put_behind r s t Q f stays p put g make =
     let same = same_rows r s p.grows in
     puts_where (λ n a x.
-        let all = make (g.refused n) a x.0 in
-        let is : rows_of t.tree.value ≡ f (rows_of r.tree.value) = x.1.1 ∙ ap f same in
-        subst (λ j. Q a r.at j (rows_of r.tree.value) (rows_of t.tree.value)) (no_row a.lexed x.1.0) (subst (λ u. Q a r.at s.at (rows_of r.tree.value) u) (sym is) all)) (puts r s t stays (puts_of r s p) (put_rows s t put g))
+    let all = make (g.refused n) a x.0 in
+    let is : rows_of t.tree.value ≡ f (rows_of r.tree.value) = x.1.1 ∙ ap f same in
+    subst (λ j. Q a r.at j (rows_of r.tree.value) (rows_of t.tree.value)) (no_row a.lexed x.1.0) (subst (λ u. Q a r.at s.at (rows_of r.tree.value) u) (sym is) all)) (puts r s t stays (puts_of r s p) (put_rows s t put g))
 
 -- what declares nothing
 pub took_declares : (r s : Reader) {P : Source → Type 0} (Q : Source → ℕ → ℕ → Rows → Rows → Type 0) → Took r s P → ((a : Source) (u : Rows) → P a → Q a r.at s.at u u) → Declares r s Q

@@ -18,4 +18,4 @@ returns c =
     let made : ℕ → CaseDecl = λ p. record { of = c.args.of; name = c.name-name.result; place = p } in
     let put = subst (λ p. IsNone c.put_case.new.reader.refused → ArePut c.name-name.new.self c.put_case.new.reader (record after { cases = after.cases ++ made p ∷ [] })) place c.put_case.ensures.put in
     put_behind c.args.reader.now c.name-name.new.self c.put_case.new.reader (λ s. SpellsCase s.lexed c.args.of c.args.first) (λ r. record r { cases = r.cases ++ made (length before.cases - c.args.first) ∷ [] }) (row_stays (a_name ∷ []) c.args.reader.now.at c.name-name.new.self.at) name put c.put_case.ensures.continues (λ n a x.
-        subst (λ p. SpellsCase a.lexed c.args.of c.args.first c.args.reader.now.at c.name-name.new.self.at before (record before { cases = before.cases ++ record { of = c.args.of; name = p; place = length before.cases - c.args.first } ∷ [] })) (sym (c.name-name.ensures.taken n).1) (swift.a_case x))
+    subst (λ p. SpellsCase a.lexed c.args.of c.args.first c.args.reader.now.at c.name-name.new.self.at before (record before { cases = before.cases ++ record { of = c.args.of; name = p; place = length before.cases - c.args.first } ∷ [] })) (sym (c.name-name.ensures.taken n).1) (swift.a_case x))

@@ -21,9 +21,9 @@ returns-then-takes c =
     let all = rows _ _ _ key (rows _ _ _ name behind) in
     let Of : Source → ℕ → ℕ → Rows → Rows → Type 0 = λ s i j r t. SpellsCases s.lexed c.name-of.result (length r.cases) i j r t in
     took_then c.args.reader.now c.sign.new.self c.faults.new.reader Of SpellsDeclaration (row_stays (a_key word.Enum ∷ a_name ∷ a_sign sign.Colon ∷ the_word (codes "Error") ∷ a_sign sign.OpenBrace ∷ []) c.args.reader.now.at c.sign.new.self.at) all c.faults.ensures (λ n a u v x d.
-        let m = behind.grows.refused n in
-        let own = (c.name-of.ensures.taken m).1 ∙ ap (λ y. y.at) (c.key.ensures.taken (name.grows.refused m)).1 in
-        swift.decl_faults x (subst (λ p. SpellsCases a.lexed p (length u.cases) c.sign.new.self.at c.faults.new.reader.at u v) own d))
+    let m = behind.grows.refused n in
+    let own = (c.name-of.ensures.taken m).1 ∙ ap (λ y. y.at) (c.key.ensures.taken (name.grows.refused m)).1 in
+    swift.decl_faults x (subst (λ p. SpellsCases a.lexed p (length u.cases) c.sign.new.self.at c.faults.new.reader.at u v) own d))
 
 pub returns : goal.returns
 returns c =
@@ -34,6 +34,6 @@ returns c =
     let behind = rows _ _ _ other opened in
     let all = rows _ _ _ key (rows _ _ _ name behind) in
     took_then c.args.reader.now c.sign-2.new.self c.locals.new.reader (λ s. SpellsLocals s c.name-of.result) SpellsDeclaration (row_stays (a_key word.Enum ∷ a_name ∷ a_sign sign.OpenBrace ∷ []) c.args.reader.now.at c.sign-2.new.self.at) all c.locals.ensures (λ n a u v x d.
-        let m = behind.grows.refused n in
-        let own = (c.name-of.ensures.taken m).1 ∙ ap (λ y. y.at) (c.key.ensures.taken (name.grows.refused m)).1 in
-        swift.decl_locals x (subst (λ p. SpellsLocals a p c.sign-2.new.self.at c.locals.new.reader.at u v) own d))
+    let m = behind.grows.refused n in
+    let own = (c.name-of.ensures.taken m).1 ∙ ap (λ y. y.at) (c.key.ensures.taken (name.grows.refused m)).1 in
+    swift.decl_locals x (subst (λ p. SpellsLocals a p c.sign-2.new.self.at c.locals.new.reader.at u v) own d))

@@ -38,12 +38,12 @@ returns c = λ is.
     let before : Rows = rows_of c.args.reader.now.tree.value in
     let made : ExecutorDecl = record { name = c.name-name.result; kind = c.kind-kind.result } in
     put_behind c.args.reader.now c.unread.new.reader c.put_executor.new.reader SpellsDeclaration (λ r. record r { executors = r.executors ++ made ∷ [] }) stays all c.put_executor.ensures.put c.put_executor.ensures.continues (λ n a x.
-        let n_name = colons.grows.refused (last.grows.refused n) in
-        let n_class = name.grows.refused n_name in
-        let n_final = class.grows.refused n_class in
-        let at_class = ap (λ y. y.at) (c.key-2.ensures.taken n_class).1 in
-        let at_final = ap (λ y. after y.at) (c.key.ensures.taken n_final).1 in
-        let at_line = ap (λ y. after (after y.at)) (c.want_line.ensures.same (final.grows.refused n_final)) in
-        let own : c.name-name.result ≡ after (after c.kind-kind.new.reader.at) = (c.name-name.ensures.taken n_name).1 ∙ (at_class ∙ (at_final ∙ at_line)) in
-        let of_kind = subst (λ i. SpellsKind a.lexed i c.kind-kind.new.reader.at c.kind-kind.result) (sym x.0.1) x.1.0 in
-        subst (λ p. SpellsDeclaration a c.args.reader.now.at c.unread.new.reader.at before (record before { executors = before.executors ++ record { name = p; kind = c.kind-kind.result } ∷ [] })) (sym own) (swift.decl_executor x.0.0 of_kind x.1.1.0.1 (row_on a.lexed x.1.1.0.0 x.1.1.1.0) x.1.1.1.1.0 x.1.1.1.1.1.0 x.1.1.1.1.1.1))
+    let n_name = colons.grows.refused (last.grows.refused n) in
+    let n_class = name.grows.refused n_name in
+    let n_final = class.grows.refused n_class in
+    let at_class = ap (λ y. y.at) (c.key-2.ensures.taken n_class).1 in
+    let at_final = ap (λ y. after y.at) (c.key.ensures.taken n_final).1 in
+    let at_line = ap (λ y. after (after y.at)) (c.want_line.ensures.same (final.grows.refused n_final)) in
+    let own : c.name-name.result ≡ after (after c.kind-kind.new.reader.at) = (c.name-name.ensures.taken n_name).1 ∙ (at_class ∙ (at_final ∙ at_line)) in
+    let of_kind = subst (λ i. SpellsKind a.lexed i c.kind-kind.new.reader.at c.kind-kind.result) (sym x.0.1) x.1.0 in
+    subst (λ p. SpellsDeclaration a c.args.reader.now.at c.unread.new.reader.at before (record before { executors = before.executors ++ record { name = p; kind = c.kind-kind.result } ∷ [] })) (sym own) (swift.decl_executor x.0.0 of_kind x.1.1.0.1 (row_on a.lexed x.1.1.0.0 x.1.1.1.0) x.1.1.1.1.0 x.1.1.1.1.1.0 x.1.1.1.1.1.1))

@@ -19,4 +19,4 @@ returns c = λ is.
     let before : Rows = rows_of c.args.reader.now.tree.value in
     let made : ExpectDecl = record { token = c.take-token.result; test = c.expression-test.result } in
     put_behind c.args.reader.now c.expression-test.new.reader c.put_expectation.new.reader SpellsDeclaration (λ r. record r { expectations = r.expectations ++ made ∷ [] }) (both_stay stays (expr_stays c.take-token.new.self.at c.expression-test.new.reader.at c.expression-test.result)) all c.put_expectation.ensures.put c.put_expectation.ensures.continues (λ n a x.
-        subst (λ p. SpellsDeclaration a c.args.reader.now.at c.expression-test.new.reader.at before (record before { expectations = before.expectations ++ record { token = p; test = c.expression-test.result } ∷ [] })) (sym c.take-token.ensures.place) (swift.decl_expectation x.0.0 (subst (λ j. IsExpr a j c.expression-test.new.reader.at c.expression-test.result) (sym x.0.1) x.1)))
+    subst (λ p. SpellsDeclaration a c.args.reader.now.at c.expression-test.new.reader.at before (record before { expectations = before.expectations ++ record { token = p; test = c.expression-test.result } ∷ [] })) (sym c.take-token.ensures.place) (swift.decl_expectation x.0.0 (subst (λ j. IsExpr a j c.expression-test.new.reader.at c.expression-test.result) (sym x.0.1) x.1)))

@@ -22,9 +22,9 @@ returns-in-Name c =
     let all = row_then _ _ _ (rows _ _ _ key name) behind in
     let stays = both_stay (row_stays (a_key word.Let ∷ a_name ∷ []) c.args.reader.now.at c.name-name.new.self.at) (both_stay type_stays (row_stays (a_sign sign.Assign ∷ []) c.annotation-value_type.new.self.at c.sign.new.self.at)) in
     took_then c.args.reader.now c.sign.new.self c.instance.new.reader (λ s. SpellsInstance s.lexed c.name-name.result) SpellsDeclaration stays all c.instance.ensures (λ n a u v x d.
-        let m = behind.grows.refused n in
-        let own : c.name-name.result ≡ after c.args.reader.now.at = (c.name-name.ensures.taken m).1 ∙ ap (λ y. y.at) (c.key.ensures.taken (name.grows.refused m)).1 in
-        swift.decl_instance x.0 x.1.0 x.1.1 (subst (λ p. SpellsInstance a.lexed p c.sign.new.self.at c.instance.new.reader.at u v) own d))
+    let m = behind.grows.refused n in
+    let own : c.name-name.result ≡ after c.args.reader.now.at = (c.name-name.ensures.taken m).1 ∙ ap (λ y. y.at) (c.key.ensures.taken (name.grows.refused m)).1 in
+    swift.decl_instance x.0 x.1.0 x.1.1 (subst (λ p. SpellsInstance a.lexed p c.sign.new.self.at c.instance.new.reader.at u v) own d))
 
 pub returns : goal.returns
 returns c =
@@ -40,6 +40,6 @@ returns c =
     let before : Rows = rows_of c.args.reader.now.tree.value in
     let made : ConstantDecl = record { name = c.name-name.result; value_type = c.annotation-value_type.result; value = c.literal-value.result } in
     put_behind c.args.reader.now c.literal-value.new.reader c.put_constant.new.reader SpellsDeclaration (λ r. record r { constants = r.constants ++ made ∷ [] }) stays all c.put_constant.ensures.put c.put_constant.ensures.continues (λ n a x.
-        let m = behind.grows.refused n in
-        let own : c.name-name.result ≡ after c.args.reader.now.at = (c.name-name.ensures.taken m).1 ∙ ap (λ y. y.at) (c.key.ensures.taken (name.grows.refused m)).1 in
-        subst (λ p. SpellsDeclaration a c.args.reader.now.at c.literal-value.new.reader.at before (record before { constants = before.constants ++ record { name = p; value_type = c.annotation-value_type.result; value = c.literal-value.result } ∷ [] })) (sym own) (swift.decl_constant x.0 x.1.0 x.1.1.0 x.1.1.1))
+    let m = behind.grows.refused n in
+    let own : c.name-name.result ≡ after c.args.reader.now.at = (c.name-name.ensures.taken m).1 ∙ ap (λ y. y.at) (c.key.ensures.taken (name.grows.refused m)).1 in
+    subst (λ p. SpellsDeclaration a c.args.reader.now.at c.literal-value.new.reader.at before (record before { constants = before.constants ++ record { name = p; value_type = c.annotation-value_type.result; value = c.literal-value.result } ∷ [] })) (sym own) (swift.decl_constant x.0 x.1.0 x.1.1.0 x.1.1.1))

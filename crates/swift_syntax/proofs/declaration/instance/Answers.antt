@@ -19,5 +19,5 @@ returns c =
     let before : Rows = rows_of c.args.reader.now.tree.value in
     let made : InstanceDecl = record { name = c.args.name; of = c.name-of.result; arguments = c.call_arguments-arguments.result } in
     put_behind c.args.reader.now c.call_arguments-arguments.new.reader c.put_instance.new.reader (λ s. SpellsInstance s.lexed c.args.name) (λ r. record r { instances = r.instances ++ made ∷ [] }) (both_stay (row_stays (a_name ∷ a_sign sign.Open ∷ []) c.args.reader.now.at c.sign.new.self.at) (row_stays [] c.sign.new.self.at c.sign.new.self.at)) all c.put_instance.ensures.put c.put_instance.ensures.continues (λ n a x.
-        let own = c.name-of.ensures.taken (opened.grows.refused (rest.grows.refused n)) in
-        subst (λ p. SpellsInstance a.lexed c.args.name c.args.reader.now.at c.call_arguments-arguments.new.reader.at before (record before { instances = before.instances ++ record { name = c.args.name; of = p; arguments = c.call_arguments-arguments.result } ∷ [] })) (sym own.1) (swift.an_instance c.call_arguments-arguments.result x.0))
+    let own = c.name-of.ensures.taken (opened.grows.refused (rest.grows.refused n)) in
+    subst (λ p. SpellsInstance a.lexed c.args.name c.args.reader.now.at c.call_arguments-arguments.new.reader.at before (record before { instances = before.instances ++ record { name = c.args.name; of = p; arguments = c.call_arguments-arguments.result } ∷ [] })) (sym own.1) (swift.an_instance c.call_arguments-arguments.result x.0))

@@ -27,5 +27,5 @@ returns c =
     let before : Rows = rows_of c.args.reader.now.tree.value in
     let made : LocalDecl = record { of = c.args.of; name = c.name-name.result; value_type = c.annotation-value_type.result; value = c.literal-value.result } in
     put_behind c.args.reader.now c.literal-value.new.reader c.put_local.new.reader (λ s. SpellsLocal s c.args.of) (λ r. record r { locals = r.locals ++ made ∷ [] }) stays all c.put_local.ensures.put c.put_local.ensures.continues (λ n a x.
-        let own = c.name-name.ensures.taken (behind.grows.refused n) in
-        subst (λ p. SpellsLocal a c.args.of c.args.reader.now.at c.literal-value.new.reader.at before (record before { locals = before.locals ++ record { of = c.args.of; name = p; value_type = c.annotation-value_type.result; value = c.literal-value.result } ∷ [] })) (sym own.1) (swift.a_local x.0 x.1.0 x.1.1.0 x.1.1.1.0 x.1.1.1.1))
+    let own = c.name-name.ensures.taken (behind.grows.refused n) in
+    subst (λ p. SpellsLocal a c.args.of c.args.reader.now.at c.literal-value.new.reader.at before (record before { locals = before.locals ++ record { of = c.args.of; name = p; value_type = c.annotation-value_type.result; value = c.literal-value.result } ∷ [] })) (sym own.1) (swift.a_local x.0 x.1.0 x.1.1.0 x.1.1.1.0 x.1.1.1.1))

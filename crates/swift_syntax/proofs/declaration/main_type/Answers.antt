@@ -22,5 +22,5 @@ returns c =
     let Begun : Source → ℕ → ℕ → Rows → Rows → Type 0 = λ s i j u v. Head i s × SpellsMain s c.holder.new.reader.at c.sign-2.new.self.at j u v in
     let head_stays : (i : ℕ) → Stays (Head i) = λ i. both_stay (row_stays (a_sign sign.At ∷ the_word (codes "main") ∷ []) i c.main_word.new.reader.at) (both_stay holder_stays (row_stays (a_name ∷ a_sign sign.OpenBrace ∷ []) c.holder.new.reader.at c.sign-2.new.self.at)) in
     let begun = took_then c.args.reader.now c.sign-2.new.self c.main_method.new.reader (λ s. SpellsMain s c.name-name.result) Begun (head_stays c.args.reader.now.at) head c.main_method.ensures (λ n a u v x d.
-        (x, subst (λ p. SpellsMain a p c.sign-2.new.self.at c.main_method.new.reader.at u v) (c.name-name.ensures.taken (opened.grows.refused n)).1 d)) in
+    (x, subst (λ p. SpellsMain a p c.sign-2.new.self.at c.main_method.new.reader.at u v) (c.name-name.ensures.taken (opened.grows.refused n)).1 d)) in
     then_took c.args.reader.now c.main_method.new.reader c.sign-3.new.self Begun SpellsDeclaration (λ i j u v. both_stay (head_stays i) (main_there c.holder.new.reader.at c.sign-2.new.self.at j u v)) begun closed (λ a u v q p. swift.decl_main q.0.0 q.0.1.0 q.0.1.1 q.1 p)
