@@ -5,6 +5,7 @@ use Rattle.swift_syntax.specs.declared.rule.Refusal.{Refusal}
 use Rattle.swift_syntax.specs.declared.token.Token.{Token}
 use Rattle.swift_syntax.specs.declared.tree.Tree.{Tree}
 use Rattle.swift_expressions.specs.declared.code.Code.{Code}
+use Rattle.swift_lowering.specs.Files.{IsCodeOf}
 use Rattle.swift_translation.specs.ScriptTexts.{IsWrittenOf}
 use Rattle.swift_translation.specs.declared.file.Translation.{Translation}
 use Rattle.swift_translation.specs.declared.file.Translation.TheVariants.{Script, Refused}
@@ -25,12 +26,14 @@ abbrev pub IfRefused : (Refusal → Type 0) → Translation → Type 0
 IfRefused holds (Script s) = Unit {0}
 IfRefused holds (Refused r) = holds r
 
--- A script is that of a file: it is written of the file's tokens, a tree and instructions.
+-- A script is that of a file: it is written of the file's tokens, a tree, and the instructions that this becomes.
 pub record IsScriptOf (text script : List ℕ) : Type 0 where
   pub tokens : List Token
   pub tree : Tree
   pub code : Code
   -- the file consists of these tokens, and of no others
   pub lexed : AreTokensOf text tokens
+  -- the tree becomes these instructions
+  pub lowered : IsCodeOf text tokens tree code
   -- each byte of the script is written of these
   pub written : IsWrittenOf text tokens tree code script
