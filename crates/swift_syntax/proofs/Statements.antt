@@ -12,8 +12,8 @@ use Rattle.swift_syntax.specs.declared.tree.StmtForm.{StmtForm}
 use Rattle.swift_syntax.specs.declared.tree.ValueType.{ValueType}
 use Rattle.swift_syntax.specs.declared.word.Word.TheVariants as word
 use Rattle.swift_syntax.specs.Expressions.{Reads, SpellsExpr, SpellsOperands, SwiftTree, StandsAt, kind_at}
-use Rattle.swift_syntax.specs.Statements.{IsExpr, IsSum, IsTest, Lexed, Row, Separates, Source, SpellsBlock, SpellsCovered, SpellsDeclared, SpellsElse, SpellsFront, SpellsGroup, SpellsHead, SpellsInto, SpellsNext, SpellsPerhaps, SpellsPriority, SpellsRange, SpellsRest, SpellsStmt, SpellsTarget, SpellsTests, Want, a_key, a_name, a_sign, assigning_in, begins_line, ends_return, spells_at, the_word}
-use Rattle.swift_syntax.specs.Statements as swift
+use Rattle.swift_syntax.specs.StatementsInside.{IsExpr, IsSum, IsTest, Lexed, Row, Separates, Source, SpellsBlock, SpellsCovered, SpellsDeclared, SpellsElse, SpellsFront, SpellsGroup, SpellsHead, SpellsInto, SpellsNext, SpellsPerhaps, SpellsPriority, SpellsRange, SpellsRest, SpellsStmt, SpellsTarget, SpellsTests, Want, a_key, a_name, a_sign, assigning_in, begins_line, ends_return, spells_at, the_word}
+use Rattle.swift_syntax.specs.StatementsInside as swift
 use Rattle.swift_syntax.proofs.Grown.{get_more, stands_more}
 
 -- More is read behind what was.

@@ -16,8 +16,8 @@ use Rattle.swift_syntax.specs.declared.tree.StmtForm.{StmtForm}
 use Rattle.swift_syntax.specs.declared.word.Word.{Word}
 use Rattle.swift_syntax.specs.Expressions.{SpellsExpr, SpellsOperands, Reads, after, kind_at}
 use Rattle.swift_syntax.specs.ReadersInside.{Adds, AddsStmt, Extends, Grows, IsBegun, IsPut, IsStmtPut, lexed_of, source_with, taken, takes_if}
-use Rattle.swift_syntax.specs.Statements.{Is, IsExpr, IsSum, IsTest, Lexed, Row, Source, SpellsPerhaps, SpellsStmt, SpellsTests, Want, a_key, a_name, a_sign, assigning_in, spells_at, the_word}
-use Rattle.swift_syntax.specs.Statements as swift
+use Rattle.swift_syntax.specs.StatementsInside.{Is, IsExpr, IsSum, IsTest, Lexed, Row, Source, SpellsPerhaps, SpellsStmt, SpellsTests, Want, a_key, a_name, a_sign, assigning_in, spells_at, the_word}
+use Rattle.swift_syntax.specs.StatementsInside as swift
 use Rattle.swift_syntax.proofs.Grown.{extends_of, extends_on, grows_on, grows_same, put_there}
 use Rattle.swift_syntax.proofs.Refused.{grows_taken}
 use Rattle.swift_syntax.proofs.Statements.{IsMore, lexed_stays, row_stays, stmt_stays}

@@ -5,5 +5,5 @@ pub mod Fronts
 pub mod Lexes
 pub mod Places
 pub mod ReadersInside
-pub mod Statements
+pub mod StatementsInside
 pub mod Words

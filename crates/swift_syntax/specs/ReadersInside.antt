@@ -2,7 +2,7 @@
 use Rattle.std.specs.Prelude.{ℕ, ◌≡◌, ◌<◌, ◌++◌, Bool, true, false, List, [], ◌∷◌, IsNone, Some, length, slice_set}
 use Rattle.std.specs.List.{slice_get}
 use Rattle.swift_syntax.specs.Expressions.{after}
-use Rattle.swift_syntax.specs.Statements.{Lexed, Source, SpellsStmt}
+use Rattle.swift_syntax.specs.StatementsInside.{Lexed, Source, SpellsStmt}
 use Rattle.swift_syntax.specs.declared.reader.Reader.{Reader}
 use Rattle.swift_syntax.specs.declared.tree.Expr.{Expr}
 use Rattle.swift_syntax.specs.declared.tree.ExprForm.{ExprForm}

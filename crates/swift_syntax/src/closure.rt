@@ -3,7 +3,7 @@
 ghost use Rattle.std.specs.Prelude.{◌≡◌, ◌↔◌, IfNone, IfSome, IsNone, IsTrue};
 ghost use Rattle.swift_syntax.specs.Expressions.{kind_at};
 ghost use Rattle.swift_syntax.specs.ReadersInside.{Adds, Grows, lexed_of};
-ghost use Rattle.swift_syntax.specs.Statements.{SpellsCovered, SpellsFront, SpellsGroup, SpellsHead, SpellsNames, SpellsPerhaps, SpellsPriority, closed_form, closed_token};
+ghost use Rattle.swift_syntax.specs.StatementsInside.{SpellsCovered, SpellsFront, SpellsGroup, SpellsHead, SpellsNames, SpellsPerhaps, SpellsPriority, closed_form, closed_token};
 
 use crate::expression::expression;
 use crate::reader::Reader;

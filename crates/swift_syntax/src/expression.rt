@@ -2,7 +2,7 @@
 
 ghost use Rattle.std.specs.Prelude.{◌≡◌, ◌↔◌, ◌+◌, IsNone, IsSome, IsTrue, Some};
 ghost use Rattle.swift_syntax.specs.Expressions.{Reads, SpellsAtom, SpellsCalled, SpellsChoice, SpellsExpr, SpellsNamed, SpellsOperands, SpellsPrefixed, binary_of, both_form, kind_at, literal_of, opens_at, operator_in};
-ghost use Rattle.swift_syntax.specs.Statements.{IsTest};
+ghost use Rattle.swift_syntax.specs.StatementsInside.{IsTest};
 ghost use Rattle.swift_syntax.specs.ReadersInside.{Adds, Grows, IsPut, taken, takes_if, tried_form};
 
 use crate::limits::DEPTH;

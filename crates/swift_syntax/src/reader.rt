@@ -5,7 +5,7 @@
 ghost use Rattle.std.specs.Prelude.{◌≡◌, ◌↔◌, true, false, IsNone, IsSome, IsTrue};
 ghost use Rattle.swift_syntax.specs.Expressions.{after, kind_at, token_at};
 ghost use Rattle.swift_syntax.specs.ReadersInside.{Extends, Grows, IsLinked, IsPut, IsStmtPut, lexed_of, taken, takes_if};
-ghost use Rattle.swift_syntax.specs.Statements.{Separates, SpellsAnnotation, SpellsType, begins_line, spells_at};
+ghost use Rattle.swift_syntax.specs.StatementsInside.{Separates, SpellsAnnotation, SpellsType, begins_line, spells_at};
 
 use crate::rule::{Breach, Rule};
 use crate::sign::Sign;

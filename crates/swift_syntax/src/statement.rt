@@ -3,8 +3,8 @@
 ghost use Rattle.std.specs.Prelude.{◌≡◌, ◌<◌, true, false, IfNone, IfSome, IsFalse, IsNone, IsSome, IsTrue, ℕ};
 ghost use Rattle.swift_syntax.specs.Expressions.{kind_at};
 ghost use Rattle.swift_syntax.specs.ReadersInside.{Adds, AddsStmt, Extends, Grows, IsBegun, IsLinked, IsStmtPut, lexed_of};
-ghost use Rattle.swift_syntax.specs.Statements.{SpellsBlock, SpellsDeclared, SpellsElse, SpellsInto, SpellsNext, SpellsRange, SpellsRest, SpellsTarget, assigning_in, begins_line, closed_form, closed_token, ends_return};
-ghost use Rattle.swift_syntax.specs.Statements as statements;
+ghost use Rattle.swift_syntax.specs.StatementsInside.{SpellsBlock, SpellsDeclared, SpellsElse, SpellsInto, SpellsNext, SpellsRange, SpellsRest, SpellsTarget, assigning_in, begins_line, closed_form, closed_token, ends_return};
+ghost use Rattle.swift_syntax.specs.StatementsInside as statements;
 
 use crate::closure::{Closure, ClosureHead, HeadForm, closure_front, closure_stmt, head};
 use crate::expression::{bound, expression, test};

@@ -1,7 +1,7 @@
 use Rattle.std.proofs.Common.{[], ◌∷◌, refl, subst, sym}
 use Rattle.swift_syntax.specs.ReadersInside.{lexed_of}
-use Rattle.swift_syntax.specs.Statements.{SpellsNames, a_sign}
-use Rattle.swift_syntax.specs.Statements as swift
+use Rattle.swift_syntax.specs.StatementsInside.{SpellsNames, a_sign}
+use Rattle.swift_syntax.specs.StatementsInside as swift
 use Rattle.swift_syntax.specs.declared.sign.Sign.TheVariants as sign
 use Rattle.swift_syntax.specs.declared.word.Word.TheVariants as word
 use Rattle.swift_syntax.proofs.Grown.{extends_of, grows_on, grows_same}

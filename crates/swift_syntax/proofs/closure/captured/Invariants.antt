@@ -1,6 +1,6 @@
 use Rattle.std.proofs.Common.{ℕ, IsNone}
 use Rattle.swift_syntax.specs.ReadersInside.{Grows, lexed_of}
-use Rattle.swift_syntax.specs.Statements.{SpellsNames}
+use Rattle.swift_syntax.specs.StatementsInside.{SpellsNames}
 use Rattle.swift_syntax.proofs.closure.captured.Given as goal
 
 abbrev pub invariant-loop : goal.invariant-loop

@@ -1,7 +1,7 @@
 use Rattle.std.proofs.Common.{[], ap, refl, subst, sym, ◌∙◌}
 use Rattle.swift_syntax.specs.ReadersInside.{lexed_of}
-use Rattle.swift_syntax.specs.Statements.{SpellsFront, SpellsNames, a_sign}
-use Rattle.swift_syntax.specs.Statements as swift
+use Rattle.swift_syntax.specs.StatementsInside.{SpellsFront, SpellsNames, a_sign}
+use Rattle.swift_syntax.specs.StatementsInside as swift
 use Rattle.swift_syntax.specs.declared.sign.Sign.TheVariants as sign
 use Rattle.swift_syntax.specs.declared.word.Word.TheVariants as word
 use Rattle.swift_syntax.proofs.Grown.{grows_same}

@@ -1,6 +1,6 @@
 use Rattle.std.proofs.Common.{subst, sym}
-use Rattle.swift_syntax.specs.Statements.{SpellsPerhaps}
-use Rattle.swift_syntax.specs.Statements as swift
+use Rattle.swift_syntax.specs.StatementsInside.{SpellsPerhaps}
+use Rattle.swift_syntax.specs.StatementsInside as swift
 use Rattle.swift_syntax.specs.declared.word.Word.TheVariants as word
 use Rattle.swift_syntax.proofs.Grown.{extends_of}
 use Rattle.swift_syntax.proofs.Steps.{lexed_on}

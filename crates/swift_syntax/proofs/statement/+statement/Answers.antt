@@ -2,8 +2,8 @@ use Rattle.std.proofs.Common.{[], ◌≡◌, ◌∷◌, IsNone, ap, false, true,
 use Rattle.std.proofs.lemmas.Bool.{false≢true}
 use Rattle.swift_syntax.specs.Expressions.{kind_at}
 use Rattle.swift_syntax.specs.ReadersInside.{Extends, lexed_of}
-use Rattle.swift_syntax.specs.Statements.{Row, SpellsElse, SpellsFront, SpellsInto, SpellsNext, SpellsPerhaps, SpellsRange, a_key, a_sign, ends_return}
-use Rattle.swift_syntax.specs.Statements as swift
+use Rattle.swift_syntax.specs.StatementsInside.{Row, SpellsElse, SpellsFront, SpellsInto, SpellsNext, SpellsPerhaps, SpellsRange, a_key, a_sign, ends_return}
+use Rattle.swift_syntax.specs.StatementsInside as swift
 use Rattle.swift_syntax.specs.declared.sign.Sign.TheVariants as sign
 use Rattle.swift_syntax.specs.declared.tree.StmtForm.TheVariants as form
 use Rattle.swift_syntax.specs.declared.word.Word.TheVariants as word
