@@ -117,7 +117,8 @@ def outcome_lines(outcome, said):
 def search_faults(program, name):
     """What the JSON of a search says otherwise than its text."""
     words = [program, *examples.arguments(name)]
-    ran = [subprocess.run([*words, *more], cwd=os.path.dirname(name), capture_output=True, check=False) for more in ([], ["--format", "json"])]
+    how = {"input": examples.given_to(name), "cwd": os.path.dirname(name), "capture_output": True, "check": False}
+    ran = [subprocess.run([*words, *more], **how) for more in ([], ["--format", "json"])]
     if (ran[0].returncode, ran[0].stderr) != (ran[1].returncode, ran[1].stderr):
         yield f"status {ran[1].returncode} and not {ran[0].returncode}, and it says {ran[1].stderr!r}"
         return

@@ -376,15 +376,14 @@ class Marks(unittest.TestCase):
         self.assertEqual(len(list(marks.place_faults(b"abc\nde", place))), 1)
 
     def test_json(self):
-        mistake = marks.Mistake.__new__(marks.Mistake)
-        mistake.says = b"error[S5]: unknown name\n --> <stdin>:1:4\n  |\n1 | let\n  |    ^^\n  = help: b\nnote: c\n --> <stdin>:1:2\n"
+        said = "error[S5]: unknown name\n --> <stdin>:1:4\n  |\n1 | let\n  |    ^^\n  = help: b\nnote: c\n --> <stdin>:1:2\n"
         found = {
             "severity": "error", "code": "S5", "line": 1, "column": 4, "expected": "", "help": "b",
             "second": {"label": "c", "line": 1, "column": 2},
         }
-        self.assertEqual(list(marks.told_faults(mistake, found)), [])
+        self.assertEqual(list(marks.told_faults(said, found)), [])
         for name, other in (("code", "S4"), ("column", 5), ("help", "d"), ("second", None), ("expected", "e")):
-            self.assertNotEqual(list(marks.told_faults(mistake, {**found, name: other})), [], name)
+            self.assertNotEqual(list(marks.told_faults(said, {**found, name: other})), [], name)
 
 
 class Reports(unittest.TestCase):
