@@ -71,11 +71,7 @@ pub fn script(rt: &HostRuntime, input: Input<'_>) -> Result<ReadScript, NoScript
 /// # Errors
 ///
 /// `Refused` with the text where the subset of Swift does not take it, and `Memory` where none was left; never `Unread`.
-pub fn script_in(
-    alloc: Global,
-    language: Language,
-    text: Vec<u8>,
-) -> Result<ReadScript, NoScript>
+pub fn script_in(alloc: Global, language: Language, text: Vec<u8>) -> Result<ReadScript, NoScript>
     ensures read { IfOk result (IsReadOf language text.items) }
     ensures refused { IfErr result (IsUnreadOf language text.items) }
 {
