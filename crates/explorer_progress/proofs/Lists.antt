@@ -25,3 +25,7 @@ pub filter_map_first : {X Y : Type 0} (f : X → Option Y) (xs : List X) (i : �
 filter_map_first f xs i =
     let split : filter_map f xs ≡ filter_map f (take i xs) ++ filter_map f (drop i xs) = ap (filter_map f) (sym (take-append-drop i xs)) ∙ filter_map-append f (take i xs) (drop i xs) in
     ap (take (length (filter_map f (take i xs)))) split ∙ take_at (filter_map f (take i xs)) (filter_map f (drop i xs)) (length (filter_map f (take i xs))) refl
+
+-- an element that was read, as an element or nothing
+pub read_or : {X : Type 0} (xs : List (List X)) (i : ℕ) (x : List X) → i < length xs → x ≡ get_or xs i x → x ≡ unwrap_or (slice_get xs i) []
+read_or xs i x within is = is ∙ get_or_default xs i x [] within ∙ sym (unwrap_or-slice_get xs i [])

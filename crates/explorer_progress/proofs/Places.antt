@@ -146,3 +146,22 @@ pub changes_found : (script : ScriptView) (report : Report) (values : List (Vec 
 changes_found script report values e place done v played at there =
     ap (λ (xs : List ValuesView). option_map (λ (did : ValuesView). did.changes) (slice_get xs place)) (sym (played e done at))
     ∙ ap (option_map (λ (did : ValuesView). did.changes)) (slice_get-map values_view done.items place ∙ ap (option_map values_view) there)
+
+played_case : (script : ScriptView) (report : Report) (values : List (Vec TurnValues)) (v done : Vec TurnValues) (e : ℕ) (start : List (List ℤ)) (j : List RecordView)
+    → start ≡ fields_in (slice_get report.checkpoints.items (length values)) → j ≡ journal_at report (length values) → values_views v.items ≡ values_from script start j
+    → ArePlayed script report values → (slice_get values e ≡ Some done) ⊎ ((e ≡ length values) × (done ≡ v)) → values_views done.items ≡ played_at script report e
+played_case script report values v done e start j start_is j_is is before (inl old) = before e done old
+played_case script report values v done e start j start_is j_is is before (inr both) =
+    ap (λ (d : Vec TurnValues). values_views d.items) both.1
+    ∙ is
+    ∙ ap₂ (λ (f : List (List ℤ)) (rs : List RecordView). values_from script f rs) start_is j_is
+    ∙ ap (played_at script report) (sym both.0)
+
+-- the turns of one journal more were played
+pub played_more : (script : ScriptView) (report : Report) (values : List (Vec TurnValues)) (v : Vec TurnValues) (e : ℕ) (start : List (List ℤ)) (j : List RecordView)
+    → length values ≡ e → e < length report.journals.items → j ≡ get_or report.journals.items e j → start ≡ fields_in (slice_get report.checkpoints.items e) → values_views v.items ≡ values_from script start j
+    → ArePlayed script report values → ArePlayed script report (values ++ v ∷ [])
+played_more script report values v e start j many within j_is start_is is before =
+    let j_at : j ≡ journal_at report (length values) = read_or report.journals.items e j within j_is ∙ ap (journal_at report) (sym many) in
+    let start_at : start ≡ fields_in (slice_get report.checkpoints.items (length values)) = start_is ∙ ap (λ (n : ℕ). fields_in (slice_get report.checkpoints.items n)) (sym many) in
+    λ e2 done at. played_case script report values v done e2 start j start_at j_at is before (slice_get_push values v e2 done at)

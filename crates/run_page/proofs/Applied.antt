@@ -42,3 +42,9 @@ last_of k es many =
     let long : length (xs ++ ys) ≡ length xs + length ys = length-append xs ys in
     let front : length (xs ++ ys) - EXPLAINED ≡ length xs = omega (arith, many, long) in
     sym (ap (λ (ts : List (TaskId × ℕ)). drop (length ts - EXPLAINED) ts) whole ∙ ap (λ (n : ℕ). drop n (xs ++ ys)) front ∙ drop_front xs ys)
+
+-- where there are no more, all of them are
+pub last_all : (es : List Event) → length (applied_turns es) ≤ EXPLAINED → applied_turns es ≡ last_turns es
+last_all es few =
+    let none : length (applied_turns es) - EXPLAINED ≡ 0 = omega (arith, few) in
+    sym (ap (λ (n : ℕ). drop n (applied_turns es)) none)

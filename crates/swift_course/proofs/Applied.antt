@@ -1,5 +1,5 @@
 -- A turn that is applied keeps the rule.
-use Rattle.swift_course.proofs.Prelude.{◌≡◌, ◌≢◌, ◌⊎◌, ℕ, ℤ, ◌+◌, ◌≤◌, ◌<◌, ◌==◌, true, List, [], ◌∷◌, ◌++◌, map, set, count_by, if◌then◌else◌, refl, sym, ap, ◌∙◌, subst, arith, inl, inr, All, Option, Some, None, IfSome, is_some, sum_by, append-nil, All-append, All-cons, All-head, All-nil, All-tail, Env, Priority, ScriptView, executor_count, executor_start, root_count, FrameView, EffectView, ExitView, Advanced, HasFirst, callers_of, Event, Apply, Begun, Origin, tasks_of, life_of, RecordView, IsLawfulRecord, replay, counters, fits_turn, is_current, ran, RecordStands, Standing, after_block, at_first, fields_of, folded_in, record_in, records_of, root_in, taken, with_jobs, WaitingTaskView, JobFacts, TurnEnd, effect_events, exit_events, gives, log_after, task, turn_end, IsOrderly, HasUnderWay, IsFront, IsGiven, IsIn, IsOwned, IsUnderWay, SaysOrder, is_for, one_if, ways, standing, starts, tickets_in, waits, IsTurn, TurnsMayBeApplied, end_of, knowing_turn, order_applied, with_record, Account, BookFacts, BookKnown, Ticket, TurnOrder, fresh}
+use Rattle.swift_course.proofs.Prelude.{◌≡◌, ◌≢◌, ◌⊎◌, ℕ, ℤ, ◌+◌, ◌≤◌, ◌<◌, ◌==◌, true, List, [], ◌∷◌, ◌++◌, map, set, count_by, if◌then◌else◌, refl, sym, ap, ◌∙◌, subst, arith, inl, inr, All, Option, Some, None, IfSome, is_some, sum_by, append-nil, All-append, All-cons, All-head, All-nil, All-tail, Env, Priority, ScriptView, executor_count, executor_start, root_count, FrameView, EffectView, ExitView, Advanced, HasFirst, advanced, callers_of, Event, Apply, Begun, Origin, tasks_of, life_of, RecordView, IsLawfulRecord, replay, counters, fits_turn, is_begun, is_current, ran, RecordStands, Standing, after_block, at_first, begun_priority, fields_of, folded_in, frames_applied, job_applied, left_as, record_in, records_of, root_in, taken, with_jobs, WaitingTaskView, JobFacts, TurnEnd, effect_events, exit_events, gives, log_after, task, turn_end, IsOrderly, frames_executor, job_executor, HasUnderWay, IsFront, IsGiven, IsIn, IsOwned, IsUnderWay, SaysOrder, is_for, one_if, ways, standing, starts, tickets_in, waits, IsTurn, TurnsMayBeApplied, end_of, knowing_turn, order_applied, with_record, Account, BookFacts, BookKnown, Ticket, TurnOrder, fresh}
 use Rattle.swift_course.proofs.Begun.{TurnKeeps, turn_keeps}
 use Rattle.swift_course.proofs.Blocks.{after_push, allowed_push, filter_none, filter_some, stand_push}
 use Rattle.swift_course.proofs.Lists.{count_append, count_cons, equal, if_some, no_one, one, total_set, unequal}
@@ -21,7 +21,19 @@ first_is (q ∷ fs) p has = ap (λ x. x ∷ fs) has
 -- The block of such a record leads there.
 block_leads : (facts : BookFacts) (s : Standing) (a : Account) (k : Ticket) (r : RecordView) → facts.log ≡ s.log → facts.held ≡ s.held → IsGiven s k → IsTurn facts a k r
     → after_block facts.script s (ran a.executor r) ≡ after_turn facts s k.job r
-block_leads facts s a k r log held given turn = grind (arith, first_is)
+block_leads facts s a k r log held given turn =
+    let script = facts.script in
+    let j = k.job in
+    let callers = callers_of j.frames.frames in
+    let led : ℕ → ℕ → Standing = (λ t n. frames_applied script s t n (r.frame ∷ callers) j.frames.outer r.effects r.exit r.after) in
+    let ends : List Event → List (Option WaitingTaskView) → Standing =
+    (λ l h. let e = turn_end script l h j.task j.number (begun_priority (life_of j.task l).stage) r.effects r.exit (advanced script (left_as r.frame r.effects r.after) callers j.frames.outer r.exit) in
+    record { log = e.log; held = e.held; jobs = with_jobs e.jobs (taken j.task s.jobs) })
+    in
+    ap (λ (o : Option JobFacts). job_applied script s r.task r.number o r.effects r.exit r.after) (ap s.jobs turn.task_is ∙ given.job)
+    ∙ ap (λ (fs : List FrameView). frames_applied script s r.task r.number fs j.frames.outer r.effects r.exit r.after) (first_is j.frames.frames r.frame turn.runs)
+    ∙ ap (λ t. led t r.number) turn.task_is ∙ ap (led j.task) turn.number_is
+    ∙ ap (λ l. ends l s.held) (sym log) ∙ ap (ends facts.log) (sym held)
 
 -- The record may stand there.
 record_stands : (facts : BookFacts) (s : Standing) (fields : List (List ℤ)) (a : Account) (k : Ticket) (r : RecordView) → facts.log ≡ s.log → IsGiven s k → IsTurn facts a k r
@@ -72,7 +84,10 @@ module _ (facts : BookFacts) (views views' : List BookKnown) (o : ℕ → ℕ) (
   lt_or x y = grind arith
 
   still_single : (x : ℕ) → sum_by (tickets_in x) views' + waits x e.held ≤ 1
-  still_single x = grind (arith, lt_or)
+  still_single x = elim (lt_or x (tasks_of roots facts.log)) [
+    | inl lt ↦ (let s = c.single x in let a = c.after x in let old = c.leaves.old x lt in omega (arith, s, a, old))
+    | inr le ↦ (let none = c.unmade x le in let a = c.after x in let new = c.leaves.new x in omega (arith, none, a, new))
+  ]
 
   still_none : (x : ℕ) → ways x facts views ≡ 0 → (x < tasks_of roots facts.log) ⊎ (tasks_of roots e.log ≤ x) → sum_by (tickets_in x) views' + waits x e.held ≡ 0
   still_none x none (inl lt) = (let a = c.after x in let old = c.leaves.old x lt in omega (arith, none, a, old))
@@ -83,10 +98,15 @@ module _ (facts : BookFacts) (views views' : List BookKnown) (o : ℕ → ℕ) (
   other_task x some_one same = (let yes = one x j.task (sym same) in let b = c.before x in let s = c.single x in omega (arith, some_one, yes, b, s))
 
   made_before : (x : ℕ) → 1 ≤ o x → x < tasks_of roots facts.log
-  made_before x some_one = grind (arith, lt_or)
+  made_before x some_one = elim (lt_or x (tasks_of roots facts.log)) [
+    | inl lt ↦ lt
+    | inr le ↦ (let none = c.unmade x le in let b = c.before x in omega (arith, some_one, none, b))
+  ]
 
   no_job : (x : ℕ) → 1 ≤ o x → times x e.jobs ≡ 0
-  no_job x some_one = grind (arith, no_one, other_task, made_before)
+  no_job x some_one =
+      let not_one = no_one x j.task (λ same. other_task x some_one (sym same)) in
+      omega (arith, some_one, not_one, c.leaves.old x (made_before x some_one), c.before x, c.single x)
 
   -- and of no task two
   few_jobs : (x : ℕ) → times x e.jobs ≤ 1
@@ -95,7 +115,15 @@ module _ (facts : BookFacts) (views views' : List BookKnown) (o : ℕ → ℕ) (
 -- a ticket of a task that has one elsewhere stays what it is
 stays : (facts : BookFacts) (views views' : List BookKnown) (o : ℕ → ℕ) (s : Standing) (j : JobFacts) (r : RecordView) → Counts facts views views' o j (end_of facts j r) → facts.log ≡ s.log
     → (k : Ticket) → 1 ≤ o k.job.task → IsGiven s k → IsGiven (after_turn facts s j r) k
-stays facts views views' o s j r c log k some_one is = grind (arith, other_task, no_job, jobs_stay, unequal, if_some, made_before)
+stays facts views views' o s j r c log k some_one is =
+    let x = k.job.task in
+    let e = end_of facts j r in
+    let apart = other_task facts views views' o j e c x some_one in
+    let none = no_job facts views views' o j e c x some_one in
+    record {
+      job = jobs_stay e.jobs (taken j.task s.jobs) x none ∙ ap (λ b. if b then None else s.jobs x) (unequal x j.task (λ same. apart (sym same))) ∙ is.job;
+      begun = if_some k.begun _ _ (λ env has. c.leaves.stage x apart (made_before facts views views' o j e c x some_one) none ∙ ap (stage_of x) log ∙ has) is.begun;
+    }
 
 -- the jobs that the turn makes have their tickets
 given_new : (facts : BookFacts) (views views' : List BookKnown) (o : ℕ → ℕ) (s : Standing) (j : JobFacts) (r : RecordView) → Counts facts views views' o j (end_of facts j r) → All (IsGiven (after_turn facts s j r)) (map fresh (end_of facts j r).jobs)
@@ -103,7 +131,10 @@ given_new facts views views' o s j r c = (let e = end_of facts j r in given_fres
 
 -- the turn was under way on its executor
 under_way_is : (facts : BookFacts) (s : Standing) (a : Account) (k : Ticket) (r : RecordView) → IsGiven s k → IsTurn facts a k r → IsUnderWay facts.script s a.executor k.job.task
-under_way_is facts s a k r given turn = grind (arith, first_is)
+under_way_is facts s a k r given turn = (
+  ap (job_executor facts.script) given.job ∙ ap (frames_executor facts.script) (first_is k.job.frames.frames r.frame turn.runs) ∙ ap (λ (e : ℕ). Some e) turn.on,
+  ap is_begun (subst (λ (o : Option Env). IfSome o (λ env. (life_of k.job.task s.log).stage ≡ Some (Begun env))) turn.begun given.begun),
+)
 
 -- what a turn leaves goes on from the log that it has found
 effects_go_on : (es : List EffectView) (n t : ℕ) (own : Priority) (log : List Event) → IsFront log (log_after n t own log es)

@@ -12,7 +12,10 @@ after_begin script s j env = after_block script s (begun j.task j.number env)
 
 -- a ticket of another task stays what it is
 stays : (script : ScriptView) (s : Standing) (j : JobFacts) (env : Env) (k : Ticket) → j.task ≢ k.job.task → IsGiven s k → IsGiven (after_begin script s j env) k
-stays script s j env k apart is = grind (arith, if_some, stage_stays)
+stays script s j env k apart is = record {
+  job = is.job;
+  begun = if_some k.begun _ _ (λ e has. stage_stays (Begin (task j.task) j.number env ∷ []) k.job.task s.log (inl apart, tt) ∙ has) is.begun;
+}
 
 ordered_is : {o : TurnOrder} → o ≡ at_rest → IsOrdered o
 ordered_is is = subst IsOrdered (sym is) tt

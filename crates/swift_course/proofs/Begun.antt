@@ -1,5 +1,5 @@
 -- Which turns are under way after a turn was applied, and which roots are there: none that was not before.
-use Rattle.swift_course.proofs.Prelude.{◌≡◌, ◌≢◌, ◌⊎◌, ℕ, ◌+◌, ◌≤◌, ◌<◌, Bool, true, false, List, [], ◌∷◌, ◌++◌, if◌then◌else◌, replicate, length, refl, sym, ap, ◌∙◌, subst, append_assoc, arith, inl, inr, Option, Some, None, is_some, cases_eq, false≢true, append-nil, TaskId, Ending, Fault, Priority, next_of, ScriptView, root_count, EffectView, opening, adding, cancelling_task, cancelling_group, ExitView, waiting, asking_next, closing, Advanced, Step, Ended, Event, Apply, CancelTask, Give, Life, JobStage, later, task_of, life_of, origin_in, stage_in, group_of, life_of-push_other, life_of-push_same, is_begun, AfterTurn, WaitingTaskView, JobFacts, TurnEnd, close_events, effect_events, end_events, exit_events, exit_resume, followed, gives, is_left_out, jobs_made, log_after, named_task, next_events, task, turn_end, wait_events}
+use Rattle.swift_course.proofs.Prelude.{◌≡◌, ◌≢◌, ◌⊎◌, ℕ, ◌+◌, ◌≤◌, ◌<◌, Bool, true, false, List, [], ◌∷◌, ◌++◌, if◌then◌else◌, replicate, length, refl, sym, ap, ◌∙◌, subst, append_assoc, arith, inl, inr, Option, Some, None, is_some, cases_eq, false≢true, append-nil, TaskId, Ending, Fault, Priority, next_of, ScriptView, root_count, EffectView, spawning, detaching, opening, adding, cancelling_task, cancelling_group, ExitView, calling, waiting, asking_next, closing, yielding, returning, failing, Advanced, Step, Run, Ended, Await, Event, Apply, CancelTask, Give, Life, Origin, JobStage, later, task_of, life_of, origin_in, stage_in, group_of, life_of-push_other, life_of-push_same, is_begun, AfterTurn, WaitingTaskView, JobFacts, TurnEnd, close_events, effect_events, end_events, exit_events, exit_resume, followed, gives, is_left_out, jobs_made, log_after, named_task, next_events, task, turn_end, wait_events}
 use Rattle.swift_groups.specs.declared.answer.NextResult.{NextResult as Answer}
 use Rattle.swift_groups.specs.declared.answer.NextResult.TheVariants as answer
 use Rattle.swift_course.proofs.Lists.{no_one}
@@ -11,7 +11,10 @@ abbrev pub MakesNoRoot : ℕ → Event → Type 0
 MakesNoRoot roots e = (origin_in e ≡ None) ⊎ (roots ≤ task_of e)
 
 pub origin_push : (roots x : ℕ) (log : List Event) (e : Event) → MakesNoRoot roots e → x < roots → (life_of x (log ++ e ∷ [])).origin ≡ (life_of x log).origin
-origin_push roots x log e (inl none) lt = grind (arith, cases_eq, life_of-push_same, life_of-push_other)
+origin_push roots x log e (inl none) lt = elim (cases_eq (task_of e) x) [
+  | inl same ↦ ap (λ (l : Life). l.origin) (life_of-push_same x log e same) ∙ ap (λ (o : Option Origin). later o (life_of x log).origin) none
+  | inr apart ↦ ap (λ (l : Life). l.origin) (life_of-push_other x log e apart)
+]
 origin_push roots x log e (inr le) lt = ap (λ (l : Life). l.origin) (life_of-push_other x log e (λ same. omega (arith, same, le, lt)))
 
 -- an event that makes no root, and begins no turn

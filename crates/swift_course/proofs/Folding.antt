@@ -1,5 +1,5 @@
 -- A history whose first turns of each executor are folded stands, and leads to the same.
-use Rattle.swift_course.proofs.Prelude.{◌≡◌, ◌≢◌, ℕ, ℤ, zero, suc, ◌+◌, ◌≤◌, ◌<◌, Bool, true, false, List, [], ◌∷◌, ◌++◌, length, map, take, drop, if◌then◌else◌, refl, sym, ap, ◌∙◌, subst, append_assoc, length-append, take-append-drop, arith, inl, inr, Some, None, is_some, nat_lt, filter_map, cons_option, cases_eq, nat_tests, append-nil, filter_map-append, ScriptView, root_count, life_of, IsEnv, CheckpointView, FoldedView, folded_of, RecordView, replay, is_current, AllStand, Block, added, begun, ran, folded, FoldedStands, RecordStands, Standing, Stands, after_block, at_first, checkpoint_at, fields_of, folded_in, record_in, records_of, root_in, roots_of, AllAllowed, IsOrderly, JobFacts, task, standing}
+use Rattle.swift_course.proofs.Prelude.{◌≡◌, ◌≢◌, ℕ, ℤ, zero, suc, ◌+◌, ◌≤◌, ◌<◌, Bool, true, false, List, [], ◌∷◌, ◌++◌, length, map, take, drop, if◌then◌else◌, refl, sym, ap, ◌∙◌, subst, append_assoc, length-append, take-append-drop, arith, inl, inr, Some, None, is_some, nat_lt, filter_map, cons_option, cases_eq, nat_tests, append-nil, filter_map-append, ScriptView, root_count, life_of, IsEnv, CheckpointView, FoldedView, folded_of, RecordView, replay, is_begun, is_current, AllStand, Block, added, begun, ran, folded, FoldedStands, RecordStands, Standing, Stands, after_block, at_first, checkpoint_at, fields_of, folded_in, record_in, records_of, root_in, roots_of, AllAllowed, IsOrderly, job_executor, JobFacts, task, standing}
 use Rattle.swift_history.specs.Histories as history
 use Rattle.swift_course.proofs.Left.{may_be_folded}
 use Rattle.swift_course.proofs.Applied.{other_record}
@@ -199,7 +199,10 @@ module _ (script : ScriptView) (from cps : List CheckpointView) (past : ℕ → 
         subst (λ (s : Standing). FoldedStands script s e (folded_of r)) (sym m.same) (may_be_folded script (standing script before) (fields_of script from e before) e r stands).0,
         m.records e ∙ drop_all (records_of e before) (past e) (omega (arith, lt)),
       )
-  turn_stands before before' rest e r false is whole m stands = grind (arith, nat_tests, same_fields)
+  turn_stands before before' rest e r false is whole m stands =
+      let le : past e ≤ length (records_of e before) = grind (arith, nat_tests) in
+      subst (λ (s : Standing). RecordStands script s (fields_of script cps e before') e r) (sym m.same)
+      (subst (λ (fs : List (List ℤ)). RecordStands script (standing script before) fs e r) (sym (same_fields before before' rest e whole m le)) stands)
 
   block_stands : (before before' rest : List Block) (b : Block) → before ++ rest ≡ total → Matches script past before before' → IsPlain b → Stands script from before b → Stands script cps before' (folded_as past before b)
   block_stands before before' rest (added r) whole m plain stands = subst (λ (s : Standing). (nat_lt r (root_count script) ≡ true) × ((life_of r s.log).origin ≡ None)) (sym m.same) stands
@@ -223,7 +226,9 @@ if_orderly script before false e r = tt
 
 block_orderly : (script : ScriptView) (past : ℕ → ℕ) (before before' : List Block) (b : Block) → Matches script past before before' → IsOrderly script before b → IsOrderly script before' (folded_as past before b)
 block_orderly script past before before' (added r) m is = subst (λ (s : Standing). (u : ℕ) → u < r → is_some (life_of u s.log).origin ≡ true) (sym m.same) is
-block_orderly script past before before' (begun t n env) m is = grind arith
+block_orderly script past before before' (begun t n env) m is =
+    subst (λ (s : Standing). ((u : ℕ) → u < root_count script → is_some (life_of u s.log).origin ≡ true)
+    × ((u : ℕ) → job_executor script (s.jobs u) ≡ job_executor script (s.jobs t) → is_begun (life_of u s.log).stage ≡ false)) (sym m.same) is
 block_orderly script past before before' (ran e r) m is = if_orderly script before' (nat_lt (length (records_of e before)) (past e)) e r
 block_orderly script past before before' (folded e f) m is = tt
 

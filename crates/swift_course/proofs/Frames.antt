@@ -1,5 +1,5 @@
 -- What follows from a turn, by its frame and by its record.
-use Rattle.swift_course.proofs.Prelude.{◌≡◌, ℕ, ℤ, ◌+◌, List, [], ◌∷◌, refl, sym, ap, ◌∙◌, count_by, None, Ending, Resume, ScriptView, FrameView, EffectView, ExitView, Played, returning, failing, advanced, kept_turn, resumed, left_as, makes_own, opens_group}
+use Rattle.swift_course.proofs.Prelude.{◌≡◌, ℕ, ℤ, ◌+◌, List, [], ◌∷◌, refl, sym, ap, ◌∙◌, count_by, None, Ending, Resume, ScriptView, FrameView, EffectView, ExitView, Played, calling, waiting, asking_next, closing, yielding, returning, failing, advanced, kept_turn, resumed, left_as, makes_own, opens_group}
 use Rattle.swift_types.specs.declared.outcome.Ending.TheVariants.{Value, Fault}
 use Rattle.swift_types.specs.declared.outcome.Resume.TheVariants.{Value as GivenValue, Fault as Raise}
 use Rattle.swift_course.proofs.CountedTurns.{kept_turn_counts}

@@ -1,5 +1,5 @@
 -- How the turns of executors have begun, after each step.
-use Rattle.swift_course.proofs.Prelude.{◌≡◌, ◌≢◌, ◌⊎◌, ℕ, zero, suc, ◌+◌, ◌<◌, ◌==◌, Bool, true, false, List, [], ◌∷◌, ◌++◌, set, if◌then◌else◌, refl, sym, ap, ◌∙◌, subst, append_assoc, arith, inl, inr, All, Some, None, is_some, nat_lt, cases_eq, false≢true, nat_tests, some, get_elem?, Env, Start, ScriptView, root_count, root_priority, Event, Give, Root, Life, life_of, lived, life_of-push_other, life_of-push_same, unborn_without, is_begun, Block, added, begun, Standing, after_block, taken, with_jobs, IsOrderly, has_last_of, job_executor, TurnEnd, gives, root_events, root_job, task, HasUnderWay, IsFront, IsOrdered, IsOwned, IsUnderWay, SaysOrder, standing, order_applied, order_begun, Account, BookKnown, TurnOrder, at_rest, under_way, unordered}
+use Rattle.swift_course.proofs.Prelude.{◌≡◌, ◌≢◌, ◌⊎◌, ℕ, zero, suc, ◌+◌, ◌<◌, ◌==◌, Bool, true, false, List, [], ◌∷◌, ◌++◌, set, if◌then◌else◌, refl, sym, ap, ◌∙◌, subst, append_assoc, arith, inl, inr, All, Some, None, is_some, nat_lt, cases_eq, false≢true, nat_tests, All-cons, All-nil, some, get_elem?, Env, Start, ScriptView, root_count, root_priority, Event, Begin, Give, Root, Life, life_of, lived, life_of-push_other, life_of-push_same, unborn_without, is_begun, Block, added, begun, Standing, after_block, taken, with_jobs, IsOrderly, has_last_of, job_executor, TurnEnd, gives, root_events, root_job, task, HasUnderWay, IsFront, IsOrdered, IsOwned, IsUnderWay, SaysOrder, standing, order_applied, order_begun, Account, BookKnown, TurnOrder, at_rest, under_way, unordered}
 use Rattle.swift_course.proofs.Begun.{TurnKeeps}
 use Rattle.swift_course.proofs.Lists.{all_both, all_each, at_set, equal, same_one, unequal}
 use Rattle.swift_course.proofs.Waking.{jobs_stay}
@@ -42,7 +42,9 @@ orders_changed log log' x f order owner n views seat w says owns mine on own j u
 
 -- the one account of a seat whose executor's order changes
 pub own_changed : (log log' : List Event) (f : TurnOrder → TurnOrder) (order : ℕ → TurnOrder) (a a' : Account) → SaysOrder log order a → a'.executor ≡ a.executor → a'.order ≡ f a.order → IsFront a'.seen log' → All (SaysOrder log' (changed_at a.executor f order)) (a' ∷ [])
-own_changed log log' f order a a' says same is front = grind (arith, changed_at, changed_there)
+own_changed log log' f order a a' says same is front =
+    All-cons (SaysOrder log' (changed_at a.executor f order)) a' []
+    (is ∙ ap f says.0 ∙ ap (λ e. f (order e)) (sym same) ∙ sym (changed_there a.executor f order a'.executor same), front) (All-nil (SaysOrder log' (changed_at a.executor f order)))
 
 -- what is under way on an executor stays so, where nothing else gets so
 
@@ -73,12 +75,18 @@ has_begun script s s' e t _ _ was has = tt
 -- after an order has changed
 has_changed : (script : ScriptView) (s : Standing) (x : ℕ) (f : TurnOrder → TurnOrder) (order : ℕ → TurnOrder) → HasUnderWay script s x (f (order x)) → ((e : ℕ) → e ≢ x → HasUnderWay script s e (order e))
     → (e : ℕ) → HasUnderWay script s e (changed_at x f order e)
-has_changed script s x f order own else_where e = grind (arith, cases_eq, changed_at, changed_there, changed_else)
+has_changed script s x f order own else_where e = elim (cases_eq e x) [
+  | inl same ↦ subst (λ (k : ℕ). HasUnderWay script s k (changed_at x f order k)) (sym same) (subst (HasUnderWay script s x) (sym (changed_there x f order x refl)) own)
+  | inr apart ↦ subst (HasUnderWay script s e) (sym (changed_else x f order e apart)) (else_where e apart)
+]
 
 -- a turn begins
 
 begin_was : (script : ScriptView) (s : Standing) (t n e : ℕ) (env : Env) (u : ℕ) → IsUnderWay script (after_block script s (begun t n env)) e u → (u ≡ t) ⊎ IsUnderWay script s e u
-begin_was script s t n e env u is = grind (arith, cases_eq, life_of-push_other)
+begin_was script s t n e env u is = elim (cases_eq u t) [
+  | inl same ↦ inl same
+  | inr apart ↦ inr (is.0, sym (ap (λ (l : Life). is_begun l.stage) (life_of-push_other u s.log (Begin (task t) n env) (λ same. apart (sym same)))) ∙ is.1)
+]
 
 pub begin_has : (script : ScriptView) (s : Standing) (t n x : ℕ) (env : Env) (there : Bool) (order : ℕ → TurnOrder) → job_executor script (s.jobs t) ≡ Some x → ((e : ℕ) → HasUnderWay script s e (order e))
     → (e : ℕ) → HasUnderWay script (after_block script s (begun t n env)) e (changed_at x (order_begun there) order e)
@@ -110,7 +118,10 @@ all_there (suc r) m log there last u lt = there u lt ∙ lower m r u (sym (there
 -- the begin of a turn is in order
 pub begin_orderly : (script : ScriptView) (blocks : List Block) (t n x m : ℕ) (env : Env) (log : List Event) → log ≡ (standing script blocks).log → ((r : ℕ) → r < root_count script → is_some (life_of r log).origin ≡ nat_lt r m)
     → has_last_of (root_count script) log ≡ true → job_executor script ((standing script blocks).jobs t) ≡ Some x → HasUnderWay script (standing script blocks) x at_rest → IsOrderly script blocks (begun t n env)
-begin_orderly script blocks t n x m env log is there last on rest = grind (arith, all_there, not_true)
+begin_orderly script blocks t n x m env log is there last on rest = (
+  λ u lt. subst (λ (l : List Event). is_some (life_of u l).origin ≡ true) is (all_there (root_count script) m log there last u lt),
+  λ u same. not_true _ (λ begins. rest u (same ∙ on, begins)),
+)
 
 -- a root is added
 
@@ -123,13 +134,22 @@ module _ (script : ScriptView) (log : List Event) (r u : ℕ) where
 
   -- the root's own life, and that of another task
   root_life : u ≡ r → life_of u (log ++ root_events script r) ≡ lived (lived (life_of u log) (Root (task r) (root_priority script r))) (Give (task r) 0 Start)
-  root_life same = grind (arith, life_of, split, life_of-push_same, first_of, task, lived, root_priority)
+  root_life same =
+      ap (life_of u) split ∙ life_of-push_same u first_of (Give (task r) 0 Start) (sym same)
+      ∙ ap (λ (l : Life). lived l (Give (task r) 0 Start)) (life_of-push_same u log (Root (task r) (root_priority script r)) (sym same))
 
   other_life : u ≢ r → life_of u (log ++ root_events script r) ≡ life_of u log
-  other_life apart = grind (arith, life_of, split, life_of-push_other, first_of, task, root_priority)
+  other_life apart =
+      ap (life_of u) split ∙ life_of-push_other u first_of (Give (task r) 0 Start) (λ same. apart (sym same))
+      ∙ life_of-push_other u log (Root (task r) (root_priority script r)) (λ same. apart (sym same))
 
 root_was : (script : ScriptView) (s : Standing) (r e u : ℕ) → IsUnderWay script (after_block script s (added r)) e u → IsUnderWay script s e u
-root_was script s r e u is = grind (arith, cases_eq, root_life, unequal, other_life)
+root_was script s r e u is = elim (cases_eq u r) [
+  | inl same ↦ absurd (false≢true (sym (ap (λ (l : Life). is_begun l.stage) (root_life script s.log r u same)) ∙ is.1))
+  | inr apart ↦
+      let job = ap (λ b. if b then Some (root_job script r) else s.jobs u) (unequal u r apart) in
+      (sym (ap (job_executor script) job) ∙ is.0, sym (ap (λ (l : Life). is_begun l.stage) (other_life script s.log r u apart)) ∙ is.1)
+]
 
 pub root_has : (script : ScriptView) (s : Standing) (r : ℕ) (order : ℕ → TurnOrder) → ((e : ℕ) → HasUnderWay script s e (order e)) → (e : ℕ) → HasUnderWay script (after_block script s (added r)) e (order e)
 root_has script s r order has e = has_stays script s (after_block script s (added r)) e (order e) (root_was script s r e) (has e)
@@ -141,7 +161,10 @@ own_one : (r : ℕ) → true ≡ nat_lt r (r + 1)
 own_one r = grind (arith, nat_tests)
 
 pub root_there : (script : ScriptView) (log : List Event) (r u : ℕ) → is_some (life_of u log).origin ≡ nat_lt u r → is_some (life_of u (log ++ root_events script r)).origin ≡ nat_lt u (r + 1)
-root_there script log r u was = grind (arith, cases_eq, root_life, own_one, other_life, up_to)
+root_there script log r u was = elim (cases_eq u r) [
+  | inl same ↦ ap (λ (l : Life). is_some l.origin) (root_life script log r u same) ∙ own_one r ∙ ap (λ k. nat_lt k (r + 1)) (sym same)
+  | inr apart ↦ ap (λ (l : Life). is_some l.origin) (other_life script log r u apart) ∙ was ∙ up_to u r apart
+]
 
 below_is : (u r : ℕ) → u < r → nat_lt u r ≡ true
 below_is u r lt = grind (arith, nat_tests)
@@ -171,7 +194,10 @@ ordered_applied _ is = tt
 
 -- where all orders are in order after one has changed, they were before
 pub ordered_before : (x : ℕ) (f : TurnOrder → TurnOrder) (order : ℕ → TurnOrder) → (IsOrdered (f (order x)) → IsOrdered (order x)) → ((e : ℕ) → IsOrdered (changed_at x f order e)) → (e : ℕ) → IsOrdered (order e)
-ordered_before x f order own all e = grind (arith, cases_eq, changed_there, changed_else)
+ordered_before x f order own all e = elim (cases_eq e x) [
+  | inl same ↦ subst (λ (k : ℕ). IsOrdered (order k)) (sym same) (own (subst IsOrdered (changed_there x f order x refl) (all x)))
+  | inr apart ↦ subst IsOrdered (changed_else x f order e apart) (all e)
+]
 
 -- when a run begins, nothing is under way, and no root is there
 

@@ -1,5 +1,5 @@
 -- The order of a seat's tickets says nothing.
-use Rattle.swift_course.proofs.Prelude.{◌≡◌, ℕ, suc, List, ◌∷◌, set, count_by, refl, sym, ap, subst, arith, inl, inr, IsPermutation, some, get_elem?, IsCourse, IsGiven, SeatIsRight, is_for, one_if, standing, tickets_in, MayGive, TicketsMayBeOrdered, BookFacts, BookKnown, Ticket}
+use Rattle.swift_course.proofs.Prelude.{◌≡◌, ℕ, zero, suc, List, [], ◌∷◌, set, count_by, refl, sym, ap, subst, arith, inl, inr, IsPermutation, some, get_elem?, IsCourse, IsGiven, SeatIsRight, is_for, one_if, standing, tickets_in, MayGive, TicketsMayBeOrdered, BookFacts, BookKnown, Ticket}
 use Rattle.std.proofs.lemmas.List.Sorted.{All-permutation, sum_by-IsPermutation}
 use Rattle.swift_course.proofs.Lists.{at_set, set_there, total_set}
 use Rattle.swift_course.proofs.Order.{orders_kept}

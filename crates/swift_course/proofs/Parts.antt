@@ -164,7 +164,13 @@ old_owner m l owner e apart = ap (λ b. if b then l else owner e) (unequal e m a
 -- a seat that is not touched, when there is one executor more
 still_right : (facts : BookFacts) (blocks : List Block) (owner : ℕ → ℕ) (maker : Maker) (maker_seat seat j l : ℕ) (u : BookKnown) → SeatIsRight facts.script blocks owner maker maker_seat j u → maker_seat ≡ seat → j ≢ seat
     → SeatIsRight facts.script blocks (λ e. if e == maker.executors then l else owner e) (record maker { executors = maker.executors + 1 }) seat j u
-still_right facts blocks owner maker maker_seat seat j l u r is apart = grind (arith, all_each, old_owner, if_some)
+still_right facts blocks owner maker maker_seat seat j l u r is apart = record {
+  script_is = r.script_is;
+  accounts = r.accounts;
+  owns = all_each (IsOwned owner maker.executors j) (IsOwned (λ e. if e == maker.executors then l else owner e) (maker.executors + 1) j) u.accounts (λ a own. (old_owner maker.executors l owner a.executor (λ same. (let lt = own.1 in omega (arith, same, lt))) ∙ own.0, (let lt = own.1 in omega (arith, lt)))) r.owns;
+  tickets = r.tickets;
+  maker_is = if_some u.maker (λ m. (m ≡ maker) × (maker_seat ≡ j)) (λ m. (m ≡ record maker { executors = maker.executors + 1 }) × (seat ≡ j)) (λ m known. absurd (apart (sym known.1 ∙ is))) r.maker_is;
+}
 
 open_next : (facts : BookFacts) (views : List BookKnown) (seat : ℕ) (v : BookKnown) (c : IsCourse facts views) → get_elem? views seat ≡ some v → v.maker ≡ Some c.maker → c.maker_seat ≡ seat → c.maker.executors < executor_count facts.script
     → IsCourse facts (set views seat (maker_left v) ++ account_parted v ∷ [])

@@ -28,16 +28,16 @@ pub use Rattle.swift_events.specs.declared.life.Life.{Life}
 pub use Rattle.swift_events.specs.declared.life.Origin.{Origin}
 pub use Rattle.swift_groups.specs.Next.{next_of}
 pub use Rattle.swift_history.specs.Checks.{counters, fits_turn, is_begun, is_current}
-pub use Rattle.swift_history.specs.Histories.{AllStand, Block, FoldedStands, LeavesFrame, RecordStands, ReportView, Standing, Stands, added, after_block, after_blocks, at_first, begun, checkpoint_at, fields_of, folded, folded_in, left_as, makes_own, no_checkpoint, opens_group, ran, record_in, records_of, root_in, roots_of, taken, with_jobs}
-pub use Rattle.swift_history.specs.Orderly.{AllAllowed, IsOrderly, has_last_of, has_last_root, job_executor}
-pub use Rattle.swift_history.specs.TurnEnds.{AfterTurn, JobFacts, TurnEnd, WaitingTaskView, close_events, effect_events, effect_jobs, end_events, exit_events, exit_resume, first_job, followed, gives, is_left_out, jobs_made, log_after, named_task, next_events, resume_of, root_events, root_job, task, turn_end, wait_events, wake, wake_all, wake_closing, wake_each, wake_owner, wake_parent, woken}
+pub use Rattle.swift_history.specs.Histories.{AllStand, Block, FoldedStands, LeavesFrame, RecordStands, ReportView, Standing, Stands, added, after_block, after_blocks, at_first, begun, begun_priority, checkpoint_at, fields_of, folded, folded_in, frames_applied, job_applied, left_as, makes_own, no_checkpoint, opens_group, ran, record_in, records_of, root_in, roots_of, taken, with_jobs}
+pub use Rattle.swift_history.specs.Orderly.{AllAllowed, IsOrderly, frames_executor, has_last_of, has_last_root, job_executor}
+pub use Rattle.swift_history.specs.TurnEnds.{AfterTurn, JobFacts, TurnEnd, WaitingTaskView, close_events, effect_events, effect_jobs, end_events, exit_events, exit_resume, first_job, followed, gives, is_left_out, jobs_made, log_after, named_task, next_events, resume_at, resume_of, root_events, root_job, task, turn_end, wait_events, wake, wake_all, wake_closing, wake_each, wake_owner, wake_parent, woken}
 pub use Rattle.swift_interpreter.specs.Frames.{FrameView}
-pub use Rattle.swift_interpreter.specs.Turn.{AfterStatement, EffectView, ExitView, InvocationView, Played, TurnInputView, TurnStateView, act, adding, all_hold, asking_next, at_limit, cancelling_group, cancelling_task, caught, closing, detaching, exits, failing, given, goes, kept, kept_of, leaves, left_by, on, opening, perform, raised_by, returning, scene, settled, spawning, taken_by, undoes, waiting, whole_turn, with_invocation, with_value, yielding}
+pub use Rattle.swift_interpreter.specs.Turn.{AfterStatement, EffectView, ExitView, InvocationView, Played, TurnInputView, TurnStateView, act, adding, all_hold, asking_next, at_limit, calling, cancelling_group, cancelling_task, caught, closing, detaching, exits, failing, given, goes, kept, kept_of, leaves, left_by, on, opening, perform, raised_by, returning, scene, settled, spawning, taken_by, undoes, waiting, whole_turn, with_invocation, with_value, yielding}
 pub use Rattle.swift_journal.specs.Checkpoints.{CheckpointView, FoldedView, folded_of}
 pub use Rattle.swift_journal.specs.Records.{RecordView}
 pub use Rattle.swift_history.specs.Replay.{IsAfter, IsLawfulRecord, StandsFor, fields_after, replay, turn_of}
-pub use Rattle.swift_script.specs.Scripts.{ScriptView, executor_count, executor_start, root_count, root_priority}
-pub use Rattle.swift_turn.specs.Body.{Advanced, HasFirst, TaskView, advanced, callers_of, kept_turn, resumed}
+pub use Rattle.swift_script.specs.Scripts.{ScriptView, actor_executor, executor_count, executor_invariants, executor_start, method_actor, root_count, root_priority}
+pub use Rattle.swift_turn.specs.Body.{Advanced, HasFirst, TaskView, advanced, callers_of, kept_turn, resumed, state_at}
 pub use Rattle.swift_turn.specs.declared.step.Step.{Step}
 pub use Rattle.swift_turn.specs.declared.step.Step.TheVariants.{Await, Ended, Run}
 pub use Rattle.swift_types.specs.declared.env.Env.{Env}

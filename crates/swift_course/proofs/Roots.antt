@@ -18,7 +18,10 @@ root_silent script r x apart = (inl apart, (inl apart, tt))
 
 -- a ticket of another task stays what it is
 stays : (script : ScriptView) (s : Standing) (r : ℕ) (k : Ticket) → k.job.task ≢ r → IsGiven s k → IsGiven (after_root script s r) k
-stays script s r k apart is = grind (arith, unequal, if_some, stage_stays, root_silent)
+stays script s r k apart is = record {
+  job = ap (λ b. if b then Some (root_job script r) else s.jobs k.job.task) (unequal k.job.task r apart) ∙ is.job;
+  begun = if_some k.begun _ _ (λ env has. stage_stays (root_events script r) k.job.task s.log (root_silent script r k.job.task (λ same. apart (sym same))) ∙ has) is.begun;
+}
 
 -- the root has its job
 given : (script : ScriptView) (s : Standing) (r : ℕ) → All (IsGiven (after_root script s r)) (fresh (root_job script r) ∷ [])

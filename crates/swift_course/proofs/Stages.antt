@@ -1,5 +1,5 @@
 -- What the events of one task say of the stages of others: nothing.
-use Rattle.swift_course.proofs.Prelude.{◌≡◌, ◌≢◌, ◌⊎◌, ℕ, ◌+◌, ◌<◌, Bool, true, false, List, [], ◌∷◌, ◌++◌, if◌then◌else◌, refl, sym, ap, ◌∙◌, append_assoc, arith, inl, inr, Option, Some, None, is_some, cases_eq, append-nil, TaskId, Ending, Fault, Priority, Env, next_of, ScriptView, root_count, EffectView, opening, adding, cancelling_task, cancelling_group, ExitView, waiting, asking_next, closing, Step, Ended, Event, Begin, CancelTask, Life, JobStage, Begun, is_made, task_of, tasks_of, life_of, stage_in, group_of, life_of-push_other, life_of-push_same, tasks_of-push_other, JobFacts, close_events, effect_events, end_events, exit_events, gives, is_left_out, log_after, named_task, next_events, wait_events}
+use Rattle.swift_course.proofs.Prelude.{◌≡◌, ◌≢◌, ◌⊎◌, ℕ, ◌+◌, ◌<◌, Bool, true, false, List, [], ◌∷◌, ◌++◌, if◌then◌else◌, refl, sym, ap, ◌∙◌, append_assoc, arith, inl, inr, Option, Some, None, is_some, cases_eq, append-nil, TaskId, Ending, Fault, Priority, Env, next_of, ScriptView, root_count, EffectView, spawning, detaching, opening, adding, cancelling_task, cancelling_group, ExitView, calling, waiting, asking_next, closing, yielding, returning, failing, Step, Run, Ended, Await, Event, Begin, CancelTask, Life, JobStage, Begun, is_made, later, task_of, tasks_of, life_of, stage_in, group_of, life_of-push_other, life_of-push_same, tasks_of-push_other, JobFacts, close_events, effect_events, end_events, exit_events, gives, is_left_out, log_after, named_task, next_events, wait_events}
 use Rattle.swift_groups.specs.declared.answer.NextResult.{NextResult as Answer}
 use Rattle.swift_groups.specs.declared.answer.NextResult.TheVariants as answer
 use Rattle.swift_course.proofs.Lists.{one}
@@ -19,7 +19,10 @@ AreSilent x (e ∷ es) = IsSilent x e × AreSilent x es
 
 stage_push : (x : ℕ) (log : List Event) (e : Event) → IsSilent x e → stage_of x (log ++ e ∷ []) ≡ stage_of x log
 stage_push x log e (inl apart) = ap (λ (l : Life). l.stage) (life_of-push_other x log e apart)
-stage_push x log e (inr none) = grind (arith, cases_eq, life_of-push_same, life_of-push_other)
+stage_push x log e (inr none) = elim (cases_eq (task_of e) x) [
+  | inl same ↦ ap (λ (l : Life). l.stage) (life_of-push_same x log e same) ∙ ap (λ (o : Option JobStage). later o (life_of x log).stage) none
+  | inr apart ↦ ap (λ (l : Life). l.stage) (life_of-push_other x log e apart)
+]
 
 pub stage_stays : (es : List Event) (x : ℕ) (log : List Event) → AreSilent x es → stage_of x (log ++ es) ≡ stage_of x log
 stage_stays [] x log silent = ap (stage_of x) (append-nil log)

@@ -1,5 +1,5 @@
 -- The checkpoints of a run that has not begun.
-use Rattle.swift_course.proofs.Prelude.{◌≡◌, ℕ, ◌+◌, ◌<◌, ◌≤◌, zero, suc, List, [], ◌∷◌, map, length, refl, ap, ◌∙◌, arith, Option, Some, None, slice_get, unwrap_or, range_with_len, slice_get_within, ScriptView, executor_count, executor_start, CheckpointView, checkpoint_at, no_checkpoint, start_of, starts}
+use Rattle.swift_course.proofs.Prelude.{◌≡◌, ℕ, ◌+◌, ◌<◌, ◌≤◌, zero, suc, List, [], ◌∷◌, map, length, refl, sym, ap, ◌∙◌, arith, Option, Some, None, slice_get, unwrap_or, range_with_len, slice_get_within, ScriptView, executor_count, executor_start, CheckpointView, checkpoint_at, no_checkpoint, start_of, starts}
 use Rattle.swift_course.proofs.Lists.{same_one}
 
 from : {X : Type 0} (f : ℕ → X) (n a e : ℕ) → e < n → slice_get (map f (range_with_len a n)) e ≡ Some (f (a + e))
@@ -33,7 +33,9 @@ many_starts script = many (start_of script) (executor_count script) 0
 
 -- a checkpoint of a run that has not begun
 pub start_at : (script : ScriptView) (e : ℕ) (c : CheckpointView) → slice_get (starts script) e ≡ Some c → c ≡ start_of script e
-start_at script e c is = grind (arith, executor_count, slice_get_within, starts, many_starts, same_one, start_of, place_of)
+start_at script e c is =
+    let lt : e < executor_count script = (let w = slice_get_within (starts script) e c is in let n = many_starts script in omega (arith, w, n)) in
+    same_one c (start_of script e) (sym is ∙ place_of (start_of script) (executor_count script) e lt)
 
 -- has folded no turn
 pub none_folded_at : (script : ScriptView) (e : ℕ) (c : CheckpointView) → slice_get (starts script) e ≡ Some c → c.folded ≡ []

@@ -1,5 +1,5 @@
 -- A task that goes on has one job, or waits.
-use Rattle.swift_course.proofs.Prelude.{fresh, ◌≡◌, ◌≢◌, ℕ, zero, suc, ◌+◌, ◌≤◌, ◌==◌, Bool, true, false, List, [], ◌∷◌, ◌++◌, get_or, set, replicate, map, count_by, if◌then◌else◌, refl, ap, ◌∙◌, arith, inl, inr, Option, Some, None, is_some, AllByRecursion, cases_eq, TaskId, Ending, Resume, Go, Step, Run, Ended, Await, TaskView, Event, JobStage, Asks, Closes, life_of, group_of, parent_of, waiters_of, with_jobs, AfterTurn, WaitingTaskView, JobFacts, followed, resume_of, wake, wake_all, wake_closing, wake_each, wake_owner, wake_parent, woken, is_for, one_if, waits}
+use Rattle.swift_course.proofs.Prelude.{fresh, ◌≡◌, ◌≢◌, ℕ, zero, suc, ◌+◌, ◌≤◌, ◌==◌, Bool, true, false, List, [], ◌∷◌, ◌++◌, get_or, set, replicate, map, count_by, if◌then◌else◌, refl, ap, ◌∙◌, arith, inl, inr, Option, Some, None, is_some, AllByRecursion, cases_eq, TaskId, Ending, Resume, Go, Step, Run, Ended, Await, TaskView, Event, JobStage, Asks, Closes, life_of, group_of, parent_of, waiters_of, with_jobs, AfterTurn, WaitingTaskView, JobFacts, followed, resume_at, resume_of, wake, wake_all, wake_closing, wake_each, wake_owner, wake_parent, woken, is_for, one_if, waits}
 use Rattle.swift_groups.specs.declared.answer.Close.{Close as Closing}
 use Rattle.swift_groups.specs.declared.answer.Close.TheVariants as closing
 use Rattle.swift_groups.specs.Close.{close_of}
@@ -44,7 +44,18 @@ room_waits _ _ _ = refl
 
 woken_keeps : (u x : ℕ) (resume : Resume) (f : AfterTurn) (o : Option WaitingTaskView) → get_or f.held u None ≡ o → ways_of x (woken u resume f o) ≡ ways_of x f
 woken_keeps u x resume f None is = refl
-woken_keeps u x resume f (Some h) is = grind (arith, times_append, cases_eq, set, set_here, set_other, no_one)
+woken_keeps u x resume f (Some h) is =
+    let j : JobFacts = record { task = u; number = h.number; resume = resume_at h.number resume; frames = h.frames } in
+    let more = times_append x f.jobs (j ∷ []) in
+    elim (cases_eq x u) [
+      | inl same ↦
+          let now : waits x (set f.held u None) ≡ 0 = ap (λ k. waits k (set f.held u None)) same ∙ ap (λ o. one_if (is_some o)) (set_here f.held u) in
+          let was : waits x f.held ≡ 1 = ap (λ k. waits k f.held) same ∙ ap (λ o. one_if (is_some o)) is in
+          omega (arith, more, one x u same, now, was)
+      | inr apart ↦
+          let now : waits x (set f.held u None) ≡ waits x f.held = ap (λ o. one_if (is_some o)) (set_other f.held u x None apart) in
+          omega (arith, more, no_one x u apart, now)
+    ]
 
 wake_keeps : (u x : ℕ) (resume : Resume) (f : AfterTurn) → ways_of x (wake u resume f) ≡ ways_of x f
 wake_keeps u x resume f = woken_keeps u x resume f (get_or f.held u None) refl
@@ -86,7 +97,9 @@ held_once t x h hs = elim (cases_eq x t) [
     most false = omega arith
 
 pub followed_ways : (t n x : ℕ) (frames : TaskView) (resume : Option Resume) (step : Step) (log : List Event) (f : AfterTurn) → ways_of x (followed t n frames resume step log f) ≤ ways_of x f + one_if (x == t)
-followed_ways t n x frames (Some resume) step log f = grind (arith, times_append)
+followed_ways t n x frames (Some resume) step log f =
+    let j : JobFacts = record { task = t; number = n; resume = resume_at n resume; frames = frames } in
+    let more = times_append x f.jobs (j ∷ []) in omega (arith, more)
 followed_ways t n x frames None (Ended e) log f = let keeps = all_keep t x e log f in omega (arith, keeps)
 followed_ways t n x frames None (Run actor resume) log f = let once = held_once t x (record { number = n; frames = frames }) f.held in omega (arith, once)
 followed_ways t n x frames None Await log f = let once = held_once t x (record { number = n; frames = frames }) f.held in omega (arith, once)

@@ -1,5 +1,5 @@
 -- The report of a run is the fold of a whole one.
-use Rattle.swift_course.proofs.Prelude.{◌≡◌, ℕ, ℤ, ◌<◌, List, [], ◌++◌, map, refl, sym, ap, ◌∙◌, subst, arith, Some, Contains, slice_get, range_with_len, slice_get_within, executor_count, executor_start, CheckpointView, RecordView, replay, ReportView, records_of, start_of, starts, HasHistory, IsAccountedFor, IsReportOf, BookFacts, BookKnown}
+use Rattle.swift_course.proofs.Prelude.{◌≡◌, ℕ, ℤ, ◌<◌, List, [], ◌++◌, map, refl, sym, ap, ◌∙◌, subst, arith, Some, Contains, slice_get, range_with_len, slice_get_within, All-contains, executor_count, executor_start, CheckpointView, RecordView, replay, ReportView, records_of, IsIn, start_of, starts, HasHistory, IsAccountedFor, IsReportOf, Account, BookFacts, BookKnown}
 use Rattle.swift_course.specs.Whole.{AreFoldedInto, RunsAreWhole}
 use Rattle.swift_course.proofs.Blocks.{replay_append}
 use Rattle.swift_course.proofs.Legal.{report_is_orderly, there}
@@ -23,7 +23,10 @@ module _ (facts : BookFacts) (v : BookKnown) (report : ReportView) (h : HasHisto
 
   -- all that the account has is what the history has
   all_turns : (e : ℕ) (journal : List RecordView) (c : CheckpointView) (fields : List (List ℤ)) (is : IsAccountedFor facts.script v e journal c fields) → is.past ++ journal ≡ turns_of e
-  all_turns e journal c fields is = grind arith
+  all_turns e journal c fields is =
+      let account : Account = record { executor = e; records = is.past ++ journal; order = is.order; seen = is.seen } in
+      let known : IsIn h.blocks account = All-contains (IsIn h.blocks) v.accounts account h.accounts is.account in
+      known
 
   -- of an executor, what its account says of its journal and checkpoint it says of all of its turns
   whole_accounted : (e : ℕ) (lt : e < executor_count facts.script) (journal turns : List RecordView) (c start : CheckpointView) (fields : List (List ℤ)) → IsAccountedFor facts.script v e journal c fields → turns ≡ turns_of e → start ≡ start_of facts.script e

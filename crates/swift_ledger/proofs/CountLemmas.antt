@@ -3,6 +3,7 @@ use Rattle.swift_ledger.proofs.Prelude.{◌≡◌, ℕ, zero, suc, List, [], ◌
 
 -- one more count of 0 changes no count
 pub pushed_none : (xs : List ℕ) (t : ℕ) → slice_index_or (xs ++ 0 ∷ []) t 0 ≡ slice_index_or xs t 0
-pushed_none (x ∷ xs) (suc t) = pushed_none xs t
 pushed_none [] zero = refl
-pushed_none _ _ = refl
+pushed_none [] (suc t) = refl
+pushed_none (x ∷ xs) zero = refl
+pushed_none (x ∷ xs) (suc t) = pushed_none xs t

@@ -67,13 +67,21 @@ made_holds_none _ made = absurd (false≢true made)
 -- what a task holds by one more event of its own fits
 holds_after : (roots : ℕ) (log : List Event) (e : Event) → CanNote roots log e → (held reserved : ℕ) → held ≡ room_held (life_of (task_of e) log) → reserved ≡ reserved_of roots log → held ≤ reserved → tasks_of roots log + reserved ≤ TASKS
     → tasks_of roots log + (reserved - held) + room_held (lived (life_of (task_of e) log) e) ≤ TASKS
+holds_after roots log (Root t p) can held reserved is all le fits = omega (arith, is, le, fits)
 holds_after roots log (Begin t n env) can held reserved is all le fits = let c = can.1 in omega (arith, c, is, all)
 holds_after roots log (Apply t n) can held reserved is all le fits = omega (arith, le, fits)
+holds_after roots log (Free t by p true) can held reserved is all le fits = omega (arith, is, le, fits)
+holds_after roots log (Free t by p false) can held reserved is all le fits = omega (arith, is, le, fits)
+holds_after roots log (Open t g) can held reserved is all le fits = omega (arith, is, le, fits)
+holds_after roots log (Child t o g p) can held reserved is all le fits = omega (arith, is, le, fits)
+holds_after roots log (Skip t g) can held reserved is all le fits = omega (arith, is, le, fits)
+holds_after roots log (CancelTask t) can held reserved is all le fits = omega (arith, is, le, fits)
+holds_after roots log (CancelGroup t g) can held reserved is all le fits = omega (arith, is, le, fits)
 holds_after roots log (Wait t awaited) can held reserved is all le fits = omega (arith, le, fits)
 holds_after roots log (Next t g) can held reserved is all le fits = omega (arith, le, fits)
 holds_after roots log (Close t g) can held reserved is all le fits = omega (arith, le, fits)
+holds_after roots log (End t ending) can held reserved is all le fits = omega (arith, is, le, fits)
 holds_after roots log (Give t n resume) can held reserved is all le fits = omega (arith, le, fits)
-holds_after roots log _ can held reserved is all le fits = omega (arith, is, le, fits)
 
 pub held_within : (roots : ℕ) (log : List Event) (t : ℕ) → t < tasks_of roots log → room_held (life_of t log) ≤ reserved_of roots log
 held_within roots log t less = life_le_sum room_held (tasks_of roots log) log t less

@@ -10,8 +10,9 @@ use Rattle.swift_ledger.proofs.KeptGroups.{stage_open}
 
 -- one place written twice
 set_twice : {X : Type 0} (xs : List X) (i : ℕ) (y z : X) → set (set xs i y) i z ≡ set xs i z
+set_twice [] i y z = refl
+set_twice (x ∷ xs) zero y z = refl
 set_twice (x ∷ xs) (suc i) y z = ap (λ s. x ∷ s) (set_twice xs i y z)
-set_twice _ _ y z = refl
 
 -- what the groups do at a place
 pub open_at : (gs : List GroupView) (i : ℕ) (g : GroupView) → slice_get gs i ≡ Some g → g.stage ≡ IsOpen → open_group gs (record { 0 = i }) ≡ Ok g
@@ -21,8 +22,9 @@ pub live_open : (gs : List GroupView) (i : ℕ) (g : GroupView) → slice_get gs
 live_open gs i g at stage = ap live_if_opened at ∙ ap (λ (s : GroupStage). if_live s g) stage
 
 live_stage : (b : Bool) (ts : List TaskId) (t : TaskId) (g : GroupView) → is_among ts t ≡ true → if_live (stage_of b ts) g ≡ Ok g
+live_stage false ts t g h = refl
 live_stage true [] t g h = absurd (true≢false (sym h))
-live_stage _ _ t g h = refl
+live_stage true (u ∷ us) t g h = refl
 
 pub live_at : (gs : List GroupView) (i : ℕ) (g : GroupView) (b : Bool) (ts : List TaskId) (t : TaskId) → slice_get gs i ≡ Some g → g.stage ≡ stage_of b ts → is_among ts t ≡ true → live_group gs (record { 0 = i }) ≡ Ok g
 live_at gs i g b ts t at stage among = ap live_if_opened at ∙ ap (λ (s : GroupStage). if_live s g) stage ∙ live_stage b ts t g among

@@ -169,6 +169,10 @@ parents-push log (Close u n) old fits t o g = quiet log (Close u n) t o g old re
 parents-push log (End u ending) old fits t o g = quiet log (End u ending) t o g old refl refl
 parents-push log (Give u n resume) old fits t o g = quiet log (Give u n resume) t o g old refl refl
 
+-- whether a task is a child of a group, where its parent is known
+pub child-of : (log : List Event) (t : TaskId) (u h : ℕ) (parent : Option (ℕ × ℕ)) → AreParents log → parent ≡ parent_of t.0 log → is_among (children_of u h log) t ≡ is_child_of u h parent
+child-of log t u h parent old same = old t u h ∙ ap (is_child_of u h) (sym same)
+
 -- a ledger's event fits the groups, where nothing is said of numbers that are not taken
 pub fits-groups : (roots : ℕ) (log : List Event) (e : Event) → IsWellFormed roots log → CanNote roots log e → FitsGroups log e
 fits-groups roots log (Root t p) form can = can.1
@@ -179,4 +183,9 @@ fits-groups roots log (CancelGroup o g) form can = can.1
 fits-groups roots log (Next o g) form can = can.1
 fits-groups roots log (Close o g) form can = can.1
 fits-groups roots log (End t ending) form can = can.1
-fits-groups roots log _ form can = tt
+fits-groups roots log (Begin t n env) form can = tt
+fits-groups roots log (Apply t n) form can = tt
+fits-groups roots log (Skip o g) form can = tt
+fits-groups roots log (CancelTask t) form can = tt
+fits-groups roots log (Wait t awaited) form can = tt
+fits-groups roots log (Give t n resume) form can = tt

@@ -84,6 +84,10 @@ levels_at_wait log u t l m ls u_made t_made u_level t_level le are =
       few = are.few;
     }
 
+-- nothing has changed since all events
+pub stayed_now : (log : List Event) (n : ℕ) → length log ≤ n → HaveStayed log n
+stayed_now log n all k most levels are = subst (λ (es : List Event). AreLevels es levels) (take_all k log (omega (arith, all, most))) are
+
 -- one more event, by which no level changes
 pub stayed_on : (log : List Event) (e : Event) (n : ℕ) → ((levels : List ℕ) → AreLevels log levels → AreLevels (log ++ e ∷ []) levels) → HaveStayed log n → HaveStayed (log ++ e ∷ []) n
 stayed_on log e n stays stayed k most levels are = elim (cases_lt (length log) k) [

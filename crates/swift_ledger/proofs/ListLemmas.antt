@@ -7,8 +7,9 @@ at_end (x ∷ xs) y = at_end xs y
 
 elsewhere : {X : Type 0} (xs : List X) (y : X) (i : ℕ) → length xs ≢ i → slice_get (xs ++ y ∷ []) i ≡ slice_get xs i
 elsewhere [] y zero h = absurd (h refl)
+elsewhere [] y (suc i) h = refl
+elsewhere (x ∷ xs) y zero h = refl
 elsewhere (x ∷ xs) y (suc i) h = let ne : length xs ≢ i = omega (arith, h) in elsewhere xs y i ne
-elsewhere _ y _ h = refl
 
 pub pushed_same : (lists : ℕ → List TaskId) (task x : TaskId) (t : ℕ) → task.0 ≡ t → pushed lists task x t ≡ lists t ++ x ∷ []
 pushed_same lists task x t h = cond-true (task.0 == t) (lists t ++ x ∷ []) (lists t) (eq-eqb task.0 t h)

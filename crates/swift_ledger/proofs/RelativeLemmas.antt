@@ -65,3 +65,7 @@ waiter_known roots log _ x form can is = absurd (cc)
 pub all_read : (P : TaskId → Type 0) (xs : List TaskId) (i : ℕ) (r : Option TaskId) → All P xs → r ≡ slice_get xs i → IfSome r P
 all_read P xs i None all is = tt
 all_read P xs i (Some x) all is = subst P (get_or_from_slice_get xs i x x (sym is)) (all i x (slice_get_within xs i x (sym is)))
+
+pub none_if_not_any : (xs : List TaskId) → has_any xs ≡ false → xs ≡ []
+none_if_not_any [] h = refl
+none_if_not_any (x ∷ xs) h = absurd (false≢true (sym h))

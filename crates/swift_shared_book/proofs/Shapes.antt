@@ -33,6 +33,10 @@ left_is (Some r) made v = ap (λ (l : List Ticket). record (after_turn r v) { ti
 pub append_is : (script other : Option ScriptView) (js made : List (JobView BodyView)) → gathered (tickets_view script made) (tickets_view other js) ≡ tickets_view script (js ++ made)
 append_is script other js made = ap (λ (l : List Ticket). record { script = script; accounts = []; tickets = l; maker = None }) (sym (map-append (λ j. fresh (job_facts j)) js made))
 
+-- a ticket is taken in
+pub accept_is : (v : BookKnown) (script : Option ScriptView) (j : JobView BodyView) → gathered v (tickets_view script (j ∷ [])) ≡ with_ticket (job_facts j) v
+accept_is v script j = ap (λ (l : List Account). record v { accounts = l; tickets = fresh (job_facts j) ∷ v.tickets }) (append-nil v.accounts)
+
 -- a seat that has taken in the tickets of more jobs
 pub has_tickets : (seat : BookSeatView) (l : BookLockView) (part other : BookKnown) (script script' : Option ScriptView) (made jobs items : List (JobView BodyView)) (is_reversed : Bool) → seat ≡ seat_of l (gathered part other)
     → part ≡ tickets_view script made → other ≡ tickets_view script' jobs → gathered (tickets_view script made) (tickets_view script' jobs) ≡ tickets_view script items → is_reversed ≡ false → HasTicketsOf (oldest_first is_reversed items) seat

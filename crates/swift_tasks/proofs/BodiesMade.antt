@@ -12,8 +12,9 @@ pub bodies_more : (script : ScriptView) (es : List Effect) (k : ℕ) (x : Effect
     → AreBodiesOf script (effect_views (take k es)) bs → IsBodyOf script (effect_view x) b → AreBodiesOf script (effect_views (take (suc k) es)) (bs ++ b ∷ [])
 bodies_more script [] k x bs b lt is all this = absurd (omega (arith, lt))
 bodies_more script (e ∷ es) zero x [] b lt is all this = (subst (λ (y : Effect). IsBodyOf script (effect_view y) b) is this, tt)
+bodies_more script (e ∷ es) zero x (c ∷ cs) b lt is all this = absurd all
+bodies_more script (e ∷ es) (suc k) x [] b lt is all this = absurd all
 bodies_more script (e ∷ es) (suc k) x (c ∷ cs) b lt is all this = (all.0, bodies_more script es k x cs b (omega (arith, lt)) is all.1 this)
-bodies_more script (e ∷ es) _ x _ b lt is all this = absurd all
 
 -- of all effects
 pub take_all : {A : Type 0} (xs : List A) → take (length xs) xs ≡ xs

@@ -94,10 +94,13 @@ can_take roots t script log room (cancelling_group g) fits le = fits
 
 -- an exit that fits can be followed
 pub can_leave : (t : ℕ) (script : ScriptView) (log : List Event) (room : ℕ) (exit : ExitView) → fits_exit script t log (counters t log room) exit ≡ true → CanLeave t log exit
+can_leave t script log room (calling i) fits = tt
 can_leave t script log room (waiting name) fits = can_name_is script t log room name fits
 can_leave t script log room (asking_next g) fits = fits
 can_leave t script log room (closing g f) fits = fits
-can_leave t script log room _ fits = tt
+can_leave t script log room yielding fits = tt
+can_leave t script log room (returning v) fits = tt
+can_leave t script log room (failing f) fits = tt
 
 use_on : (t : ℕ) (log log' : List Event) (c : Counters) (g : ℕ) → Stays log log' → can_use t log c g ≡ true → can_use t log' c g ≡ true
 use_on t log log' c g stays fits = ap (λ (b : Bool). nat_lt g c.opened && not b) (stays.closed t g) ∙ fits
@@ -119,10 +122,13 @@ effect_on script t log log' c (cancelling_task name) stays fits = name_on script
 effect_on script t log log' c (cancelling_group g) stays fits = use_on t log log' c g stays fits
 
 exit_on : (script : ScriptView) (t : ℕ) (log log' : List Event) (c : Counters) (exit : ExitView) → Stays log log' → fits_exit script t log c exit ≡ true → fits_exit script t log' c exit ≡ true
+exit_on script t log log' c (calling i) stays fits = fits
 exit_on script t log log' c (waiting name) stays fits = name_on script log log' c name stays fits
 exit_on script t log log' c (asking_next g) stays fits = use_on t log log' c g stays fits
 exit_on script t log log' c (closing g f) stays fits = use_on t log log' c g stays fits
-exit_on script t log log' c _ stays fits = fits
+exit_on script t log log' c yielding stays fits = fits
+exit_on script t log log' c (returning v) stays fits = fits
+exit_on script t log log' c (failing f) stays fits = fits
 
 -- what fits a log fits one in which what was made and which groups are closed stays
 pub fits_on : (script : ScriptView) (t : ℕ) (log log' : List Event) (c : Counters) (es : List EffectView) (exit : ExitView) → Stays log log' → fits_turn script t log c es exit ≡ true → fits_turn script t log' c es exit ≡ true

@@ -44,6 +44,10 @@ take_rest roots t own log e es b bs exit same can =
 pub take_none : (roots t : ℕ) (log : List Event) (bs : List (Option BodyView)) (exit : ExitView) → CanTakeAll roots t log [] bs exit → CanLeave t log exit
 take_none roots t log bs exit can = can_leave t can.script log can.room exit can.fits
 
+-- there is a body for each effect
+pub no_body : (script : ScriptView) (e : EffectView) (es : List EffectView) → AreBodiesOf script (e ∷ es) [] → ⊥
+no_body script e es are = are
+
 pub last_first : {A : Type 0} (front xs : List A) (x : A) → xs ≡ front ++ x ∷ [] → reverse xs ≡ x ∷ reverse front
 last_first front xs x is = ap reverse is ∙ reverse-append front (x ∷ [])
 

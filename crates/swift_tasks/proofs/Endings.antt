@@ -4,7 +4,19 @@ use Rattle.swift_tasks.proofs.Prelude.{◌≡◌, ℕ, List, [], ◌∷◌, ◌+
 -- only an end of the task would change it, and there is none
 same_later : (roots : ℕ) (log : List Event) (e : Event) (ending : Ending) → CanNote roots log e → (life_of (task_of e) log).ending ≡ Some ending → later (ending_in e) (life_of (task_of e) log).ending ≡ Some ending
 same_later roots log (End t other) ending can is = absurd (let none : (life_of t.0 log).ending ≡ None = can.1 in cc)
-same_later roots log _ ending can is = is
+same_later roots log (Root t p) ending can is = is
+same_later roots log (Begin t n env) ending can is = is
+same_later roots log (Apply t n) ending can is = is
+same_later roots log (Free t by p detached) ending can is = is
+same_later roots log (Open o g) ending can is = is
+same_later roots log (Child t o g p) ending can is = is
+same_later roots log (Skip o g) ending can is = is
+same_later roots log (CancelTask t) ending can is = is
+same_later roots log (CancelGroup o g) ending can is = is
+same_later roots log (Wait t awaited) ending can is = is
+same_later roots log (Next o g) ending can is = is
+same_later roots log (Close o g) ending can is = is
+same_later roots log (Give t n resume) ending can is = is
 
 stays : (roots t : ℕ) (ending : Ending) (log : List Event) (e : Event) → CanNote roots log e → (life_of t log).ending ≡ Some ending → (life_of t (log ++ e ∷ [])).ending ≡ Some ending
 stays roots t ending log e can is = elim (cases_eq t (task_of e)) [

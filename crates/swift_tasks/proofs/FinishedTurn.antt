@@ -13,12 +13,16 @@ pub grown_views : (held held' : List (Option WaitingTask)) (k : ℕ) → held' �
 grown_views held held' k is = ap held_views is ∙ map-append held_view held (replicate k None) ∙ ap (λ (hs : List (Option WaitingTaskView)). held_views held ++ hs) (none_views k)
 
 split_map : {A B : Type 0} (f : A → B) (n : ℕ) (xs : List A) → map f xs ≡ map f (take n xs) ++ map f (drop n xs)
+split_map f zero [] = refl
+split_map f zero (x ∷ xs) = refl
+split_map f (suc n) [] = refl
 split_map f (suc n) (x ∷ xs) = ap (λ ys. f x ∷ ys) (split_map f n xs)
-split_map f _ _ = refl
 
 pub drop_map : {A B : Type 0} (f : A → B) (n : ℕ) (xs : List A) → map f (drop n xs) ≡ drop n (map f xs)
+drop_map f zero [] = refl
+drop_map f zero (x ∷ xs) = refl
+drop_map f (suc n) [] = refl
 drop_map f (suc n) (x ∷ xs) = drop_map f n xs
-drop_map f _ _ = refl
 
 pub drop_front : {A : Type 0} (n : ℕ) (xs ys : List A) → length xs ≡ n → drop n (xs ++ ys) ≡ ys
 drop_front zero [] ys is = whole ys
@@ -31,9 +35,10 @@ drop_front (suc n) [] ys is = absurd (omega (arith, is))
 drop_front (suc n) (x ∷ xs) ys is = drop_front n xs ys (omega (arith, is))
 
 length_take : {A : Type 0} (n : ℕ) (xs : List A) → n ≤ length xs → length (take n xs) ≡ n
+length_take zero [] le = refl
+length_take zero (x ∷ xs) le = refl
 length_take (suc n) [] le = absurd (omega (arith, le))
 length_take (suc n) (x ∷ xs) le = (let is = length_take n xs (omega (arith, le)) in omega (arith, is))
-length_take zero _ le = refl
 
 -- what follows, behind the jobs that stood before
 pub finished : (first : ℕ) (held grown held' : List (Option WaitingTask)) (jobs jobs' : List (JobView BodyView)) (t n : ℕ) (frames : TaskView) (resume : Option Resume) (step : Step) (log : List Event)

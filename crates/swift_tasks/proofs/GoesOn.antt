@@ -32,16 +32,22 @@ adds_none log held t n next jobs =
 -- what such a turn leaves
 plain_end : (script : ScriptView) (log : List Event) (held : List (Option WaitingTaskView)) (t n : ℕ) (own : Priority) (exit : ExitView) (frames : TaskView) (actor : ActorId) (next : Resume) → StepFits exit (Run actor next)
     → turn_end script log held t n own [] exit (record { task = frames; step = Run actor next }) ≡ end_with (went_on log (task t) n next) held (next_view t n next frames ∷ [])
+plain_end script log held t n own (calling i) frames actor next fits = adds_none log held t n next (next_view t n next frames ∷ [])
 plain_end script log held t n own (waiting name) frames actor next fits = absurd (no_await actor next fits)
 plain_end script log held t n own (asking_next g) frames actor next fits = absurd (no_await actor next fits)
 plain_end script log held t n own (closing g f) frames actor next fits = absurd (no_await actor next fits)
-plain_end script log held t n own _ frames actor next fits = adds_none log held t n next (next_view t n next frames ∷ [])
+plain_end script log held t n own yielding frames actor next fits = adds_none log held t n next (next_view t n next frames ∷ [])
+plain_end script log held t n own (returning v) frames actor next fits = adds_none log held t n next (next_view t n next frames ∷ [])
+plain_end script log held t n own (failing f) frames actor next fits = adds_none log held t n next (next_view t n next frames ∷ [])
 
 names_none : (t : ℕ) (log : List Event) (exit : ExitView) (actor : ActorId) (next : Resume) → StepFits exit (Run actor next) → CanLeave t log exit
+names_none t log (calling i) actor next fits = tt
 names_none t log (waiting name) actor next fits = absurd (no_await actor next fits)
 names_none t log (asking_next g) actor next fits = absurd (no_await actor next fits)
 names_none t log (closing g f) actor next fits = absurd (no_await actor next fits)
-names_none t log _ actor next fits = tt
+names_none t log yielding actor next fits = tt
+names_none t log (returning v) actor next fits = tt
+names_none t log (failing f) actor next fits = tt
 
 -- it keeps what a book has to
 plain_kept : (script : ScriptView) (log : List Event) (held : List (Option WaitingTaskView)) (t n : ℕ) (exit : ExitView) (body : BodyView) (actor : ActorId) (next : Resume) → TurnLeaves script (root_count script) log held t [] [] exit body (Run actor next)
@@ -97,6 +103,18 @@ plain_book b script roots roots' log log' held job exit body next ss ls inv can 
       bodies = inv.bodies;
       closed = subst UnopenedAreNotClosed (sym gs) kept.1;
     }
+
+called_next : (script : ScriptView) (p : FrameView) (callers : List FrameView) (outer : List (ℕ × ℤ)) (i : InvocationView) (b : Bool)
+    → (actor : ActorId) × (next : Resume) × ((if b then runs script (opening script i.method i.args p.made p.opened) (p ∷ callers) (p.own ++ outer) Start else runs script p callers outer (Raise Depth)).step ≡ Run actor next)
+called_next script p callers outer i true = (record { 0 = method_actor script i.method }, Start, refl)
+called_next script p callers outer i false = (record { 0 = method_actor script p.method }, Raise Depth, refl)
+
+-- after a call the task goes on
+pub call_runs : (script : ScriptView) (frames : List FrameView) (outer : List (ℕ × ℤ)) (exit : ExitView) (i : InvocationView) (after : Advanced) → HasFrames frames → exit ≡ calling i → AdvancesTo script frames outer exit after → (actor : ActorId) × (next : Resume) × (after.step ≡ Run actor next)
+call_runs script [] outer exit i after there is adv = absurd there
+call_runs script (p ∷ callers) outer exit i after there is adv =
+    let way = called_next script p callers outer i (nat_lt (length (p ∷ callers)) FRAMES) in
+    (way.0, way.1, ap (λ (a : Advanced). a.step) (adv ∙ ap (advanced script p callers outer) is) ∙ way.2)
 
 -- a job, taken apart
 abbrev pub Parts : Type 0

@@ -5,13 +5,15 @@ use Rattle.swift_tasks.proofs.TurnApplied.{holds_viewed}
 
 pub same_views : (xs ys : List (Option WaitingTask)) → AllZip IsSameHeld xs ys → held_views ys ≡ held_views xs
 same_views [] [] same = refl
+same_views [] (y ∷ ys) same = absurd same
+same_views (x ∷ xs) [] same = absurd same
 same_views (x ∷ xs) (y ∷ ys) same = ap (λ (v : Option WaitingTaskView). v ∷ held_views ys) same.0.view ∙ ap (λ (vs : List (Option WaitingTaskView)). held_view x ∷ vs) (same_views xs ys same.1)
-same_views _ _ same = absurd same
 
 pub same_fits : (script : ScriptView) (xs ys : List (Option WaitingTask)) → AllZip IsSameHeld xs ys → AllByRecursion (FitsScript script) xs → AllByRecursion (FitsScript script) ys
 same_fits script [] [] same all = tt
+same_fits script [] (y ∷ ys) same all = absurd same
+same_fits script (x ∷ xs) [] same all = absurd same
 same_fits script (x ∷ xs) (y ∷ ys) same all = (same.0.fits script all.0, same_fits script xs ys same.1 all.1)
-same_fits script _ _ same all = absurd same
 
 -- what a book keeps of those that wait holds of copies of them too
 pub same_invariant : {script : ScriptView} {roots : ℕ} {log : List Event} (xs ys : List (Option WaitingTask)) → AllZip IsSameHeld xs ys → BookInvariant script roots log xs → BookInvariant script roots log ys

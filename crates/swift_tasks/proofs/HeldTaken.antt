@@ -2,12 +2,14 @@
 use Rattle.swift_tasks.proofs.Prelude.{◌≡◌, ℕ, zero, suc, ◌<◌, List, [], ◌∷◌, ◌++◌, length, get_or, refl, sym, ◌∙◌, ap, take, drop, arith, Option, Some, None, is_some, unwrap_or, map, slice_index_or, slice_set, slice_get, AllByRecursion, false≢true, map-append, TaskId, Resume, JobView, BodyView, JobFacts, WaitingTaskView, AfterTurn, resume_at, woken, wake, wake_each, WaitingTask, follows_of, held_view, held_views, job_facts}
 
 view_at : (held : List (Option WaitingTask)) (u : ℕ) → slice_index_or (held_views held) u None ≡ held_view (slice_index_or held u None)
+view_at [] u = refl
+view_at (h ∷ hs) zero = refl
 view_at (h ∷ hs) (suc u) = view_at hs u
-view_at _ _ = refl
 
 pub view_set : (held : List (Option WaitingTask)) (u : ℕ) (o : Option WaitingTask) → held_views (slice_set held u o) ≡ slice_set (held_views held) u (held_view o)
+view_set [] u o = refl
+view_set (h ∷ hs) zero o = refl
 view_set (h ∷ hs) (suc u) o = ap (λ (vs : List (Option WaitingTaskView)). held_view h ∷ vs) (view_set hs u o)
-view_set _ _ o = refl
 
 any_default : {A : Type 0} (xs : List A) (u : ℕ) (d e : A) → u < length xs → get_or xs u d ≡ get_or xs u e
 any_default [] u d e lt = absurd (omega (arith, lt))
@@ -31,6 +33,11 @@ wake_taken held held' u h resume jobs jobs' j d lt is taken more view =
     let right : map job_facts jobs' ≡ map job_facts jobs ++ job_at u h.number (resume_at h.number resume) h.body ∷ [] =
     ap (map job_facts) more ∙ map-append job_facts jobs (j ∷ []) ∙ ap (λ (v : JobFacts). map job_facts jobs ++ v ∷ []) view in
     ap (λ (hs : List (Option WaitingTaskView)). made_follows hs (map job_facts jobs')) left ∙ ap (made_follows (slice_set (held_views held) u None)) right ∙ sym other
+
+-- a task that is not held does not
+pub wake_none : (held held' : List (Option WaitingTask)) (u : ℕ) (resume : Resume) (jobs : List (JobView BodyView)) → slice_index_or held u None ≡ None → held' ≡ held → follows_of held' jobs ≡ wake u resume (follows_of held jobs)
+wake_none held held' u resume jobs is same =
+    ap (λ (hs : List (Option WaitingTask)). follows_of hs jobs) same ∙ sym (ap (woken u resume (follows_of held jobs)) (view_at held u ∙ ap held_view is))
 
 -- the waiters that are left
 pub wake_next : (us : List TaskId) (k : ℕ) (u : TaskId) (resume : Resume) (f : AfterTurn) → slice_get us k ≡ Some u → wake_each (drop k us) resume f ≡ wake_each (drop (suc k) us) resume (wake u.0 resume f)
@@ -63,8 +70,10 @@ pub held_follows : (held held' : List (Option WaitingTask)) (t : ℕ) (h : Waiti
 held_follows held held' t h jobs is = ap (λ (hs : List (Option WaitingTaskView)). made_follows hs (map job_facts jobs)) (ap held_views is ∙ view_set held t (Some h))
 
 pub all-take : {A : Type 0} (P : A → Type 0) (n : ℕ) (xs : List A) → AllByRecursion P xs → AllByRecursion P (take n xs)
+all-take P zero [] all = tt
+all-take P zero (x ∷ xs) all = tt
+all-take P (suc n) [] all = tt
 all-take P (suc n) (x ∷ xs) all = (all.0, all-take P n xs all.1)
-all-take P _ _ all = tt
 
 pub all-drop : {A : Type 0} (P : A → Type 0) (n : ℕ) (xs : List A) → AllByRecursion P xs → AllByRecursion P (drop n xs)
 all-drop P zero [] all = tt

@@ -3,8 +3,10 @@ use Rattle.swift_tasks.proofs.Prelude.{◌≡◌, ℕ, ◌+◌, ◌≤◌, List,
 use Rattle.std.proofs.lemmas.List.Sums.{sum_by-cons}
 
 one_more : {Y : Type 0} (o : Option Y) (b : Bool) (ys : List Y) (n : ℕ) → (is_some o ≡ true → b ≡ true) → length ys ≤ n → length (cons_option o ys) ≤ cond b 1 0 + n
+one_more None true ys n h le = omega (arith, le)
+one_more None false ys n h le = omega (arith, le)
+one_more (Some y) true ys n h le = omega (arith, le)
 one_more (Some y) false ys n h le = absurd (false≢true (h refl))
-one_more _ _ ys n h le = omega (arith, le)
 
 -- what a list gives, where each that gives something passes
 few_among : {X Y : Type 0} (f : X → Option Y) (p : X → Bool) → ((x : X) → is_some (f x) ≡ true → p x ≡ true) → (xs : List X) → length (filter_map f xs) ≤ count_by p xs
@@ -14,7 +16,18 @@ few_among f p h (x ∷ xs) = let more = one_more (f x) (p x) (filter_map f xs) (
 makes : (t : ℕ) (e : Event) → is_some (own_in t e) ≡ true → is_made e ≡ true
 makes t (Free made by p detached) h = refl
 makes t (Child a o g p) h = refl
-makes t _ h = absurd (false≢true h)
+makes t (Root a p) h = absurd (false≢true h)
+makes t (Begin a n env) h = absurd (false≢true h)
+makes t (Apply a n) h = absurd (false≢true h)
+makes t (Open a g) h = absurd (false≢true h)
+makes t (Skip a g) h = absurd (false≢true h)
+makes t (CancelTask a) h = absurd (false≢true h)
+makes t (CancelGroup a g) h = absurd (false≢true h)
+makes t (Wait a b) h = absurd (false≢true h)
+makes t (Next a g) h = absurd (false≢true h)
+makes t (Close a g) h = absurd (false≢true h)
+makes t (End a ending) h = absurd (false≢true h)
+makes t (Give a n resume) h = absurd (false≢true h)
 
 -- no more than there are
 pub own_tasks_few : (roots t : ℕ) (log : List Event) → length (own_tasks t log) ≤ tasks_of roots log

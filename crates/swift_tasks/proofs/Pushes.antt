@@ -90,3 +90,9 @@ and_left false b h = h
 and_right : (a b : Bool) → (a && b) ≡ true → b ≡ true
 and_right true b h = h
 and_right false b h = absurd (false≢true h)
+
+-- each of some tasks was made
+pub made_at : (log : List Event) (ts : List TaskId) (k : ℕ) (d : TaskId) → list_all (λ t. is_some (life_of t.0 log).origin) ts ≡ true → k < length ts → IsMade log (slice_index_or ts k d)
+made_at log [] k d h lt = absurd (omega (arith, lt))
+made_at log (t ∷ ts) zero d h lt = and_left (is_some (life_of t.0 log).origin) (list_all (λ t. is_some (life_of t.0 log).origin) ts) h
+made_at log (t ∷ ts) (suc k) d h lt = made_at log ts k d (and_right (is_some (life_of t.0 log).origin) (list_all (λ t. is_some (life_of t.0 log).origin) ts) h) (omega (arith, lt))

@@ -21,3 +21,9 @@ pub open_unclosed : (lt closed : Bool) → (lt && not closed) ≡ true → close
 open_unclosed true true h is = false≢true h
 open_unclosed false true h is = false≢true h
 open_unclosed lt false h is = false≢true is
+
+-- past no end, the default does not count
+pub get_or_any : {A : Type 0} (xs : List A) (k : ℕ) (d e : A) → k < length xs → get_or xs k d ≡ get_or xs k e
+get_or_any [] k d e lt = absurd (omega (arith, lt))
+get_or_any (x ∷ xs) zero d e lt = refl
+get_or_any (x ∷ xs) (suc k) d e lt = get_or_any xs k d e (omega (arith, lt))

@@ -135,7 +135,10 @@ pub exit_left : (roots t : ℕ) (log : List Event) (exit : ExitView) (step : Ste
 exit_left roots t log (waiting name) step can fits = subst (λ (s : Step). Left roots t log (log ++ exit_events t log (waiting name) step) (exit_resume t log (waiting name) step) s) (sym fits) (wait_left roots t log (named_task t name log) (life_of (named_task t name log).0 log).ending)
 exit_left roots t log (asking_next g) step can fits = subst (λ (s : Step). Left roots t log (log ++ exit_events t log (asking_next g) step) (exit_resume t log (asking_next g) step) s) (sym fits) (next_left roots t log g (next_of (group_of t g log)))
 exit_left roots t log (closing_group g f) step can fits = subst (λ (s : Step). Left roots t log (log ++ exit_events t log (closing_group g f) step) (exit_resume t log (closing_group g f) step) s) (sym fits) (close_left roots t log g f (close_of (group_of t g log)) can)
-exit_left roots t log _ step can fits = end_left roots t log step fits
+exit_left roots t log (calling i) step can fits = end_left roots t log step fits
+exit_left roots t log yielding step can fits = end_left roots t log step fits
+exit_left roots t log (returning v) step can fits = end_left roots t log step fits
+exit_left roots t log (failing f) step can fits = end_left roots t log step fits
 
 -- before an exit is followed: which tasks are held, and which jobs were made
 record Middle (roots t : ℕ) (log : List Event) (f : AfterTurn) : Type 0 where
@@ -276,9 +279,11 @@ pub leaves_apply : (log : List Event) (t : TaskId) (n : ℕ) → is_waiting (lif
 leaves_apply log t n rest = record { unmade = refl; same = sym rest; alive = λ w. absurd (false≢true w) }
 
 none_more : (held : List (Option WaitingTaskView)) (k u : ℕ) → is_some (get_or (held ++ replicate k None) u None) ≡ is_some (get_or held u None)
+none_more [] zero u = refl
+none_more [] (suc k) zero = refl
 none_more [] (suc k) (suc u) = none_more [] k u
+none_more (h ∷ hs) k zero = refl
 none_more (h ∷ hs) k (suc u) = none_more hs k u
-none_more _ _ _ = refl
 
 none_above : (held : List (Option WaitingTaskView)) (u : ℕ) → length held ≤ u → is_some (get_or held u None) ≡ false
 none_above [] u le = refl

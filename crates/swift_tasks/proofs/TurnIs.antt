@@ -24,14 +24,17 @@ few_since first jobs old made is long =
     omega (arith, a, b, d, long)
 
 take_map : {A B : Type 0} (f : A → B) (n : ℕ) (xs : List A) → map f (take n xs) ≡ take n (map f xs)
+take_map f zero [] = refl
+take_map f zero (x ∷ xs) = refl
+take_map f (suc n) [] = refl
 take_map f (suc n) (x ∷ xs) = ap (λ ys. f x ∷ ys) (take_map f n xs)
-take_map f _ _ = refl
 
 take_front : {A : Type 0} (n : ℕ) (xs ys : List A) → length xs ≡ n → take n (xs ++ ys) ≡ xs
+take_front zero [] [] is = refl
+take_front zero [] (y ∷ ys) is = refl
 take_front zero (x ∷ xs) ys is = absurd (omega (arith, is))
 take_front (suc n) [] ys is = absurd (omega (arith, is))
 take_front (suc n) (x ∷ xs) ys is = ap (λ zs. x ∷ zs) (take_front n xs ys (omega (arith, is)))
-take_front zero [] _ is = refl
 
 pub stood_before : (first : ℕ) (jobs : List (JobView BodyView)) (old made : List JobFacts) → map job_facts jobs ≡ old ++ made → length old ≡ first → map job_facts (take first jobs) ≡ old
 stood_before first jobs old made is long = take_map job_facts first jobs ∙ ap (take first) is ∙ take_front first old made long

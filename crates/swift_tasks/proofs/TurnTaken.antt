@@ -20,8 +20,9 @@ second_true None false h = some_none (refused_unless None false) refl h
 second_true (Some cause) b h = some_none (refused_unless (Some cause) b) refl h
 
 open_by : (o : Option Origin) (e : Option Ending) (f : Option BookFault) → f ≡ (if is_none o then Some Unknown else if is_some e then Some Completed else None) → f ≡ None → (is_some o && is_none e) ≡ true
+open_by None e f is none = some_none f (ap is_some is) none
 open_by (Some o) None f is none = refl
-open_by _ _ f is none = some_none f (ap is_some is) none
+open_by (Some o) (Some e) f is none = some_none f (ap is_some is) none
 
 -- a turn that is not refused is one of a task that has not ended
 pub taken_open : (script : ScriptView) (log : List Event) (job : JobView BodyView) (es : List EffectView) (exit : ExitView) → refusal_of_apply script log job es exit ≡ None → is_open (life_of job.task.0 log) ≡ true
@@ -51,11 +52,13 @@ goes : (step : Step) (after : Advanced) → step ≡ after.step → awaits after
 goes step after is none await = false≢true (sym none ∙ sym (ap awaits is) ∙ ap awaits await)
 
 fits_by : (script : ScriptView) (p : FrameView) (callers : List FrameView) (outer : List (ℕ × ℤ)) (exit : ExitView) (step : Step) → step ≡ (advanced script p callers outer exit).step → StepFits exit step
+fits_by script p callers outer (waiting name) step is = is
+fits_by script p callers outer (asking_next g) step is = is
+fits_by script p callers outer (closing g f) step is = is
 fits_by script p callers outer (calling i) step is = goes step (called script p callers outer i) is (called_goes script p callers outer i (nat_lt (length (p ∷ callers)) FRAMES))
 fits_by script p callers outer yielding step is = goes step (runs script p callers outer Go) is refl
 fits_by script p callers outer (returning v) step is = goes step (resumed script p callers outer (Given v) (Value v)) is (resumed_goes script p callers outer (Given v) (Value v))
 fits_by script p callers outer (failing f) step is = goes step (resumed script p callers outer (Raise f) (Failed f)) is (resumed_goes script p callers outer (Raise f) (Failed f))
-fits_by script p callers outer _ step is = is
 
 -- what comes next is as the exit says
 pub step_fits : (script : ScriptView) (frames : List FrameView) (outer : List (ℕ × ℤ)) (exit : ExitView) (after : Advanced) → HasFrames frames → AdvancesTo script frames outer exit after → StepFits exit after.step

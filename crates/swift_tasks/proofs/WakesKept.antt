@@ -73,7 +73,11 @@ wake_owner_kept : (n : ℕ) (log : List Event) (o g : ℕ) (e : Ending) (s : Opt
 wake_owner_kept n log o g e (Some (stage.Asks asked)) f made kept = if_kept n log (wake o (resume_of e) f) f (asked == g) (wake_kept n log o (resume_of e) f made kept) kept
 wake_owner_kept n log o g e (Some (stage.Closes closed)) f made kept =
     if_kept n log (wake_closing o (close_of (group_of o g log)) f) f (closed == g) (wake_closing_kept n log o (close_of (group_of o g log)) f made kept) kept
-wake_owner_kept n log o g e _ f made kept = kept
+wake_owner_kept n log o g e (Some stage.Given) f made kept = kept
+wake_owner_kept n log o g e (Some (stage.Begun env)) f made kept = kept
+wake_owner_kept n log o g e (Some stage.Applied) f made kept = kept
+wake_owner_kept n log o g e (Some (stage.Waits awaited)) f made kept = kept
+wake_owner_kept n log o g e None f made kept = kept
 
 wake_parent_kept : (n : ℕ) (log : List Event) (x : Option (ℕ × ℕ)) (e : Ending) (f : AfterTurn) → WaitersAreMade log → IsKept n log f → IsKept n log (wake_parent x e log f)
 wake_parent_kept n log None e f made kept = kept
@@ -114,7 +118,11 @@ wake_owner_behind : (before : List JobFacts) (o g : ℕ) (e : Ending) (s : Optio
 wake_owner_behind before o g e (Some (stage.Asks asked)) log f = if_behind before (wake o (resume_of e) f) (wake o (resume_of e) (behind before f)) f (asked == g) (wake_behind before o (resume_of e) f)
 wake_owner_behind before o g e (Some (stage.Closes closed)) log f =
     if_behind before (wake_closing o (close_of (group_of o g log)) f) (wake_closing o (close_of (group_of o g log)) (behind before f)) f (closed == g) (wake_closing_behind before o (close_of (group_of o g log)) f)
-wake_owner_behind before o g e _ log f = refl
+wake_owner_behind before o g e (Some stage.Given) log f = refl
+wake_owner_behind before o g e (Some (stage.Begun env)) log f = refl
+wake_owner_behind before o g e (Some stage.Applied) log f = refl
+wake_owner_behind before o g e (Some (stage.Waits awaited)) log f = refl
+wake_owner_behind before o g e None log f = refl
 
 wake_parent_behind : (before : List JobFacts) (x : Option (ℕ × ℕ)) (e : Ending) (log : List Event) (f : AfterTurn) → wake_parent x e log (behind before f) ≡ behind before (wake_parent x e log f)
 wake_parent_behind before None e log f = refl
@@ -127,4 +135,5 @@ wake_all_behind before t e log f =
 pub followed_behind : (before : List JobFacts) (t n : ℕ) (frames : TaskView) (resume : Option Resume) (step : Step) (log : List Event) (f : AfterTurn) → followed t n frames resume step log (behind before f) ≡ behind before (followed t n frames resume step log f)
 followed_behind before t n frames (Some resume) step log f = ap (follows f.held) (append_assoc before f.jobs (record { task = t; number = n; resume = resume_at n resume; frames = frames } ∷ []))
 followed_behind before t n frames None (Ended e) log f = wake_all_behind before t e log f
-followed_behind before t n frames None _ log f = refl
+followed_behind before t n frames None (Run actor resume) log f = refl
+followed_behind before t n frames None Await log f = refl

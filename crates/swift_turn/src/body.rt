@@ -388,6 +388,23 @@ impl Body {
         }
     }
 
+    /// Follows an exit as `advance` does, and takes it: the arguments of a call become the variables of the frame that it
+    /// begins, with no copy. After an error the exit is gone too.
+    pub fn advance_with(&mut self, exit: Exit) -> Result<Step, AllocError>
+        requires running { IsRunning self.old }
+        requires call { CanAdvance self.old.script (exit_view exit) }
+        ensures ok { IfOk result (λ step. AdvancesTo self.old.script self.old.task.frames self.old.task.outer (exit_view exit) (record { task = self.new.task; step = step })) }
+        ensures rest { self.new ≡ record self.old { task = self.new.task } }
+        ensures running { IfOk result (λ step. GoesOn step → IsRunning self.new) }
+        ensures err { OnErr result (self.new ≡ self.old) }
+        ensures memory { OnErr result (BeginsFrame self.old.task.frames (exit_view exit)) }
+    {
+        match exit {
+            Exit::Call(invocation) => self.call_with(invocation),
+            other => self.advance(&other),
+        }
+    }
+
     /// Whether the task has not ended. What asks for a frame that runs can be called where it has not: all but `poll`
     /// and `leave`.
     pub fn is_running(&self) -> bool
@@ -563,7 +580,7 @@ impl Body {
         self.inside.callers.len() >= FRAMES - 1
     }
 
-    // A call, whose arguments are copied into the variables of the frame that it begins.
+    // A call that is copied.
     fn call(&mut self, invocation: &Invocation) -> Result<Step, AllocError>
         requires running { IsRunning self.old }
         requires call { invocation.now.method.0 < method_count self.old.script }
@@ -578,6 +595,27 @@ impl Body {
         }
         let args = invocation.args.to_vec(self.inside.alloc)?;
         self.begin(invocation.method, args)
+    }
+
+    // A call whose arguments become variables.
+    fn call_with(&mut self, invocation: Invocation) -> Result<Step, AllocError>
+        requires running { IsRunning self.old }
+        requires call { invocation.method.0 < method_count self.old.script }
+        ensures ok { IfOk result (λ step. AdvancesTo self.old.script self.old.task.frames self.old.task.outer (calling (invocation_view invocation)) (record { task = self.new.task; step = step })) }
+        ensures rest { self.new ≡ record self.old { task = self.new.task } }
+        ensures running { OnOk result (IsRunning self.new) }
+        ensures err { OnErr result (self.new ≡ self.old) }
+        ensures memory { OnErr result (length self.old.task.frames < FRAMES) }
+    {
+        if self.is_full() {
+            return Ok(Step::Run(self.actor(), Resume::Fault(Fault::Depth)));
+        }
+        let Invocation {
+            actor: _,
+            method,
+            args,
+        } = invocation;
+        self.begin(method, args)
     }
 
     // A frame for a method begins, for which there is room.

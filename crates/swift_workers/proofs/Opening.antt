@@ -28,3 +28,6 @@ opened_account b s t own n p is script same parted =
 pub root_added : (s t : BookSeatView) (mk : Maker) → s.knows.maker ≡ Some mk → IfSome s.knows.maker (λ m. t ≡ knowing (record s.knows { maker = Some (record m { roots = m.roots + 1 }) }) s)
     → t ≡ knowing (record s.knows { maker = Some (record mk { roots = mk.roots + 1 }) }) s
 root_added s t mk maker is = subst (λ (o : Option Maker). IfSome o (λ m. t ≡ knowing (record s.knows { maker = Some (record m { roots = m.roots + 1 }) }) s)) maker is
+
+pub root_seat : (b : BookLockView) (s t : BookSeatView) (v : Option Maker) → IsSeatOf b s → t ≡ knowing (record s.knows { maker = v }) s → IsSeatOf b t
+root_seat b s t v is same = subst (λ (x : BookSeatView). IsSeatOf b x) (sym same) is

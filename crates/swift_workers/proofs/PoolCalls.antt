@@ -180,6 +180,14 @@ refused_stops script workers worker old mid new tokens (Err halt) ended n is nex
     by_next Stop is' up' = refl
 refused_stops script workers worker old mid new tokens (Ok u) ended n is next bad = let x : false ≡ true = bad in absurd (cc x)
 
+-- a worker that is told to stop has been told so
+pub over_stops : (over : Bool) (n : Option WorkerNext) → stops false n ≡ true → stops over n ≡ true
+over_stops over None e = cc
+over_stops over (Some (Visit on)) e = cc
+over_stops over (Some Pause) e = cc
+over_stops over (Some Rest) e = cc
+over_stops over (Some Stop) e = refl
+
 -- what is known of a pool that was taken
 pub taken_is : (p : SharedPoolView) (s t : SeatView) (shelf : PoolShelf) → IsPoolSeatOf p s → t ≡ held_by s (image_of shelf) → IsInCourse s.known (image_of shelf).view → HasTaken p s t shelf
 taken_is p s t shelf is held course =
@@ -233,6 +241,34 @@ end_called p s t u shelf c old mid tokens done ended taken called is ends put to
 
 -- the seat of a worker, from call to call
 
+pub called_seat : (p : SharedPoolView) (s t : SeatView) (c : PoolCall) → IsPoolSeatOf p s → HasCalled c s t → IsPoolSeatOf p t
+called_seat p s t c is called = (called.0 ∙ is.0, called.1, ap (λ (v : PoolKnown). v.crew) called.2 ∙ is.2)
+
+-- what a worker is told that owes no more than it has ended
+pub told_seat : (p : SharedPoolView) (s t : SeatView) (c : PoolCall) (n : WorkerNext) → IsPoolSeatOf p s → HasCalled c s t → c.next ≡ Some n → s.known.view.owes ≡ c.ends → 0 < s.known.view.parts
+    → IsPoolSeatOf p t × (t.known.view.owes ≡ takes (Some n)) × (0 < t.known.view.parts) × (stops false (Some n) ≡ true → t.known.view.over ≡ true)
+told_seat p s t c n is called next owes parts =
+    let next_takes : takes c.next ≡ takes (Some n) = ap takes next in
+    let t_owes : t.known.view.owes ≡ s.known.view.owes - c.ends + takes c.next = ap (λ (v : PoolKnown). v.owes) called.2 in
+    let t_parts : t.known.view.parts ≡ s.known.view.parts = ap (λ (v : PoolKnown). v.parts) called.2 in (
+      called_seat p s t c is called,
+      omega (arith, next_takes, t_owes, owes),
+      omega (arith, t_parts, parts),
+      (λ stop. ap (λ (v : PoolKnown). v.over) called.2 ∙ ap (stops s.known.view.over) next ∙ over_stops s.known.view.over (Some n) stop),
+    )
+
+-- a worker that has given the run up
+pub up_seat : (p : SharedPoolView) (s t : SeatView) (halt : Halt) → IsPoolSeatOf p s → ((c : PoolCall) × HasCalled c s t × (c.ends ≡ 0) × (c.told ≡ Some halt) × (c.next ≡ None))
+    → IsPoolSeatOf p t × (t.known.view.owes ≡ s.known.view.owes) × (t.known.view.parts ≡ s.known.view.parts) × (t.known.view.told ≡ true)
+up_seat p s t halt is call =
+    let none_taken : takes call.0.next ≡ 0 = ap takes call.4 in
+    let t_owes : t.known.view.owes ≡ s.known.view.owes - call.0.ends + takes call.0.next = ap (λ (v : PoolKnown). v.owes) call.1.2 in (
+      called_seat p s t call.0 is call.1,
+      omega (arith, none_taken, t_owes, call.2),
+      ap (λ (v : PoolKnown). v.parts) call.1.2,
+      ap (λ (v : PoolKnown). v.told) call.1.2 ∙ ap (tells s.known.view.told) call.3,
+    )
+
 -- the seats after a split
 pub own_seat : (p : SharedPoolView) (s own : SeatView) → IsPoolSeatOf p s → (own.lock ≡ p.id) × (own.held ≡ None) × (own.known.view ≡ split_new s.known.view)
     → IsPoolSeatOf p own × (own.known.view.owes ≡ 0) × (0 < own.known.view.parts)
@@ -241,6 +277,15 @@ own_seat p s own is new =
       (new.0, new.1, ap (λ (v : PoolKnown). v.crew) new.2 ∙ is.2),
       ap (λ (v : PoolKnown). v.owes) new.2,
       omega (arith, parts),
+    )
+
+pub left_seat : (p : SharedPoolView) (s t : SeatView) (n : ℕ) → IsPoolSeatOf p s → s.known.view.owes ≡ 0 → n + 1 < s.known.view.parts → (t.lock ≡ s.lock) × (t.held ≡ None) × (t.known.view ≡ split_left s.known.view)
+    → IsPoolSeatOf p t × (t.known.view.owes ≡ 0) × (n < t.known.view.parts)
+left_seat p s t n is owes less left =
+    let parts : t.known.view.parts ≡ s.known.view.parts - 1 = ap (λ (v : PoolKnown). v.parts) left.2 in (
+      (left.0 ∙ is.0, left.1, ap (λ (v : PoolKnown). v.crew) left.2 ∙ is.2),
+      ap (λ (v : PoolKnown). v.owes) left.2 ∙ owes,
+      omega (arith, parts, less),
     )
 
 -- The same of a pool that was taken: what may be given back for it, and how many may be under way.
