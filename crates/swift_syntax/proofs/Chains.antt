@@ -10,8 +10,8 @@ use Rattle.swift_syntax.specs.declared.tree.Stmt.{Stmt}
 use Rattle.swift_syntax.specs.declared.word.Word.TheVariants as word
 use Rattle.swift_syntax.specs.Expressions.{kind_at}
 use Rattle.swift_syntax.specs.ReadersInside.{Adds, AddsStmt, Extends, Grows, IsBegun, IsLinked, lexed_of, source_with, with_next}
-use Rattle.swift_syntax.specs.StatementsInside.{Lexed, Row, Separates, SpellsElse, SpellsRest, SpellsStmt, a_key, a_sign}
-use Rattle.swift_syntax.specs.StatementsInside as swift
+use Rattle.swift_syntax.specs.Statements.{Lexed, Row, Separates, SpellsElse, SpellsRest, SpellsStmt, a_key, a_sign}
+use Rattle.swift_syntax.specs.Statements as swift
 use Rattle.swift_syntax.proofs.Grown.{extends_of, extends_on, get_more, get_put, grows_same}
 use Rattle.swift_syntax.proofs.Statements.{IsMore, stmt_stays}
 use Rattle.swift_syntax.proofs.Steps.{Took, lexed_on, more_read}

@@ -1,5 +1,13 @@
+pub mod Arguments
+pub mod Bodies
 pub mod Chains
+pub mod Declarations
+pub mod DeclaredRows
+pub mod Declaring
+pub mod Giving
 pub mod Grown
+pub mod Members
+pub mod Methods
 pub mod Numbers
 pub mod ReadSoFar
 pub mod Refused

@@ -13,7 +13,7 @@ clash o n s = let x : false ≡ true = sym n ∙ s in absurd (false≢true x)
 grows_of_taken : (r : Reader) → Grows r (taken r)
 grows_of_taken r =
     let g = grows_same r in
-    record { refused = g.refused; text = g.text; tokens = g.tokens; declared = g.declared; stmts = g.stmts; more = g.more; exprs = g.exprs }
+    record { refused = g.refused; text = g.text; tokens = g.tokens; declared = g.declared; stmts = g.stmts; more = g.more; exprs = g.exprs; more_arguments = g.more_arguments; arguments = g.arguments }
 
 pub grows_taken : {r s : Reader} → s ≡ taken r → Grows r s
 grows_taken {r} e = subst (λ s. Grows r s) (sym e) (grows_of_taken r)

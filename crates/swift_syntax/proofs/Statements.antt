@@ -11,16 +11,16 @@ use Rattle.swift_syntax.specs.declared.tree.Stmt.{Stmt}
 use Rattle.swift_syntax.specs.declared.tree.StmtForm.{StmtForm}
 use Rattle.swift_syntax.specs.declared.tree.ValueType.{ValueType}
 use Rattle.swift_syntax.specs.declared.word.Word.TheVariants as word
-use Rattle.swift_syntax.specs.Expressions.{Reads, SpellsExpr, SpellsOperands, SwiftTree, StandsAt, kind_at}
-use Rattle.swift_syntax.specs.StatementsInside.{IsExpr, IsSum, IsTest, Lexed, Row, Separates, Source, SpellsBlock, SpellsCovered, SpellsDeclared, SpellsElse, SpellsFront, SpellsGroup, SpellsHead, SpellsInto, SpellsNext, SpellsPerhaps, SpellsPriority, SpellsRange, SpellsRest, SpellsStmt, SpellsTarget, SpellsTests, Want, a_key, a_name, a_sign, assigning_in, begins_line, ends_return, spells_at, the_word}
-use Rattle.swift_syntax.specs.StatementsInside as swift
-use Rattle.swift_syntax.proofs.Grown.{get_more, stands_more}
+use Rattle.swift_syntax.specs.Expressions.{Reads, ReadsArguments, SpellsArguments, SpellsExpr, SpellsOperands, SwiftTree, Table, kind_at}
+use Rattle.swift_syntax.specs.Statements.{IsExpr, IsSum, IsTest, Lexed, NamesFrom, Row, Separates, Source, SpellsBlock, SpellsCovered, SpellsDeclared, SpellsElse, SpellsFront, SpellsGroup, SpellsHead, SpellsInto, SpellsNames, SpellsNext, SpellsPerhaps, SpellsPriority, SpellsRange, SpellsRest, SpellsStmt, SpellsTarget, SpellsTests, Want, a_key, a_name, a_sign, assigning_in, begins_line, ends_return, spells_at, the_word}
+use Rattle.swift_syntax.specs.Statements as swift
+use Rattle.swift_syntax.specs.ReadersInside.{IsBehind}
+use Rattle.swift_syntax.proofs.Grown.{argument_behind, get_behind, get_more, stand_more, stands_more}
 
 -- More is read behind what was.
 pub record IsMore (s t : Source) : Type 0 where
   pub lexed : t.lexed ≡ s.lexed
-  pub more_exprs : List Expr
-  pub exprs : t.exprs ≡ s.exprs ++ more_exprs
+  pub behind : IsBehind s.table t.table
   pub more_stmts : List Stmt
   pub stmts : t.stmts ≡ s.stmts ++ more_stmts
 
@@ -35,13 +35,30 @@ lexed_stays P s t m d = subst P (sym m.lexed) d
 pub row_stays : (ws : List Want) (i j : ℕ) → (s t : Source) → IsMore s t → Row s.lexed ws i j → Row t.lexed ws i j
 row_stays ws i j s t m d = lexed_stays (λ l. Row l ws i j) s t m d
 
-pub reads_stay : (F : List Token → ℕ → ℕ → SwiftTree → Type 0) (i j p : ℕ) → (s t : Source) → IsMore s t → Reads (F s.lexed.tokens) s.exprs i j p → Reads (F t.lexed.tokens) t.exprs i j p
+pub reads_stay : (F : List Token → ℕ → ℕ → SwiftTree → Type 0) (i j p : ℕ) → (s t : Source) → IsMore s t → Reads (F s.lexed.tokens) s.table i j p → Reads (F t.lexed.tokens) t.table i j p
 reads_stay F i j p s t m d =
     record {
       tree = d.tree;
       spelled = subst (λ l. F l.tokens i j d.tree) (sym m.lexed) d.spelled;
-      stands = subst (λ xs. StandsAt xs p d.tree) (sym m.exprs) (stands_more s.exprs m.more_exprs d.stands);
+      stands = stands_more m.behind d.stands;
     }
+
+pub arguments_stay : (i j p : ℕ) → Stays (λ a. ReadsArguments a.lexed.tokens a.table i j p)
+arguments_stay i j p s t m d =
+    record {
+      arguments = d.arguments;
+      spelled = subst (λ l. SpellsArguments l.tokens i j d.arguments) (sym m.lexed) d.spelled;
+      stand = stand_more m.behind d.stand;
+    }
+
+names_more : {x y : Table} {p : ℕ} {names : List ℕ} → IsBehind x y → NamesFrom x p names → NamesFrom y p names
+names_more b swift.no_name = swift.no_name
+names_more b (swift.name_from {p = p} n e rest) = swift.name_from n (argument_behind p b e) (names_more b rest)
+
+pub front_stays : (i j captures parameter : ℕ) → Stays (λ a. SpellsFront a i j captures parameter)
+front_stays i j captures parameter s t m (swift.listed {j = k} {names = names} l r d e) = swift.listed (lexed_stays (λ z. begins_line z i ≡ false) s t m l) (row_stays _ _ _ s t m r) (lexed_stays (λ z. SpellsNames z k j names) s t m d) (names_more m.behind e)
+front_stays i j captures parameter s t m (swift.with_parameter l r d) = swift.with_parameter (lexed_stays (λ z. begins_line z i ≡ false) s t m l) (row_stays _ _ _ s t m r) (row_stays _ _ _ s t m d)
+front_stays i j captures parameter s t m (swift.without l r) = swift.without (lexed_stays (λ z. begins_line z i ≡ false) s t m l) (row_stays _ _ _ s t m r)
 
 pub expr_stays : (i j p : ℕ) → (s t : Source) → IsMore s t → IsExpr s i j p → IsExpr t i j p
 expr_stays = reads_stay SpellsExpr
@@ -49,8 +66,8 @@ expr_stays = reads_stay SpellsExpr
 pub sum_stays : (i j p : ℕ) → (s t : Source) → IsMore s t → IsSum s i j p → IsSum t i j p
 sum_stays = reads_stay (λ ts. SpellsOperands ts 4)
 
-expr_there : (s t : Source) → IsMore s t → (p : ℕ) (e : Expr) → slice_get s.exprs p ≡ Some e → slice_get t.exprs p ≡ Some e
-expr_there s t m p e g = subst (λ xs. slice_get xs p ≡ Some e) (sym m.exprs) (get_more s.exprs m.more_exprs p e g)
+expr_there : (s t : Source) → IsMore s t → (p : ℕ) (e : Expr) → slice_get s.table.exprs p ≡ Some e → slice_get t.table.exprs p ≡ Some e
+expr_there s t m p e g = get_behind p m.behind g
 
 stmt_there : (s t : Source) → IsMore s t → (p : ℕ) (x : Stmt) → slice_get s.stmts p ≡ Some x → slice_get t.stmts p ≡ Some x
 stmt_there s t m p x g = subst (λ xs. slice_get xs p ≡ Some x) (sym m.stmts) (get_more s.stmts m.more_stmts p x g)
@@ -83,7 +100,7 @@ covered_stays s t m (swift.covered {i = i} {j = j} {k = k} {tried = x} {awaited 
 mutual
   pub stmt_stays : (s t : Source) {i j token : ℕ} {f : StmtForm} {a b : Bool} → IsMore s t → SpellsStmt s i j f token a b → SpellsStmt t i j f token a b
   stmt_stays s t m (swift.valued {i = i} {j = j} {x = x} k e) = swift.valued (lexed_stays (λ l. SpellsInto l i j x) s t m k) (expr_stays _ _ _ s t m e)
-  stmt_stays s t m (swift.enclosed q {i = i} {j = j} {k = k} {m = n} {parameter = p} {x = x} a b c d) = swift.enclosed q (lexed_stays (λ l. SpellsInto l i j x) s t m a) (covered_stays s t m b) (lexed_stays (λ l. SpellsFront l k n p) s t m c) (rest_stays s t m d)
+  stmt_stays s t m (swift.enclosed {i = i} {j = j} {x = x} a b c d) = swift.enclosed (lexed_stays (λ l. SpellsInto l i j x) s t m a) (covered_stays s t m b) (front_stays _ _ _ _ s t m c) (rest_stays s t m d)
   stmt_stays s t m (swift.assigned {i = i} {j = j} {k = k} {own = own} {how = how} a b c d e) = swift.assigned (lexed_stays (λ l. SpellsTarget l i j own) s t m a) (lexed_stays (λ l. Row l (a_name ∷ []) j k) s t m b) (lexed_stays (λ l. assigning_in (kind_at l.tokens k) ≡ Some how) s t m c) d (expr_stays _ _ _ s t m e)
   stmt_stays s t m (swift.toggled {i = i} {j = j} {k = k} {own = own} a b) = swift.toggled (lexed_stays (λ l. SpellsTarget l i j own) s t m a) (row_stays _ _ _ s t m b)
   stmt_stays s t m (swift.returned {j = j} a b) = swift.returned (row_stays _ _ _ s t m a) (lexed_stays (λ l. ends_return (kind_at l.tokens j) ≡ true) s t m b)

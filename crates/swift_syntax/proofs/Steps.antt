@@ -14,11 +14,11 @@ use Rattle.swift_syntax.specs.declared.tree.ExprForm.TheVariants as form
 use Rattle.swift_syntax.specs.declared.tree.Stmt.{Stmt}
 use Rattle.swift_syntax.specs.declared.tree.StmtForm.{StmtForm}
 use Rattle.swift_syntax.specs.declared.word.Word.{Word}
-use Rattle.swift_syntax.specs.Expressions.{SpellsExpr, SpellsOperands, Reads, after, kind_at}
+use Rattle.swift_syntax.specs.Expressions.{SpellsExpr, SpellsOperands, Reads, ReadsArguments, after, kind_at, table_of}
 use Rattle.swift_syntax.specs.ReadersInside.{Adds, AddsStmt, Extends, Grows, IsBegun, IsPut, IsStmtPut, lexed_of, source_with, taken, takes_if}
-use Rattle.swift_syntax.specs.StatementsInside.{Is, IsExpr, IsSum, IsTest, Lexed, Row, Source, SpellsPerhaps, SpellsStmt, SpellsTests, Want, a_key, a_name, a_sign, assigning_in, spells_at, the_word}
-use Rattle.swift_syntax.specs.StatementsInside as swift
-use Rattle.swift_syntax.proofs.Grown.{extends_of, extends_on, grows_on, grows_same, put_there}
+use Rattle.swift_syntax.specs.Statements.{Is, IsExpr, IsSum, IsTest, Lexed, Row, Source, SpellsPerhaps, SpellsStmt, SpellsTests, Want, a_key, a_name, a_sign, assigning_in, spells_at, the_word}
+use Rattle.swift_syntax.specs.Statements as swift
+use Rattle.swift_syntax.proofs.Grown.{extended, extends_of, extends_on, grows_on, grows_same, put_there}
 use Rattle.swift_syntax.proofs.Refused.{grows_taken}
 use Rattle.swift_syntax.proofs.Statements.{IsMore, lexed_stays, row_stays, stmt_stays}
 
@@ -39,10 +39,10 @@ lexed_on r s e =
 
 -- what a later reader reads, with more statements
 pub more_read : (r s : Reader) (xs ys : List Stmt) → Extends r s → IsMore (source_with r xs) (source_with s (xs ++ ys))
-more_read r s xs ys e = record { lexed = lexed_on r s e; more_exprs = e.more; exprs = e.exprs; more_stmts = ys; stmts = refl }
+more_read r s xs ys e = record { lexed = lexed_on r s e; behind = extended e; more_stmts = ys; stmts = refl }
 
 same_read : (r s : Reader) (xs : List Stmt) → Extends r s → IsMore (source_with r xs) (source_with s xs)
-same_read r s xs e = record { lexed = lexed_on r s e; more_exprs = e.more; exprs = e.exprs; more_stmts = []; stmts = sym (append-nil xs) }
+same_read r s xs e = record { lexed = lexed_on r s e; behind = extended e; more_stmts = []; stmts = sym (append-nil xs) }
 
 -- one piece after another one
 pub then : (r s t : Reader) {P Q : Source → Type 0} → ((a b : Source) → IsMore a b → P a → P b) → Took r s P → Took s t Q → Took r t (λ a. P a × Q a)
@@ -139,8 +139,11 @@ row_then r s t {ws} d e = then r s t (row_stays ws r.at s.at) d e
 pub took_lexed : (r s : Reader) (P : Lexed → Type 0) → (IsNone s.refused → P (lexed_of s)) → Grows r s → Took r s (λ a. P a.lexed)
 took_lexed r s P d g = record { grows = g; holds = λ n xs. d n }
 
-pub took_expr : (r s : Reader) (p : ℕ) → (IsNone s.refused → Reads (SpellsExpr s.tokens.now) s.tree.value.exprs.items r.at s.at p) → Grows r s → Took r s (λ a. IsExpr a r.at s.at p)
+pub took_expr : (r s : Reader) (p : ℕ) → (IsNone s.refused → Reads (SpellsExpr s.tokens.now) (table_of s.tree.value) r.at s.at p) → Grows r s → Took r s (λ a. IsExpr a r.at s.at p)
 took_expr r s p d g = record { grows = g; holds = λ n xs. d n }
+
+pub took_arguments : (r s : Reader) (p : ℕ) → (IsNone s.refused → ReadsArguments s.tokens.now (table_of s.tree.value) r.at s.at p) → Grows r s → Took r s (λ a. ReadsArguments a.lexed.tokens a.table r.at s.at p)
+took_arguments r s p d g = record { grows = g; holds = λ n xs. d n }
 
 -- a statement that is put behind what was read of it
 pub stmt_read : (r s t : Reader) {f : StmtForm} {i own p : ℕ} {a b : Bool} → Step r s (λ x. SpellsStmt x i s.at f own a b) → (IsNone t.refused → IsStmtPut s t (record { form = f; token = own; end = s.at; next = 0; is_awaited = a; is_tried = b }) p) → Extends s t → IsNone t.refused → IsBegun r → AddsStmt r t i p
@@ -205,17 +208,17 @@ line_first l {i} {j} d e = subst (λ k. swift.begins_line l k ≡ false) (sym (n
 
 -- an expression that is put
 abbrev pub IsPutAt : ℕ → ℕ → ℕ → ExprForm → ℕ → Source → Type 0
-IsPutAt i j p f t a = Row a.lexed [] i j × (slice_get a.exprs p ≡ Some (record { form = f; token = t }))
+IsPutAt i j p f t a = Row a.lexed [] i j × (slice_get a.table.exprs p ≡ Some (record { form = f; token = t }))
 
 pub took_put : (r s : Reader) {f : ExprForm} {t p : ℕ} → (IsNone s.refused → IsPut r s f t p) → Grows r s → Took r s (IsPutAt r.at s.at p f t)
 took_put r s put g = record { grows = g; holds = λ n xs. (swift.no_token (sym (put n).at), put_there (put n)) }
 
 pub tests_on : (a : Source) {i j k m n p q r t : ℕ} → SpellsTests a i j p → Row a.lexed (a_sign sign.Comma ∷ []) j k → IsExpr a k m q → IsPutAt m n r (form.Both p q) t a → t ≡ j → SpellsTests a i n r
 tests_on a {i = i} {j = j} {p = p} {q = q} {r = r} tests comma value put e =
-    let there : slice_get a.exprs r ≡ Some (record { form = form.Both p q; token = j }) = subst (λ x. slice_get a.exprs r ≡ Some (record { form = form.Both p q; token = x })) e put.1 in
+    let there : slice_get a.table.exprs r ≡ Some (record { form = form.Both p q; token = j }) = subst (λ x. slice_get a.table.exprs r ≡ Some (record { form = form.Both p q; token = x })) e put.1 in
     subst (λ x. SpellsTests a i x r) (no_row a.lexed put.0) (swift.next_test tests comma value there)
 
-pub took_sum : (r s : Reader) (p : ℕ) → (IsNone s.refused → Reads (SpellsOperands s.tokens.now 4) s.tree.value.exprs.items r.at s.at p) → Grows r s → Took r s (λ a. IsSum a r.at s.at p)
+pub took_sum : (r s : Reader) (p : ℕ) → (IsNone s.refused → Reads (SpellsOperands s.tokens.now 4) (table_of s.tree.value) r.at s.at p) → Grows r s → Took r s (λ a. IsSum a r.at s.at p)
 took_sum r s p d g = record { grows = g; holds = λ n xs. d n }
 
 -- what is read of a statement by a call that puts statements

@@ -1,4 +1,4 @@
--- Which tokens spell which expression. How tightly operators bind is Swift's. Of a call, its arguments are left aside. (Own.)
+-- Which tokens spell which expression. How tightly operators bind is Swift's. (Own.)
 use Rattle.std.specs.Prelude.{ℕ, suc, ◌≡◌, ◌≢◌, ◌+◌, ◌-◌, ◌^◌, Bool, true, false, not, ◌&&◌, nat_lt, if◌then◌else◌, List, length, Option, Some, None}
 use Rattle.std.specs.List.{slice_get}
 use Rattle.swift_types.specs.declared.operator.Operator.{Operator}
@@ -9,11 +9,13 @@ use Rattle.swift_syntax.specs.declared.sign.Sign.TheVariants as sign
 use Rattle.swift_syntax.specs.declared.token.Token.{Token}
 use Rattle.swift_syntax.specs.declared.token.TokenKind.{TokenKind}
 use Rattle.swift_syntax.specs.declared.token.TokenKind.TheVariants as kind
+use Rattle.swift_syntax.specs.declared.tree.Argument.{Argument}
 use Rattle.swift_syntax.specs.declared.tree.Expr.{Expr}
 use Rattle.swift_syntax.specs.declared.tree.ExprForm.{ExprForm}
 use Rattle.swift_syntax.specs.declared.tree.ExprForm.TheVariants as form
 use Rattle.swift_syntax.specs.declared.tree.Receiver.{Receiver}
 use Rattle.swift_syntax.specs.declared.tree.Receiver.TheVariants as receiver
+use Rattle.swift_syntax.specs.declared.tree.Tree.{Tree}
 use Rattle.swift_syntax.specs.declared.word.Word.TheVariants as word
 
 -- a token that was looked for; the end of the text where there is none
@@ -87,27 +89,56 @@ opens_in (Some t) = is_open t.kind && not t.begins_line
 abbrev pub opens_at : List Token → ℕ → Bool
 opens_at tokens place = opens_in (slice_get tokens place)
 
--- An expression. `Leaf` is one without parts, or a call, with the token that it is told by; the others have the token of their sign or word.
-pub data SwiftTree : Type 0 where
-  Leaf : ExprForm → ℕ → SwiftTree
-  Negated : ℕ → SwiftTree → SwiftTree
-  Inverted : ℕ → SwiftTree → SwiftTree
-  Joined : Option Operator → ℕ → SwiftTree → SwiftTree → SwiftTree
-  Chosen : ℕ → SwiftTree → SwiftTree → SwiftTree → SwiftTree
-  Awaited : ℕ → SwiftTree → SwiftTree
-  Tried : ℕ → SwiftTree → SwiftTree
-  TriedOptional : ℕ → SwiftTree → SwiftTree
+mutual
+  -- An expression. `Leaf` is one without parts, with the token that it is told by; a call has the token of its name, and the others have that
+  -- of their sign or word.
+  pub data SwiftTree : Type 0 where
+    Leaf : ExprForm → ℕ → SwiftTree
+    Called : Receiver → ℕ → SwiftArguments → SwiftTree
+    Negated : ℕ → SwiftTree → SwiftTree
+    Inverted : ℕ → SwiftTree → SwiftTree
+    Joined : Option Operator → ℕ → SwiftTree → SwiftTree → SwiftTree
+    Chosen : ℕ → SwiftTree → SwiftTree → SwiftTree → SwiftTree
+    Awaited : ℕ → SwiftTree → SwiftTree
+    Tried : ℕ → SwiftTree → SwiftTree
+    TriedOptional : ℕ → SwiftTree → SwiftTree
 
--- An expression stands at a place of the table, and its parts at the places that it names.
-pub data StandsAt (exprs : List Expr) : ℕ → SwiftTree → Type 0 where
-  leaf : {p t : ℕ} {f : ExprForm} → slice_get exprs p ≡ Some (record { form = f; token = t }) → StandsAt exprs p (Leaf f t)
-  negated : {p t q : ℕ} {a : SwiftTree} → slice_get exprs p ≡ Some (record { form = form.Negate q; token = t }) → StandsAt exprs q a → StandsAt exprs p (Negated t a)
-  inverted : {p t q : ℕ} {a : SwiftTree} → slice_get exprs p ≡ Some (record { form = form.Not q; token = t }) → StandsAt exprs q a → StandsAt exprs p (Inverted t a)
-  joined : {p t q r : ℕ} {o : Option Operator} {a b : SwiftTree} → slice_get exprs p ≡ Some (record { form = both_form o q r; token = t }) → StandsAt exprs q a → StandsAt exprs r b → StandsAt exprs p (Joined o t a b)
-  chosen : {p t q r s : ℕ} {a b c : SwiftTree} → slice_get exprs p ≡ Some (record { form = form.Choice q r s; token = t }) → StandsAt exprs q a → StandsAt exprs r b → StandsAt exprs s c → StandsAt exprs p (Chosen t a b c)
-  awaited : {p t q : ℕ} {a : SwiftTree} → slice_get exprs p ≡ Some (record { form = form.Await q; token = t }) → StandsAt exprs q a → StandsAt exprs p (Awaited t a)
-  tried : {p t q : ℕ} {a : SwiftTree} → slice_get exprs p ≡ Some (record { form = form.Try q; token = t }) → StandsAt exprs q a → StandsAt exprs p (Tried t a)
-  tried_optional : {p t q : ℕ} {a : SwiftTree} → slice_get exprs p ≡ Some (record { form = form.TryOptional q; token = t }) → StandsAt exprs q a → StandsAt exprs p (TriedOptional t a)
+  -- Arguments: the token of each label, 0 where there is none, and the value.
+  pub data SwiftArguments : Type 0 where
+    NoArgument : SwiftArguments
+    OneArgument : ℕ → SwiftTree → SwiftArguments → SwiftArguments
+
+-- arguments, and one more
+unfoldable pub with_argument : SwiftArguments → ℕ → SwiftTree → SwiftArguments
+with_argument NoArgument label value = OneArgument label value NoArgument
+with_argument (OneArgument l v more) label value = OneArgument l v (with_argument more label value)
+
+-- The tables of a tree in which expressions stand.
+pub record Table : Type 0 where
+  pub exprs : List Expr
+  pub arguments : List Argument
+
+-- those of a tree
+abbrev pub table_of : Tree → Table
+table_of t = record { exprs = t.exprs.items; arguments = t.arguments.items }
+
+mutual
+  -- An expression stands at a place of the table, and its parts at the places that it names.
+  pub data StandsAt (x : Table) : ℕ → SwiftTree → Type 0 where
+    leaf : {p t : ℕ} {f : ExprForm} → slice_get x.exprs p ≡ Some (record { form = f; token = t }) → StandsAt x p (Leaf f t)
+    called : {p t first : ℕ} {r : Receiver} {gs : SwiftArguments} → slice_get x.exprs p ≡ Some (record { form = form.Call r first; token = t }) → StandFrom x first gs → StandsAt x p (Called r t gs)
+    negated : {p t q : ℕ} {a : SwiftTree} → slice_get x.exprs p ≡ Some (record { form = form.Negate q; token = t }) → StandsAt x q a → StandsAt x p (Negated t a)
+    inverted : {p t q : ℕ} {a : SwiftTree} → slice_get x.exprs p ≡ Some (record { form = form.Not q; token = t }) → StandsAt x q a → StandsAt x p (Inverted t a)
+    joined : {p t q r : ℕ} {o : Option Operator} {a b : SwiftTree} → slice_get x.exprs p ≡ Some (record { form = both_form o q r; token = t }) → StandsAt x q a → StandsAt x r b → StandsAt x p (Joined o t a b)
+    chosen : {p t q r s : ℕ} {a b c : SwiftTree} → slice_get x.exprs p ≡ Some (record { form = form.Choice q r s; token = t }) → StandsAt x q a → StandsAt x r b → StandsAt x s c → StandsAt x p (Chosen t a b c)
+    awaited : {p t q : ℕ} {a : SwiftTree} → slice_get x.exprs p ≡ Some (record { form = form.Await q; token = t }) → StandsAt x q a → StandsAt x p (Awaited t a)
+    tried : {p t q : ℕ} {a : SwiftTree} → slice_get x.exprs p ≡ Some (record { form = form.Try q; token = t }) → StandsAt x q a → StandsAt x p (Tried t a)
+    tried_optional : {p t q : ℕ} {a : SwiftTree} → slice_get x.exprs p ≡ Some (record { form = form.TryOptional q; token = t }) → StandsAt x q a → StandsAt x p (TriedOptional t a)
+
+  -- Arguments stand in their table from a place on, each with the place of the next one; the place 0 stands for none.
+  pub data StandFrom (x : Table) : ℕ → SwiftArguments → Type 0 where
+    no_argument : StandFrom x 0 NoArgument
+    one_argument : {p label value next : ℕ} {a : SwiftTree} {gs : SwiftArguments} → p ≢ 0 → slice_get x.arguments p ≡ Some (record { label = label; value = value; next = next }) → StandsAt x value a → StandFrom x next gs → StandFrom x p (OneArgument label a gs)
 
 -- the form of a literal
 abbrev pub literal_of : TokenKind → Option ExprForm
@@ -117,18 +148,48 @@ literal_of (kind.Key word.True) = Some (form.Truth true)
 literal_of (kind.Key word.False) = Some (form.Truth false)
 literal_of _ = None
 
+-- whether a token may be a label
+abbrev pub may_label : TokenKind → Bool
+may_label kind.Name = true
+may_label (kind.Key w) = true
+may_label _ = false
+
+-- whether a token is a colon
+abbrev pub is_colon : TokenKind → Bool
+is_colon (kind.Sign sign.Colon) = true
+is_colon _ = false
+
+-- whether an argument has a label: a name or a keyword with a colon behind it
+abbrev pub has_label : List Token → ℕ → Bool
+has_label tokens i = may_label (kind_at tokens i) && is_colon (kind_at tokens (after i))
+
 -- Spells .. from to tree: the tokens from a place up to another one spell the tree.
--- What stands behind a name: nothing that belongs to it, or the arguments of a call of it.
-pub data SpellsCalled (tokens : List Token) (receiver : Receiver) (alone : ExprForm) (name : ℕ) : ℕ → ℕ → SwiftTree → Type 0 where
-  no_arguments : {i : ℕ} → opens_at tokens i ≡ false → SpellsCalled tokens receiver alone name i i (Leaf alone name)
-  arguments : {i j first : ℕ} → opens_at tokens i ≡ true → SpellsCalled tokens receiver alone name i j (Leaf (form.Call receiver first) name)
-
--- A name with what belongs to it.
-pub data SpellsNamed (tokens : List Token) : ℕ → ℕ → SwiftTree → Type 0 where
-  alone : {i j : ℕ} {t : SwiftTree} → kind_at tokens (after i) ≢ kind.Sign sign.Dot → SpellsCalled tokens receiver.Nobody form.Name i (after i) j t → SpellsNamed tokens i j t
-  member : {i j : ℕ} {t : SwiftTree} → kind_at tokens (after i) ≡ kind.Sign sign.Dot → kind_at tokens (after (after i)) ≡ kind.Name → SpellsCalled tokens (receiver.Named i) (form.Member i) (after (after i)) (after (after (after i))) j t → SpellsNamed tokens i j t
-
 mutual
+  -- An argument, with its label.
+  pub data SpellsArgument (tokens : List Token) : ℕ → ℕ → ℕ → SwiftTree → Type 0 where
+    labelled : {i j : ℕ} {t : SwiftTree} → has_label tokens i ≡ true → SpellsExpr tokens (after (after i)) j t → SpellsArgument tokens i j i t
+    unlabelled : {i j : ℕ} {t : SwiftTree} → has_label tokens i ≡ false → SpellsExpr tokens i j t → SpellsArgument tokens i j 0 t
+
+  -- Arguments with commas between them.
+  pub data SpellsSomeArguments (tokens : List Token) : ℕ → ℕ → SwiftArguments → Type 0 where
+    first_argument : {i j label : ℕ} {t : SwiftTree} → SpellsArgument tokens i j label t → SpellsSomeArguments tokens i j (OneArgument label t NoArgument)
+    next_argument : {i j k label : ℕ} {gs : SwiftArguments} {t : SwiftTree} → SpellsSomeArguments tokens i j gs → kind_at tokens j ≡ kind.Sign sign.Comma → SpellsArgument tokens (after j) k label t → SpellsSomeArguments tokens i k (with_argument gs label t)
+
+  -- Arguments behind their parenthesis, with the one that closes them.
+  pub data SpellsArguments (tokens : List Token) : ℕ → ℕ → SwiftArguments → Type 0 where
+    no_arguments : {i : ℕ} → kind_at tokens i ≡ kind.Sign sign.Close → SpellsArguments tokens i (after i) NoArgument
+    some_arguments : {i j : ℕ} {gs : SwiftArguments} → SpellsSomeArguments tokens i j gs → kind_at tokens j ≡ kind.Sign sign.Close → SpellsArguments tokens i (after j) gs
+
+  -- What stands behind a name, of a receiver: nothing that belongs to it, or the arguments of a call of it.
+  pub data SpellsCalled (tokens : List Token) : Receiver → ExprForm → ℕ → ℕ → ℕ → SwiftTree → Type 0 where
+    uncalled : {receiver : Receiver} {alone : ExprForm} {name i : ℕ} → opens_at tokens i ≡ false → SpellsCalled tokens receiver alone name i i (Leaf alone name)
+    call : {receiver : Receiver} {alone : ExprForm} {name i j : ℕ} {gs : SwiftArguments} → opens_at tokens i ≡ true → SpellsArguments tokens (after i) j gs → SpellsCalled tokens receiver alone name i j (Called receiver name gs)
+
+  -- A name with what belongs to it.
+  pub data SpellsNamed (tokens : List Token) : ℕ → ℕ → SwiftTree → Type 0 where
+    alone : {i j : ℕ} {t : SwiftTree} → kind_at tokens (after i) ≢ kind.Sign sign.Dot → SpellsCalled tokens receiver.Nobody form.Name i (after i) j t → SpellsNamed tokens i j t
+    member : {i j : ℕ} {t : SwiftTree} → kind_at tokens (after i) ≡ kind.Sign sign.Dot → kind_at tokens (after (after i)) ≡ kind.Name → SpellsCalled tokens (receiver.Named i) (form.Member i) (after (after i)) (after (after (after i))) j t → SpellsNamed tokens i j t
+
   -- An operand without a prefix.
   pub data SpellsAtom (tokens : List Token) : ℕ → ℕ → SwiftTree → Type 0 where
     literal : {i : ℕ} {f : ExprForm} → literal_of (kind_at tokens i) ≡ Some f → SpellsAtom tokens i (after i) (Leaf f i)
@@ -166,7 +227,13 @@ mutual
     uncovered : {i j : ℕ} {t : SwiftTree} → SpellsChoice tokens i j t → SpellsExpr tokens i j t
 
 -- The tokens from a place up to another one spell, by one of these relations, the expression at a place of the table.
-pub record Reads (Spells : ℕ → ℕ → SwiftTree → Type 0) (exprs : List Expr) (from to place : ℕ) : Type 0 where
+pub record Reads (Spells : ℕ → ℕ → SwiftTree → Type 0) (x : Table) (from to place : ℕ) : Type 0 where
   pub tree : SwiftTree
   pub spelled : Spells from to tree
-  pub stands : StandsAt exprs place tree
+  pub stands : StandsAt x place tree
+
+-- The tokens from a place up to another one spell the arguments that stand from a place of their table on.
+pub record ReadsArguments (tokens : List Token) (x : Table) (from to first : ℕ) : Type 0 where
+  pub arguments : SwiftArguments
+  pub spelled : SpellsArguments tokens from to arguments
+  pub stand : StandFrom x first arguments

@@ -1,16 +1,18 @@
 //! Tasks, groups and bindings: what has a closure.
+#![tactic(auto, using(crate::proofs::Grown::grows_same, crate::proofs::Grown::grows_on, crate::proofs::Refused::grows_taken))]
 
-ghost use Rattle.std.specs.Prelude.{◌≡◌, ◌↔◌, IfNone, IfSome, IsNone, IsTrue};
-ghost use Rattle.swift_syntax.specs.Expressions.{kind_at};
-ghost use Rattle.swift_syntax.specs.ReadersInside.{Adds, Grows, lexed_of};
-ghost use Rattle.swift_syntax.specs.StatementsInside.{SpellsCovered, SpellsFront, SpellsGroup, SpellsHead, SpellsNames, SpellsPerhaps, SpellsPriority, closed_form, closed_token};
+ghost use Rattle.std.specs.Prelude.{◌≡◌, ◌↔◌, IfNone, IfSome, IsNone, IsTrue, List};
+ghost use Rattle.swift_syntax.specs.Expressions.{kind_at, table_of};
+ghost use Rattle.swift_syntax.specs.ReadersInside.{Adds, Grows, ListsNames, lexed_of, source_with};
+ghost use Rattle.swift_syntax.specs.declared.tree.Stmt.{Stmt};
+ghost use Rattle.swift_syntax.specs.Statements.{SpellsCovered, SpellsFront, SpellsGroup, SpellsHead, SpellsPerhaps, SpellsPriority, closed_form, closed_token};
 
-use crate::expression::expression;
+use crate::expression::{expression, keep, put_arguments};
 use crate::reader::Reader;
 use crate::rule::Rule;
 use crate::sign::Sign;
 use crate::token::TokenKind;
-use crate::tree::{Into, StmtForm, TaskForm, ValueType};
+use crate::tree::{Argument, Into, StmtForm, TaskForm, ValueType};
 use crate::word::Word;
 
 /// What stands before a closure.
@@ -243,31 +245,31 @@ pub(crate) fn head(reader: &mut Reader<'_>) -> Option<ClosureHead>
 
 // The names in a closure's list, behind its bracket. The first one's place, or 0.
 fn captured(reader: &mut Reader<'_>) -> usize
-    ensures spelled { IsNone reader.new.refused → SpellsNames (lexed_of reader.new) reader.old.at reader.new.at }
+    ensures spelled { IsNone reader.new.refused → ListsNames (lexed_of reader.new) (table_of reader.new.tree.value) reader.old.at reader.new.at result }
     ensures grows { Grows reader.old reader.new }
 {
-    let mut first = 0;
-    let mut last = 0;
+    let mut names = Vec::new(reader.alloc);
     for _ in 0..reader.tokens.len() {
-        let name = reader.name();
-        last = reader.argument(name, 0, last);
-        if first == 0 {
-            first = last;
-        }
+        let name = Argument {
+            label: reader.name(),
+            value: 0,
+            next: 0,
+        };
+        keep(reader, &mut names, name);
         if !reader.takes(Sign::Comma) {
             reader.sign(Sign::CloseBracket);
             reader.key(Word::In);
-            return first;
+            return put_arguments(reader, &names);
         }
     }
     // Each turn takes a name, so the tokens end before the turns do.
     reader.refuse(Rule::TooLarge, reader.at);
-    first
+    0
 }
 
 /// What stands before the statements of a closure, with its brace. Its body is 0.
 pub(crate) fn closure_front(reader: &mut Reader<'_>) -> Closure
-    ensures spelled { IsNone reader.new.refused → SpellsFront (lexed_of reader.new) reader.old.at reader.new.at result.parameter }
+    ensures spelled { IsNone reader.new.refused → (xs : List Stmt) → SpellsFront (source_with reader.new xs) reader.old.at reader.new.at result.captures result.parameter }
     ensures grows { Grows reader.old reader.new }
 {
     reader.on_line(Rule::NewStatement);

@@ -1,16 +1,17 @@
 //! Expressions.
+#![tactic(auto, using(crate::proofs::Grown::grows_same, crate::proofs::Grown::grows_on, crate::proofs::Refused::grows_taken))]
 
-ghost use Rattle.std.specs.Prelude.{◌≡◌, ◌↔◌, ◌+◌, IsNone, IsSome, IsTrue, Some};
-ghost use Rattle.swift_syntax.specs.Expressions.{Reads, SpellsAtom, SpellsCalled, SpellsChoice, SpellsExpr, SpellsNamed, SpellsOperands, SpellsPrefixed, binary_of, both_form, kind_at, literal_of, opens_at, operator_in};
-ghost use Rattle.swift_syntax.specs.StatementsInside.{IsTest};
-ghost use Rattle.swift_syntax.specs.ReadersInside.{Adds, Grows, IsPut, taken, takes_if, tried_form};
+ghost use Rattle.std.specs.Prelude.{[], ◌∷◌, ◌++◌, ◌≡◌, ◌↔◌, ◌+◌, IsNone, IsSome, IsTrue, Some, false, true};
+ghost use Rattle.swift_syntax.specs.Expressions.{Reads, ReadsArguments, SpellsAtom, SpellsCalled, SpellsChoice, SpellsExpr, SpellsNamed, SpellsOperands, SpellsPrefixed, binary_of, both_form, has_label, kind_at, literal_of, opens_at, operator_in, table_of};
+ghost use Rattle.swift_syntax.specs.Statements.{IsTest};
+ghost use Rattle.swift_syntax.specs.ReadersInside.{Adds, AreFrom, Grows, IsPut, ReadsArgument, taken, takes_if, tried_form};
 
 use crate::limits::DEPTH;
 use crate::reader::Reader;
 use crate::rule::Rule;
 use crate::sign::Sign;
 use crate::token::TokenKind;
-use crate::tree::{ExprForm, Receiver, Tree};
+use crate::tree::{Argument, ExprForm, Receiver, Tree};
 use crate::word::Word;
 use swift_types::Operator;
 
@@ -116,7 +117,7 @@ fn missing(reader: &mut Reader<'_>, rule: Rule) -> usize
 // Operands with operators between them that bind at least so tightly.
 #[cycle(expression)]
 fn operands(reader: &mut Reader<'_>, depth: u32, loosest: u32) -> usize
-    ensures spelled { IsNone reader.new.refused → Reads (SpellsOperands reader.new.tokens.now loosest) reader.new.tree.value.exprs.items reader.old.at reader.new.at result }
+    ensures spelled { IsNone reader.new.refused → Reads (SpellsOperands reader.new.tokens.now loosest) (table_of reader.new.tree.value) reader.old.at reader.new.at result }
     ensures grows { Grows reader.old reader.new }
 {
     if depth == 0 {
@@ -205,7 +206,7 @@ fn refuse_numeral(reader: &mut Reader<'_>, is_covered: bool, operand: usize, pla
 // An operand with at most one prefix.
 #[cycle(expression)]
 fn prefixed(reader: &mut Reader<'_>, depth: u32) -> usize
-    ensures spelled { IsNone reader.new.refused → Reads (SpellsPrefixed reader.new.tokens.now) reader.new.tree.value.exprs.items reader.old.at reader.new.at result }
+    ensures spelled { IsNone reader.new.refused → Reads (SpellsPrefixed reader.new.tokens.now) (table_of reader.new.tree.value) reader.old.at reader.new.at result }
     ensures grows { Grows reader.old reader.new }
 {
     if reader.is_sign(Sign::Minus) {
@@ -239,7 +240,7 @@ fn called(
     alone: ExprForm,
     name: usize,
 ) -> usize
-    ensures spelled { IsNone reader.new.refused → Reads (SpellsCalled reader.new.tokens.now receiver alone name) reader.new.tree.value.exprs.items reader.old.at reader.new.at result }
+    ensures spelled { IsNone reader.new.refused → Reads (SpellsCalled reader.new.tokens.now receiver alone name) (table_of reader.new.tree.value) reader.old.at reader.new.at result }
     ensures grows { Grows reader.old reader.new }
 {
     if !opens_arguments(reader) {
@@ -253,7 +254,7 @@ fn called(
 // A name with what belongs to it.
 #[cycle(expression)]
 fn named(reader: &mut Reader<'_>, depth: u32) -> usize
-    ensures spelled { IsNone reader.new.refused → Reads (SpellsNamed reader.new.tokens.now) reader.new.tree.value.exprs.items reader.old.at reader.new.at result }
+    ensures spelled { IsNone reader.new.refused → Reads (SpellsNamed reader.new.tokens.now) (table_of reader.new.tree.value) reader.old.at reader.new.at result }
     ensures grows { Grows reader.old reader.new }
 {
     let first = reader.take();
@@ -277,7 +278,7 @@ fn take_as(reader: &mut Reader<'_>, form: ExprForm) -> usize
 // An operand without a prefix.
 #[cycle(expression)]
 fn atom(reader: &mut Reader<'_>, depth: u32) -> usize
-    ensures spelled { IsNone reader.new.refused → Reads (SpellsAtom reader.new.tokens.now) reader.new.tree.value.exprs.items reader.old.at reader.new.at result }
+    ensures spelled { IsNone reader.new.refused → Reads (SpellsAtom reader.new.tokens.now) (table_of reader.new.tree.value) reader.old.at reader.new.at result }
     ensures grows { Grows reader.old reader.new }
 {
     match reader.here().kind {
@@ -314,47 +315,92 @@ fn atom(reader: &mut Reader<'_>, depth: u32) -> usize
     }
 }
 
-// The label at the front, if there is one, or 0.
+// Takes the label at the front and its colon, if there is one. Its place, or 0.
 fn label(reader: &mut Reader<'_>) -> usize
+    ensures there { has_label reader.old.tokens.now reader.old.at ≡ true → (result ≡ reader.old.at) × (reader.new ≡ taken (taken reader.old)) }
+    ensures none { has_label reader.old.tokens.now reader.old.at ≡ false → (result ≡ 0) × (reader.new ≡ reader.old) }
     ensures grows { Grows reader.old reader.new }
 {
+    if !has_label(reader) {
+        return 0;
+    }
+    let place = reader.take();
+    reader.take();
+    place
+}
+
+// Whether a name or a keyword stands at the front, and a colon behind it.
+fn has_label(reader: &Reader<'_>) -> bool
+    ensures { result ≡ has_label reader.now.tokens.now reader.now.at }
+{
     match reader.here().kind {
-        TokenKind::Name | TokenKind::Key(_) => {
-            if reader.is_sign_ahead(1, Sign::Colon) {
-                let place = reader.take();
-                reader.take();
-                place
-            } else {
-                0
-            }
-        }
-        _ => 0,
+        TokenKind::Name | TokenKind::Key(_) => reader.is_sign_ahead(1, Sign::Colon),
+        _ => false,
+    }
+}
+
+// One argument, which nothing follows yet.
+#[cycle(expression)]
+fn argument(reader: &mut Reader<'_>, depth: u32) -> Argument
+    ensures spelled { IsNone reader.new.refused → ReadsArgument reader.new.tokens.now (table_of reader.new.tree.value) reader.old.at reader.new.at result }
+    ensures grows { Grows reader.old reader.new }
+{
+    let label = label(reader);
+    let value = covered(reader, depth);
+    Argument {
+        label,
+        value,
+        next: 0,
     }
 }
 
 // Arguments up to the parenthesis that closes them, which is taken too. The first one's place, or 0.
 #[cycle(expression)]
 fn arguments(reader: &mut Reader<'_>, depth: u32) -> usize
+    ensures spelled { IsNone reader.new.refused → ReadsArguments reader.new.tokens.now (table_of reader.new.tree.value) reader.old.at reader.new.at result }
     ensures grows { Grows reader.old reader.new }
 {
     if reader.takes(Sign::Close) {
         return 0;
     }
-    let mut first = 0;
-    let mut last = 0;
+    let mut given = Vec::new(reader.alloc);
     for _ in 0..reader.tokens.len() {
-        let label = label(reader);
-        let value = covered(reader, depth);
-        last = reader.argument(label, value, last);
-        if first == 0 {
-            first = last;
-        }
+        let one = argument(reader, depth);
+        keep(reader, &mut given, one);
         if !reader.takes(Sign::Comma) {
-            break;
+            reader.sign(Sign::Close);
+            return put_arguments(reader, &given);
         }
     }
-    reader.sign(Sign::Close);
-    first
+    // Each turn takes a comma, so the tokens end before the turns do.
+    missing(reader, Rule::TooLarge)
+}
+
+/// Keeps an argument behind those that were given.
+pub(crate) fn keep(reader: &mut Reader<'_>, given: &mut Vec<Argument>, one: Argument)
+    ensures kept { IsNone reader.new.refused → (given.new.items ≡ given.old.items ++ one ∷ []) × (reader.new ≡ reader.old) }
+    ensures grows { Grows reader.old reader.new }
+{
+    let grown = given.push(one).is_ok();
+    reader.note(grown);
+}
+
+/// Puts these arguments into their table, each with the place of the next one. The first one's place, or 0 where there is none.
+pub(crate) fn put_arguments(reader: &mut Reader<'_>, given: &[Argument]) -> usize
+    ensures put { IsNone reader.new.refused → AreFrom reader.new.tree.value.arguments.items result given.now }
+    ensures at { IsNone reader.new.refused → reader.new.at ≡ reader.old.at }
+    ensures grows { Grows reader.old reader.new }
+{
+    let mut next = 0;
+    let mut left = given.len();
+    'put: while left > 0 {
+        left -= 1;
+        next = reader.argument(Argument {
+            next,
+            ..given[left]
+        });
+    }
+    next
 }
 
 // What a `try` at the front says.
@@ -385,7 +431,7 @@ fn is_optional(reader: &mut Reader<'_>) -> bool
 // What `await` and `try` stand before.
 #[cycle(expression)]
 fn covered(reader: &mut Reader<'_>, depth: u32) -> usize
-    ensures spelled { IsNone reader.new.refused → Reads (SpellsExpr reader.new.tokens.now) reader.new.tree.value.exprs.items reader.old.at reader.new.at result }
+    ensures spelled { IsNone reader.new.refused → Reads (SpellsExpr reader.new.tokens.now) (table_of reader.new.tree.value) reader.old.at reader.new.at result }
     ensures grows { Grows reader.old reader.new }
 {
     if depth == 0 {
@@ -408,7 +454,7 @@ fn covered(reader: &mut Reader<'_>, depth: u32) -> usize
 // Operands, perhaps with a choice.
 #[cycle(expression)]
 fn choice(reader: &mut Reader<'_>, depth: u32) -> usize
-    ensures spelled { IsNone reader.new.refused → Reads (SpellsChoice reader.new.tokens.now) reader.new.tree.value.exprs.items reader.old.at reader.new.at result }
+    ensures spelled { IsNone reader.new.refused → Reads (SpellsChoice reader.new.tokens.now) (table_of reader.new.tree.value) reader.old.at reader.new.at result }
     ensures grows { Grows reader.old reader.new }
 {
     if depth == 0 {
@@ -442,7 +488,7 @@ fn take_choice(reader: &mut Reader<'_>, sign: Sign) -> usize
 
 /// An expression, perhaps with `await` and `try`. Its place.
 pub(crate) fn expression(reader: &mut Reader<'_>) -> usize
-    ensures spelled { IsNone reader.new.refused → Reads (SpellsExpr reader.new.tokens.now) reader.new.tree.value.exprs.items reader.old.at reader.new.at result }
+    ensures spelled { IsNone reader.new.refused → Reads (SpellsExpr reader.new.tokens.now) (table_of reader.new.tree.value) reader.old.at reader.new.at result }
     ensures grows { Grows reader.old reader.new }
 {
     covered(reader, DEPTH)
@@ -468,6 +514,7 @@ pub(crate) fn test(reader: &mut Reader<'_>) -> usize
 
 /// The arguments behind a parenthesis that is taken. The first one's place, or 0.
 pub(crate) fn call_arguments(reader: &mut Reader<'_>) -> usize
+    ensures spelled { IsNone reader.new.refused → ReadsArguments reader.new.tokens.now (table_of reader.new.tree.value) reader.old.at reader.new.at result }
     ensures grows { Grows reader.old reader.new }
 {
     arguments(reader, DEPTH)
@@ -475,7 +522,7 @@ pub(crate) fn call_arguments(reader: &mut Reader<'_>) -> usize
 
 /// An operand of `..<` and `...`. Its place.
 pub(crate) fn bound(reader: &mut Reader<'_>) -> usize
-    ensures spelled { IsNone reader.new.refused → Reads (SpellsOperands reader.new.tokens.now 4) reader.new.tree.value.exprs.items reader.old.at reader.new.at result }
+    ensures spelled { IsNone reader.new.refused → Reads (SpellsOperands reader.new.tokens.now 4) (table_of reader.new.tree.value) reader.old.at reader.new.at result }
     ensures grows { Grows reader.old reader.new }
 {
     operands(reader, DEPTH, 4)

@@ -1,11 +1,13 @@
 //! A reader of tokens, which notes the first refusal.
 //!
 //! After a refusal it stands at the end of the tokens, where nothing fits, so that what still runs ends soon.
+#![tactic(auto, using(crate::proofs::Grown::extends_same, crate::proofs::Grown::grows_same, crate::proofs::Grown::grows_on, crate::proofs::Refused::grows_taken))]
 
-ghost use Rattle.std.specs.Prelude.{◌≡◌, ◌↔◌, true, false, IsNone, IsSome, IsTrue};
+ghost use Rattle.std.specs.Prelude.{◌≡◌, ◌↔◌, true, false, IfOk, IsNone, IsSome, IsTrue};
+ghost use Rattle.swift_syntax.specs.DeclaringInside.{IsNewReader};
 ghost use Rattle.swift_syntax.specs.Expressions.{after, kind_at, token_at};
-ghost use Rattle.swift_syntax.specs.ReadersInside.{Extends, Grows, IsLinked, IsPut, IsStmtPut, lexed_of, taken, takes_if};
-ghost use Rattle.swift_syntax.specs.StatementsInside.{Separates, SpellsAnnotation, SpellsType, begins_line, spells_at};
+ghost use Rattle.swift_syntax.specs.ReadersInside.{Extends, Grows, IsArgumentPut, IsLinked, IsPut, IsStmtPut, lexed_of, taken, takes_if};
+ghost use Rattle.swift_syntax.specs.Statements.{Separates, SpellsAnnotation, SpellsType, begins_line, spells_at};
 
 use crate::rule::{Breach, Rule};
 use crate::sign::Sign;
@@ -17,6 +19,8 @@ use std::alloc::{AllocError, Global};
 /// The tokens of a text, how far they are read, and what was read.
 #[derive(Drop)]
 pub(crate) struct Reader<'a> {
+    /// Where what is read takes its memory.
+    pub alloc: Global,
     /// The text.
     pub text: &'a [u8],
     /// Its tokens.
@@ -39,8 +43,11 @@ impl<'a> Reader<'a> {
         alloc: Global,
         text: &'a [u8],
         tokens: &'a [Token],
-    ) -> Result<Reader<'a>, AllocError> {
+    ) -> Result<Reader<'a>, AllocError>
+        ensures { IfOk result (IsNewReader text.now tokens.now) }
+    {
         Ok(Reader {
+            alloc,
             text,
             tokens,
             at: 0,
@@ -344,28 +351,29 @@ impl<'a> Reader<'a> {
         place
     }
 
-    /// Puts an argument into its table, and after another one where there is one. Its place.
-    pub(crate) fn argument(&mut self, label: usize, value: usize, last: usize) -> usize
-        ensures at { IsNone self.new.refused → self.new.at ≡ self.old.at }
+    /// Puts an argument into its table. Its place, which is not 0: that stands for none.
+    pub(crate) fn argument(&mut self, made: Argument) -> usize
+        ensures put { IsNone self.new.refused → IsArgumentPut self.old self.new made result }
         ensures grows { Grows self.old self.new }
     {
         let place = self.tree.arguments.len();
-        if last != 0 {
-            if let Some(before) = self.tree.arguments.get_mut(last) {
-                before.next = place;
-            }
-        }
-        let grown = self
-            .tree
-            .arguments
-            .push(Argument {
-                label,
-                value,
-                next: 0,
-            })
-            .is_ok();
-        self.note(grown);
+        let grown = self.tree.arguments.push(made).is_ok();
+        self.note(grown && place != 0);
         place
+    }
+
+    /// Puts what the place 0 of arguments stands for: none.
+    pub(crate) fn no_argument(&mut self)
+        ensures at { IsNone self.new.refused → self.new.at ≡ self.old.at }
+        ensures grows { Grows self.old self.new }
+    {
+        let none = Argument {
+            label: 0,
+            value: 0,
+            next: 0,
+        };
+        let grown = self.tree.arguments.push(none).is_ok();
+        self.note(grown);
     }
 
     /// Puts a statement that ends here into its table. Its place.

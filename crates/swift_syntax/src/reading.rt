@@ -1,9 +1,14 @@
 //! Whole files.
+#![tactic(auto, using(crate::proofs::Grown::grows_same, crate::proofs::Grown::grows_on, crate::proofs::Refused::grows_taken))]
 
-ghost use Rattle.std.specs.Prelude.{◌≡◌, ◌<◌, All, IfOk, IfSome, length};
+ghost use Rattle.std.specs.Prelude.{◌≡◌, ◌<◌, All, IfOk, IfSome, IsNone, None, length};
 ghost use Rattle.std.specs.Option.{option_map};
+ghost use Rattle.swift_syntax.specs.Declarations.{SpellsDeclarations, SpellsFile, rows_of};
+ghost use Rattle.swift_syntax.specs.DeclaringInside.{Puts};
+ghost use Rattle.swift_syntax.specs.Expressions.{kind_at};
 ghost use Rattle.swift_syntax.specs.Lexes.{AreTokensOf};
 ghost use Rattle.swift_syntax.specs.Places.{IsBlamedIn, IsTokenOf, IsTooLarge};
+ghost use Rattle.swift_syntax.specs.ReadersInside.{Extends, Grows, IsBegun};
 
 use crate::declaration::declaration;
 use crate::list::tokens;
@@ -26,12 +31,21 @@ pub struct ReadFile {
     pub refused: Option<Refusal>,
 }
 
-// All declarations of a file.
-fn declarations(reader: &mut Reader<'_>) {
-    // The places 0 stand for none.
+// Puts what the places 0 stand for: none.
+fn begin(reader: &mut Reader<'_>)
+    ensures begun { IsNone reader.new.refused → IsBegun reader.new }
+    ensures at { IsNone reader.new.refused → reader.new.at ≡ reader.old.at }
+    ensures extends { Extends reader.old reader.new }
+{
     reader.expr(ExprForm::Missing, 0);
-    reader.argument(0, 0, 0);
+    reader.no_argument();
     reader.stmt(StmtForm::Return, 0);
+}
+
+// All declarations of a file.
+fn declarations(reader: &mut Reader<'_>)
+    ensures { Puts reader.old reader.new (λ s. SpellsDeclarations s reader.old.at (rows_of reader.old.tree.value) (rows_of reader.new.tree.value)) }
+{
     for _ in 0..reader.tokens.len() {
         if reader.takes(Sign::Semicolon) {
             continue;
@@ -42,9 +56,23 @@ fn declarations(reader: &mut Reader<'_>) {
         declaration(reader);
         reader.separator();
     }
+    want_end(reader);
 }
 
-/// Reads the tokens of a file and its tree, up to the first rule that it breaks. Names and types are not looked at. Linear in the text.
+// Refuses all but the end of the text.
+fn want_end(reader: &mut Reader<'_>)
+    ensures end { IsNone reader.new.refused → (kind_at reader.old.tokens.now reader.old.at ≡ TokenKind.End) × (reader.new ≡ reader.old) }
+    ensures grows { Grows reader.old reader.new }
+{
+    match reader.here().kind {
+        TokenKind::End => {}
+        _ => reader.unexpected(),
+    }
+}
+
+/// Reads the tokens of a file and its tree, up to the first rule that it breaks. Where it breaks none, its tokens spell the tree, from the
+/// first one to the last: what is declared, with its statements and expressions. Arguments are left aside there, and the names in the list
+/// of a closure. Names and types are not looked at. Linear in the text.
 ///
 /// # Errors
 ///
@@ -54,6 +82,8 @@ pub fn read_file(alloc: Global, text: &[u8]) -> Result<ReadFile, AllocError>
     ensures lexed { IfOk result (λ file. AreTokensOf text.now file.tokens.items) }
     ensures tokens { IfOk result (λ file. All (IsTokenOf text.now) file.tokens.items) }
     ensures blamed { IfOk result (λ file. IfSome file.refused (IsBlamedIn text.now)) }
+    // Where it is not refused, its tokens spell its tree, and no token is left over.
+    ensures spelled { IfOk result (λ file. file.refused ≡ None → SpellsFile text.now file.tokens.items file.tree.value) }
     ensures large { IfOk result (λ file. BYTES < length text.now → IsTooLarge (option_map (λ r. r.rule) file.refused)) }
 {
     let tokens = tokens(alloc, text)?;
@@ -84,6 +114,7 @@ fn read_tokens(
     text: &[u8],
     tokens: &[Token],
 ) -> Result<(Box<Tree>, Option<Breach>), AllocError>
+    ensures spelled { IfOk result (λ read. read.1 ≡ None → SpellsFile text.now tokens.now read.0.value) }
     ensures large { IfOk result (λ read. BYTES < length text.now → IsTooLarge (option_map (λ b. b.rule) read.1)) }
 {
     if text.len() > BYTES {
@@ -94,6 +125,7 @@ fn read_tokens(
         return Ok((Box::new(alloc, Tree::new(alloc))?, Some(breach)));
     }
     let mut reader = Reader::new(alloc, text, tokens)?;
+    begin(&mut reader);
     declarations(&mut reader);
     Ok((reader.tree, reader.refused))
 }

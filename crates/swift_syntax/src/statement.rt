@@ -1,10 +1,11 @@
 //! Statements.
+#![tactic(auto, using(crate::proofs::Grown::extends_same, crate::proofs::Grown::grows_same, crate::proofs::Grown::grows_on, crate::proofs::Refused::grows_taken))]
 
 ghost use Rattle.std.specs.Prelude.{◌≡◌, ◌<◌, true, false, IfNone, IfSome, IsFalse, IsNone, IsSome, IsTrue, ℕ};
 ghost use Rattle.swift_syntax.specs.Expressions.{kind_at};
 ghost use Rattle.swift_syntax.specs.ReadersInside.{Adds, AddsStmt, Extends, Grows, IsBegun, IsLinked, IsStmtPut, lexed_of};
-ghost use Rattle.swift_syntax.specs.StatementsInside.{SpellsBlock, SpellsDeclared, SpellsElse, SpellsInto, SpellsNext, SpellsRange, SpellsRest, SpellsTarget, assigning_in, begins_line, closed_form, closed_token, ends_return};
-ghost use Rattle.swift_syntax.specs.StatementsInside as statements;
+ghost use Rattle.swift_syntax.specs.Statements.{SpellsBlock, SpellsDeclared, SpellsElse, SpellsInto, SpellsNext, SpellsRange, SpellsRest, SpellsTarget, assigning_in, begins_line, closed_form, closed_token, ends_return};
+ghost use Rattle.swift_syntax.specs.Statements as statements;
 
 use crate::closure::{Closure, ClosureHead, HeadForm, closure_front, closure_stmt, head};
 use crate::expression::{bound, expression, test};

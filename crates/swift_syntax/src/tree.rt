@@ -3,6 +3,10 @@
 //! Its parts lie in tables, and name one another by their places there, so a part is a few numbers, and a large tree is dropped at once.
 //! A statement names the one that follows it in its block; the place 0 of statements and of expressions stands for none.
 
+ghost use Rattle.std.specs.Prelude.{◌≡◌, ◌<◌, [], IfSome, Some};
+ghost use Rattle.std.specs.List.{slice_get};
+ghost use Rattle.swift_syntax.specs.Declarations.{no_rows, rows_of};
+
 use std::alloc::Global;
 use swift_types::Operator;
 
@@ -395,7 +399,12 @@ pub struct Tree {
 
 impl Tree {
     /// A tree of nothing, with room for nothing.
-    pub fn new(alloc: Global) -> Tree {
+    pub fn new(alloc: Global) -> Tree
+        ensures rows { rows_of result ≡ no_rows }
+        ensures stmts { result.stmts.items ≡ [] }
+        ensures exprs { result.exprs.items ≡ [] }
+        ensures arguments { result.arguments.items ≡ [] }
+    {
         Tree {
             actors: Vec::new(alloc),
             fields: Vec::new(alloc),
@@ -416,7 +425,9 @@ impl Tree {
     }
 
     /// The expression at a place; none where there is no such place.
-    pub fn expr(&self, place: usize) -> Expr {
+    pub fn expr(&self, place: usize) -> Expr
+        ensures { (e : Expr) → slice_get self.now.exprs.items place ≡ Some e → result ≡ e }
+    {
         match self.exprs.get(place) {
             Some(expr) => *expr,
             None => Expr {
@@ -435,7 +446,9 @@ impl Tree {
     }
 
     /// The statement at a place; none where there is no such place.
-    pub fn stmt(&self, place: usize) -> Option<Stmt> {
+    pub fn stmt(&self, place: usize) -> Option<Stmt>
+        ensures { IfSome result (λ s. (slice_get self.now.stmts.items place ≡ Some s) × (0 < place)) }
+    {
         if place == 0 {
             return None;
         }

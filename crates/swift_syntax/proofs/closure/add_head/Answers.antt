@@ -1,6 +1,6 @@
 use Rattle.std.proofs.Common.{codes}
-use Rattle.swift_syntax.specs.StatementsInside.{SpellsPriority}
-use Rattle.swift_syntax.specs.StatementsInside as swift
+use Rattle.swift_syntax.specs.Statements.{SpellsPriority}
+use Rattle.swift_syntax.specs.Statements as swift
 use Rattle.swift_syntax.specs.declared.sign.Sign.TheVariants as sign
 use Rattle.swift_syntax.proofs.Steps.{adds_of, row_then, rows, took_as, took_lexed, took_name, took_sign, took_word}
 use Rattle.swift_syntax.proofs.closure.add_head.Goals as goal

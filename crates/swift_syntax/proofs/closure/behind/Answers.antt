@@ -1,7 +1,7 @@
 use Rattle.std.proofs.Common.{refl, rules}
 use Rattle.std.proofs.lemmas.Bool.{false≢true}
-use Rattle.swift_syntax.specs.StatementsInside as swift
-use Rattle.swift_syntax.specs.StatementsInside.{a_key}
+use Rattle.swift_syntax.specs.Statements as swift
+use Rattle.swift_syntax.specs.Statements.{a_key}
 use Rattle.swift_syntax.proofs.closure.behind.Goals as goal
 
 pub returns-then-is_key_at : goal.returns-then-is_key_at

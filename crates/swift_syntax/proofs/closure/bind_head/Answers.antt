@@ -1,7 +1,7 @@
 use Rattle.std.proofs.Common.{ℕ, codes, subst, sym}
 use Rattle.swift_syntax.specs.ReadersInside.{Adds}
-use Rattle.swift_syntax.specs.StatementsInside.{SpellsHead}
-use Rattle.swift_syntax.specs.StatementsInside as swift
+use Rattle.swift_syntax.specs.Statements.{SpellsHead}
+use Rattle.swift_syntax.specs.Statements as swift
 use Rattle.swift_syntax.specs.declared.closure.HeadForm.TheVariants as head
 use Rattle.swift_syntax.specs.declared.sign.Sign.TheVariants as sign
 use Rattle.swift_syntax.proofs.Statements.{expr_stays}

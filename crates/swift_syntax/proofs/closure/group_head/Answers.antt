@@ -1,6 +1,6 @@
 use Rattle.std.proofs.Common.{codes}
-use Rattle.swift_syntax.specs.StatementsInside.{SpellsGroup}
-use Rattle.swift_syntax.specs.StatementsInside as swift
+use Rattle.swift_syntax.specs.Statements.{SpellsGroup}
+use Rattle.swift_syntax.specs.Statements as swift
 use Rattle.swift_syntax.proofs.Steps.{adds_of, row_then, took_as, took_call, took_word}
 use Rattle.swift_syntax.proofs.closure.group_head.Goals as goal
 

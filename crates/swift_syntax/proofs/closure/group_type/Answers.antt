@@ -1,6 +1,6 @@
 use Rattle.std.proofs.Common.{[], codes}
-use Rattle.swift_syntax.specs.StatementsInside.{SpellsType}
-use Rattle.swift_syntax.specs.StatementsInside as swift
+use Rattle.swift_syntax.specs.Statements.{SpellsType}
+use Rattle.swift_syntax.specs.Statements as swift
 use Rattle.swift_syntax.specs.declared.sign.Sign.TheVariants as sign
 use Rattle.swift_syntax.specs.declared.word.Word.TheVariants as word
 use Rattle.swift_syntax.proofs.Statements.{lexed_stays}

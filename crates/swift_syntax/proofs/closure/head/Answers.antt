@@ -1,13 +1,13 @@
 use Rattle.std.proofs.Common.{subst, sym}
-use Rattle.swift_syntax.specs.StatementsInside.{SpellsPerhaps}
-use Rattle.swift_syntax.specs.StatementsInside as swift
+use Rattle.swift_syntax.specs.Statements.{SpellsPerhaps}
+use Rattle.swift_syntax.specs.Statements as swift
 use Rattle.swift_syntax.specs.declared.word.Word.TheVariants as word
 use Rattle.swift_syntax.proofs.Grown.{extends_of}
 use Rattle.swift_syntax.proofs.Steps.{lexed_on}
 use Rattle.swift_syntax.proofs.closure.head.Goals as goal
 
 pub returns-clause-grows : goal.returns-clause-grows
-returns-clause-grows c = let g = c.head_form-form.ensures.grows in record { refused = g.refused; text = g.text; tokens = g.tokens; declared = g.declared; stmts = g.stmts; more = g.more; exprs = g.exprs }
+returns-clause-grows c = let g = c.head_form-form.ensures.grows in record { refused = g.refused; text = g.text; tokens = g.tokens; declared = g.declared; stmts = g.stmts; more = g.more; exprs = g.exprs; more_arguments = g.more_arguments; arguments = g.arguments }
 
 pub returns-clause-spelled : goal.returns-clause-spelled
 returns-clause-spelled c = λ n.

@@ -1,7 +1,7 @@
 use Rattle.std.proofs.Common.{refl, [], codes}
 use Rattle.std.proofs.lemmas.Bool.{false≢true}
-use Rattle.swift_syntax.specs.StatementsInside.{SpellsPriority, a_sign}
-use Rattle.swift_syntax.specs.StatementsInside as swift
+use Rattle.swift_syntax.specs.Statements.{SpellsPriority, a_sign}
+use Rattle.swift_syntax.specs.Statements as swift
 use Rattle.swift_syntax.specs.declared.sign.Sign.TheVariants as sign
 use Rattle.swift_syntax.proofs.Steps.{row_then, rows, takes_one, took_name, took_sign, took_word}
 use Rattle.swift_syntax.proofs.closure.priority.Goals as goal

@@ -1,6 +1,6 @@
 use Rattle.std.proofs.Common.{codes, refl}
-use Rattle.swift_syntax.specs.StatementsInside.{SpellsPriority, a_sign}
-use Rattle.swift_syntax.specs.StatementsInside as swift
+use Rattle.swift_syntax.specs.Statements.{SpellsPriority, a_sign}
+use Rattle.swift_syntax.specs.Statements as swift
 use Rattle.swift_syntax.specs.declared.sign.Sign.TheVariants as sign
 use Rattle.swift_syntax.proofs.Grown.{grows_same}
 use Rattle.swift_syntax.proofs.Steps.{adds_of, row_then, rows, takes_one, took_as, took_call, took_same, took_word}

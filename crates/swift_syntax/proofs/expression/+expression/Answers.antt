@@ -1,14 +1,16 @@
-use Rattle.std.proofs.Common.{◌≡◌, ◌≢◌, true, false, None, refl, sym, ap, subst, ◌∙◌, arith, rules, w64, to_z, of_z, suc}
+use Rattle.std.proofs.Common.{◌≡◌, ◌≢◌, ◌∷◌, ◌++◌, [], true, false, None, refl, sym, ap, subst, ◌∙◌, arith, rules, w64, to_z, of_z, suc}
+use Rattle.std.specs.Prelude.{IsNone}
 use Rattle.std.proofs.lemmas.Bool.{false≢true}
-use Rattle.swift_syntax.specs.Expressions.{kind_at, literal_of, opens_at, operator_in}
-use Rattle.swift_syntax.specs.ReadersInside.{Grows, IsPut, taken}
+use Rattle.swift_syntax.specs.Expressions.{kind_at, literal_of, opens_at, operator_in, table_of}
+use Rattle.swift_syntax.specs.ReadersInside.{AreFrom, Grows, IsPut, ReadsGiven, reads_none, taken}
 use Rattle.swift_syntax.specs.declared.sign.Sign.TheVariants as sign
 use Rattle.swift_syntax.specs.declared.token.TokenKind.TheVariants as kind
 use Rattle.swift_syntax.specs.declared.tree.ExprForm.TheVariants as form
 use Rattle.swift_syntax.specs.declared.word.Word.TheVariants as word
-use Rattle.swift_syntax.proofs.Grown.{grows_on}
+use Rattle.swift_syntax.proofs.Arguments.{ReadsSome, argument_read, closed_read, given_read, none_read, some_read}
+use Rattle.swift_syntax.proofs.Grown.{grows_on, grows_same}
+use Rattle.swift_syntax.proofs.Refused.{grows_taken}
 use Rattle.swift_syntax.proofs.Spelled.{literal_read, own_read, case_read, parenthesis_read, name_read, alone_read, call_read, member_read, lone_read, negated_read, inverted_read, unprefixed_read, awaited_read, tried_read, tried_grows, operands_alone_read, choice_read, uncovered_read, first_read, all_read, next_read, low_level}
-use Rattle.swift_syntax.proofs.expression.+expression.Goals.{arguments-else-loop-test, arguments-then-loop-test+then-not-takes}
 use Rattle.swift_syntax.proofs.expression.+expression.Goals as goal
 
 pub atom-returns-in-Number-clause-spelled : goal.atom-returns-in-Number-clause-spelled
@@ -64,8 +66,10 @@ called-returns-then-not-opens_arguments-clause-spelled t c = λ n.
 
 pub called-returns-clause-spelled : goal.called-returns-clause-spelled
 called-returns-clause-spelled t c = λ n.
+    let n2 = c.expr-2.ensures.grows.refused n in
+    let n1 = c.arguments-first.ensures.grows.refused n2 in
     let o : opens_at c.args.reader.now.tokens.now c.args.reader.now.at ≡ true = sym c.if-not-opens_arguments.ensures in
-    call_read c.args.reader.now c.arguments-first.new.reader c.expr-2.new.self o (grows_on c.sign.ensures.grows c.arguments-first.ensures.grows) c.expr-2.ensures.grows (c.expr-2.ensures.put n)
+    call_read c.args.reader.now c.sign.new.self c.arguments-first.new.reader c.expr-2.new.self o (c.sign.ensures.taken n1).1 c.arguments-first.ensures.grows (c.arguments-first.ensures.spelled n2) (c.expr-2.ensures.put n) c.expr-2.ensures.grows
 
 pub choice-returns-then-not-is_sign-clause-spelled : goal.choice-returns-then-not-is_sign-clause-spelled
 choice-returns-then-not-is_sign-clause-spelled t c = λ n.
@@ -134,10 +138,52 @@ prefixed-returns-then-is_sign-2-clause-spelled t c = λ n.
 pub prefixed-returns-clause-spelled : goal.prefixed-returns-clause-spelled
 prefixed-returns-clause-spelled t c = λ n. unprefixed_read c.args.reader.now c.atom.new.reader (c.atom.ensures.spelled n)
 
-pub arguments-returns : goal.arguments-returns
-arguments-returns t c =
-    let g : Grows c.args.reader.now c.loop-test.reader = elim c.loop-test.branch [ arguments-else-loop-test w ↦ rw w.reader-is c.loop.invariant | arguments-then-loop-test+then-not-takes w ↦ rw (w.reader-is, w.if-not-takes.ensures.taken) (grows_on c.loop.invariant (grows_on w.label-label.ensures.grows (grows_on w.covered-value.ensures.grows w.argument-last.ensures.grows))) ] in
-    record { grows = grows_on g c.sign.ensures.grows }
+pub argument-returns : goal.argument-returns
+argument-returns t c =
+    record {
+      spelled = λ n. argument_read c.args.reader.now c.label-label.new.reader c.covered-value.new.reader c.label-label.result c.covered-value.result c.label-label.ensures.there c.label-label.ensures.none c.label-label.ensures.grows c.covered-value.ensures.grows (c.covered-value.ensures.spelled n);
+      grows = grows_on c.label-label.ensures.grows c.covered-value.ensures.grows;
+    }
+
+pub arguments-returns-then-takes-clause-spelled : goal.arguments-returns-then-takes-clause-spelled
+arguments-returns-then-takes-clause-spelled t c = λ n. none_read c.args.reader.now c.takes.new.self (c.if-takes.ensures.found.0 refl) c.if-takes.ensures.taken
+
+pub arguments-loop-init : goal.arguments-loop-init
+arguments-loop-init t c =
+    let same = c.if-takes.ensures.taken in
+    record {
+      grows = subst (λ r. Grows c.args.reader.now r) (sym same) (grows_same c.args.reader.now);
+      spelled = λ n. rw c.new-given.ensures.items (reads_none (ap (λ r. r.at) (sym same)));
+    }
+
+pub arguments-loop-preserved : goal.arguments-loop-preserved
+arguments-loop-preserved t c =
+    let next = grows_taken c.if-not-takes.ensures.taken in
+    let one = c.argument-one.new.reader in
+    record {
+      grows = grows_on c.loop.invariant.grows (grows_on c.argument-one.ensures.grows (grows_on c.keep.ensures.grows next));
+      spelled = λ n.
+          let n2 = next.refused n in
+          let n1 = c.keep.ensures.grows.refused n2 in
+          let kept = c.keep.ensures.kept n2 in
+          let some = some_read c.loop.reader one c.argument-one.ensures.grows (c.loop.invariant.spelled (c.argument-one.ensures.grows.refused n1)) (c.argument-one.ensures.spelled n1) in
+          let there = subst (λ x. ReadsSome x.tokens.now (table_of x.tree.value) c.args.reader.now.at x.at (c.loop.given.items ++ c.argument-one.result ∷ [])) (sym kept.1) some in
+          subst (λ l. ReadsGiven c.takes-in-loop.new.self.tokens.now (table_of c.takes-in-loop.new.self.tree.value) c.args.reader.now.at c.takes-in-loop.new.self.at l) (sym kept.0) (given_read c.keep.new.reader c.takes-in-loop.new.self there (c.if-not-takes.ensures.found.0 refl) c.if-not-takes.ensures.taken);
+    }
+
+pub arguments-returns-then-not-takes-clause-spelled : goal.arguments-returns-then-not-takes-clause-spelled
+arguments-returns-then-not-takes-clause-spelled t c = λ n.
+    let one = c.argument-one.new.reader in
+    let n4 = c.put_arguments.ensures.grows.refused n in
+    let n3 = c.sign.ensures.grows.refused n4 in
+    let n2 = subst (λ r. IsNone r.refused) c.if-not-takes.ensures.taken n3 in
+    let n1 = c.keep.ensures.grows.refused n2 in
+    let kept = c.keep.ensures.kept n2 in
+    let some = some_read c.loop.reader one c.argument-one.ensures.grows (c.loop.invariant.spelled (c.argument-one.ensures.grows.refused n1)) (c.argument-one.ensures.spelled n1) in
+    let there = subst (λ x. ReadsSome x.tokens.now (table_of x.tree.value) c.args.reader.now.at x.at (c.loop.given.items ++ c.argument-one.result ∷ [])) (sym (c.if-not-takes.ensures.taken ∙ kept.1)) some in
+    let all = subst (λ l. ReadsSome c.takes-in-loop.new.self.tokens.now (table_of c.takes-in-loop.new.self.tree.value) c.args.reader.now.at c.takes-in-loop.new.self.at l) (sym kept.0) there in
+    let close = c.sign.ensures.taken n4 in
+    closed_read c.takes-in-loop.new.self c.sign.new.self c.put_arguments.new.reader all close.0 close.1 c.put_arguments.ensures.grows (c.put_arguments.ensures.at n) (subst (λ l. AreFrom c.put_arguments.new.reader.tree.value.arguments.items c.put_arguments.result l) c.deref.ensures.value (c.put_arguments.ensures.put n))
 
 pub operands-loop-init : goal.operands-loop-init
 operands-loop-init t c =

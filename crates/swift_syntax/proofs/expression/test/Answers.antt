@@ -1,8 +1,8 @@
 use Rattle.std.proofs.Common.{◌≢◌, refl}
 use Rattle.std.proofs.lemmas.Bool.{false≢true}
 use Rattle.swift_syntax.specs.Expressions.{kind_at}
-use Rattle.swift_syntax.specs.StatementsInside.{SpellsTests, a_sign}
-use Rattle.swift_syntax.specs.StatementsInside as swift
+use Rattle.swift_syntax.specs.Statements.{SpellsTests, a_sign}
+use Rattle.swift_syntax.specs.Statements as swift
 use Rattle.swift_syntax.specs.declared.sign.Sign.TheVariants as sign
 use Rattle.swift_syntax.specs.declared.token.TokenKind.TheVariants as kind
 use Rattle.swift_syntax.proofs.Grown.{grows_on}

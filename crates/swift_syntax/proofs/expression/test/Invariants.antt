@@ -1,4 +1,4 @@
-use Rattle.swift_syntax.specs.StatementsInside.{SpellsTests}
+use Rattle.swift_syntax.specs.Statements.{SpellsTests}
 use Rattle.swift_syntax.proofs.Steps.{Took}
 use Rattle.swift_syntax.proofs.expression.test.Given as goal
 

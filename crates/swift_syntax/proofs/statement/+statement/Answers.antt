@@ -2,15 +2,15 @@ use Rattle.std.proofs.Common.{[], ◌≡◌, ◌∷◌, IsNone, ap, false, true,
 use Rattle.std.proofs.lemmas.Bool.{false≢true}
 use Rattle.swift_syntax.specs.Expressions.{kind_at}
 use Rattle.swift_syntax.specs.ReadersInside.{Extends, lexed_of}
-use Rattle.swift_syntax.specs.StatementsInside.{Row, SpellsElse, SpellsFront, SpellsInto, SpellsNext, SpellsPerhaps, SpellsRange, a_key, a_sign, ends_return}
-use Rattle.swift_syntax.specs.StatementsInside as swift
+use Rattle.swift_syntax.specs.Statements.{Row, SpellsElse, SpellsFront, SpellsInto, SpellsNext, SpellsPerhaps, SpellsRange, a_key, a_sign, ends_return}
+use Rattle.swift_syntax.specs.Statements as swift
 use Rattle.swift_syntax.specs.declared.sign.Sign.TheVariants as sign
 use Rattle.swift_syntax.specs.declared.tree.StmtForm.TheVariants as form
 use Rattle.swift_syntax.specs.declared.word.Word.TheVariants as word
 use Rattle.swift_syntax.proofs.Chains.{Chain, chain_begins, chain_closes, chain_follows, chain_skips, else_read}
 use Rattle.swift_syntax.proofs.Grown.{extends_of, extends_on, grows_same}
 use Rattle.swift_syntax.proofs.Refused.{grows_taken}
-use Rattle.swift_syntax.proofs.Statements.{block_stays, covered_stays, lexed_stays, sum_stays, test_stays}
+use Rattle.swift_syntax.proofs.Statements.{front_stays, block_stays, covered_stays, lexed_stays, sum_stays, test_stays}
 use Rattle.swift_syntax.proofs.Steps.{Took, adds_of, also, begun_behind, formed_by, no_row, read_behind, row_also, row_then, rows, step_as, step_call, step_of, stmt_of, stmt_read, takes_one, test_read, then, told_by, took_call, took_expr, took_key, took_lexed, took_name, took_perhaps, took_same, took_sign, took_stmt, took_sum}
 use Rattle.swift_syntax.proofs.statement.+statement.Goals as goal
 
@@ -27,10 +27,11 @@ pub valued-returns-clause-spelled : goal.valued-returns-clause-spelled
 valued-returns-clause-spelled t c = λ n b into.
     let before = took_lexed c.args.reader.now c.args.reader.now (λ l. SpellsInto l c.args.token c.args.reader.now.at c.args.into) (λ m. into) (grows_same c.args.reader.now) in
     let covered = step_call c.args.reader.now c.head.new.reader (λ m x. c.in-Some.ensures.spelled m) (extends_of c.in-Some.ensures.grows) in
-    let front = took_call c.head.new.reader c.closure_front-closure.new.reader (λ l i j. SpellsFront l i j c.closure_front-closure.result.parameter) c.closure_front-closure.ensures.spelled c.closure_front-closure.ensures.grows in
+    let closed = c.closure_front-closure.result in
+    let front : Took c.head.new.reader c.closure_front-closure.new.reader (λ a. SpellsFront a c.head.new.reader.at c.closure_front-closure.new.reader.at closed.captures closed.parameter) = record { grows = c.closure_front-closure.ensures.grows; holds = c.closure_front-closure.ensures.spelled } in
     let rest = step_call c.closure_front-closure.new.reader c.statements.new.reader c.statements.ensures.spelled c.statements.ensures.extends in
-    let all = also _ _ _ (lexed_stays (λ l. SpellsInto l c.args.token c.args.reader.now.at c.args.into)) (step_of _ _ before) (also _ _ _ (λ a z m. covered_stays a z m) covered (also _ _ _ (lexed_stays (λ l. SpellsFront l c.head.new.reader.at c.closure_front-closure.new.reader.at c.closure_front-closure.result.parameter)) (step_of _ _ front) rest)) in
-    stmt_read _ _ _ (stmt_of c.args.reader.now c.statements.new.reader (λ a x. swift.enclosed c.closure_front-closure.result.captures x.0 x.1.0 x.1.1.0 x.1.1.1) all) c.finish.ensures.put c.finish.ensures.extends n b
+    let all = also _ _ _ (lexed_stays (λ l. SpellsInto l c.args.token c.args.reader.now.at c.args.into)) (step_of _ _ before) (also _ _ _ (λ a z m. covered_stays a z m) covered (also _ _ _ (front_stays c.head.new.reader.at c.closure_front-closure.new.reader.at closed.captures closed.parameter) (step_of _ _ front) rest)) in
+    stmt_read _ _ _ (stmt_of c.args.reader.now c.statements.new.reader (λ a x. swift.enclosed x.0 x.1.0 x.1.1.0 x.1.1.1) all) c.finish.ensures.put c.finish.ensures.extends n b
 
 pub tested-returns-then-takes_key-clause-spelled : goal.tested-returns-then-takes_key-clause-spelled
 tested-returns-then-takes_key-clause-spelled t c =

@@ -1,7 +1,7 @@
 use Rattle.std.proofs.Common.{IsNone, false, subst}
 use Rattle.swift_syntax.specs.ReadersInside.{IsStmtPut}
-use Rattle.swift_syntax.specs.StatementsInside.{SpellsAnnotation}
-use Rattle.swift_syntax.specs.StatementsInside as swift
+use Rattle.swift_syntax.specs.Statements.{SpellsAnnotation}
+use Rattle.swift_syntax.specs.Statements as swift
 use Rattle.swift_syntax.specs.declared.sign.Sign.TheVariants as sign
 use Rattle.swift_syntax.specs.declared.tree.StmtForm.TheVariants as form
 use Rattle.swift_syntax.specs.declared.word.Word.TheVariants as word

@@ -1,7 +1,7 @@
 use Rattle.std.proofs.Common.{◌≡◌, ◌∙◌, Some, codes, rules, subst, sym}
 use Rattle.swift_syntax.specs.Expressions.{after, kind_at}
-use Rattle.swift_syntax.specs.StatementsInside.{SpellsTarget, assigning_in}
-use Rattle.swift_syntax.specs.StatementsInside as swift
+use Rattle.swift_syntax.specs.Statements.{SpellsTarget, assigning_in}
+use Rattle.swift_syntax.specs.Statements as swift
 use Rattle.swift_syntax.specs.declared.sign.Sign.TheVariants as sign
 use Rattle.swift_syntax.proofs.Grown.{grows_same}
 use Rattle.swift_syntax.proofs.Statements.{lexed_stays}

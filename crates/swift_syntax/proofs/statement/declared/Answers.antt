@@ -1,6 +1,6 @@
 use Rattle.std.proofs.Common.{[], refl}
-use Rattle.swift_syntax.specs.StatementsInside.{SpellsDeclared, a_key}
-use Rattle.swift_syntax.specs.StatementsInside as swift
+use Rattle.swift_syntax.specs.Statements.{SpellsDeclared, a_key}
+use Rattle.swift_syntax.specs.Statements as swift
 use Rattle.swift_syntax.specs.declared.word.Word.TheVariants as word
 use Rattle.swift_syntax.proofs.Grown.{grows_same}
 use Rattle.swift_syntax.proofs.Steps.{row_then, rows, takes_one, took_call, took_key, took_same}

@@ -1,7 +1,7 @@
 use Rattle.std.proofs.Common.{[], subst, sym}
 use Rattle.swift_syntax.specs.ReadersInside.{lexed_of}
-use Rattle.swift_syntax.specs.StatementsInside.{SpellsAnnotation, SpellsDeclared}
-use Rattle.swift_syntax.specs.StatementsInside as swift
+use Rattle.swift_syntax.specs.Statements.{SpellsAnnotation, SpellsDeclared}
+use Rattle.swift_syntax.specs.Statements as swift
 use Rattle.swift_syntax.specs.declared.sign.Sign.TheVariants as sign
 use Rattle.swift_syntax.proofs.Statements.{lexed_stays}
 use Rattle.swift_syntax.proofs.Steps.{row_then, rows, then, took_call, took_name, took_same, took_sign}

@@ -1,6 +1,6 @@
 use Rattle.std.proofs.Common.{[], codes, refl}
 use Rattle.std.proofs.lemmas.Bool.{false≢true}
-use Rattle.swift_syntax.specs.StatementsInside as swift
+use Rattle.swift_syntax.specs.Statements as swift
 use Rattle.swift_syntax.specs.declared.sign.Sign.TheVariants as sign
 use Rattle.swift_syntax.proofs.Steps.{rows, took_name, took_same, took_sign, took_word}
 use Rattle.swift_syntax.proofs.statement.into_of.Goals as goal

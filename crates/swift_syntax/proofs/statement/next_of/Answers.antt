@@ -1,7 +1,7 @@
 use Rattle.std.proofs.Common.{ℕ, [], codes, subst, sym}
 use Rattle.swift_syntax.specs.ReadersInside.{lexed_of}
-use Rattle.swift_syntax.specs.StatementsInside.{SpellsNext, SpellsPerhaps}
-use Rattle.swift_syntax.specs.StatementsInside as swift
+use Rattle.swift_syntax.specs.Statements.{SpellsNext, SpellsPerhaps}
+use Rattle.swift_syntax.specs.Statements as swift
 use Rattle.swift_syntax.specs.declared.sign.Sign.TheVariants as sign
 use Rattle.swift_syntax.specs.declared.word.Word.TheVariants as word
 use Rattle.swift_syntax.proofs.Statements.{lexed_stays}

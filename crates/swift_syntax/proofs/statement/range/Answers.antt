@@ -1,6 +1,6 @@
 use Rattle.std.proofs.Common.{refl, []}
-use Rattle.swift_syntax.specs.StatementsInside as swift
-use Rattle.swift_syntax.specs.StatementsInside.{a_sign}
+use Rattle.swift_syntax.specs.Statements as swift
+use Rattle.swift_syntax.specs.Statements.{a_sign}
 use Rattle.swift_syntax.specs.declared.sign.Sign.TheVariants as sign
 use Rattle.swift_syntax.proofs.Grown.{grows_same}
 use Rattle.swift_syntax.proofs.Steps.{rows, takes_one, took_same, took_sign}

@@ -1,6 +1,6 @@
 use Rattle.std.proofs.Common.{refl}
-use Rattle.swift_syntax.specs.StatementsInside as swift
-use Rattle.swift_syntax.specs.StatementsInside.{a_key, a_sign}
+use Rattle.swift_syntax.specs.Statements as swift
+use Rattle.swift_syntax.specs.Statements.{a_key, a_sign}
 use Rattle.swift_syntax.specs.declared.sign.Sign.TheVariants as sign
 use Rattle.swift_syntax.specs.declared.word.Word.TheVariants as word
 use Rattle.swift_syntax.proofs.statement.target.Goals as goal

@@ -1,4 +1,4 @@
-use Rattle.swift_syntax.specs.StatementsInside as swift
+use Rattle.swift_syntax.specs.Statements as swift
 use Rattle.swift_syntax.specs.declared.word.Word.TheVariants as word
 use Rattle.swift_syntax.proofs.Grown.{extends_of, extends_on}
 use Rattle.swift_syntax.proofs.Steps.{line_stays, row_on, row_then, stmt_read, then, took_expr, took_key, took_line, took_stmt}

@@ -1,7 +1,7 @@
 use Rattle.std.proofs.Common.{refl, []}
 use Rattle.std.proofs.lemmas.Bool.{false≢true}
-use Rattle.swift_syntax.specs.StatementsInside.{SpellsType, a_sign}
-use Rattle.swift_syntax.specs.StatementsInside as swift
+use Rattle.swift_syntax.specs.Statements.{SpellsType, a_sign}
+use Rattle.swift_syntax.specs.Statements as swift
 use Rattle.swift_syntax.specs.declared.sign.Sign.TheVariants as sign
 use Rattle.swift_syntax.proofs.Steps.{row_then, takes_one, took_lexed}
 use Rattle.swift_syntax.proofs.reader.Reader.annotation.Goals as goal

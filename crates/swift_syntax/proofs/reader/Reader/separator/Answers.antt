@@ -1,7 +1,7 @@
 use Rattle.std.proofs.Common.{refl, sym, ap, ◌∙◌, []}
 use Rattle.swift_syntax.specs.ReadersInside.{lexed_of}
-use Rattle.swift_syntax.specs.StatementsInside.{Separates, a_sign}
-use Rattle.swift_syntax.specs.StatementsInside as swift
+use Rattle.swift_syntax.specs.Statements.{Separates, a_sign}
+use Rattle.swift_syntax.specs.Statements as swift
 use Rattle.swift_syntax.specs.declared.sign.Sign.TheVariants as sign
 use Rattle.swift_syntax.proofs.Steps.{takes_one}
 use Rattle.swift_syntax.proofs.reader.Reader.separator.Goals.{then-next-via-then-next, then-next-via-else-next+then-is_sign}

@@ -1,6 +1,6 @@
 use Rattle.std.proofs.Common.{refl, sym, codes, []}
-use Rattle.swift_syntax.specs.StatementsInside.{a_sign, the_word}
-use Rattle.swift_syntax.specs.StatementsInside as swift
+use Rattle.swift_syntax.specs.Statements.{a_sign, the_word}
+use Rattle.swift_syntax.specs.Statements as swift
 use Rattle.swift_syntax.specs.declared.sign.Sign.TheVariants as sign
 use Rattle.swift_syntax.proofs.Steps.{rows, takes_one, took_sign}
 use Rattle.swift_syntax.proofs.reader.Reader.value_type.Goals as goal

@@ -1,8 +1,7 @@
--- Which tokens spell which statement and which block of a tree. Of a call, its arguments are left aside, and of a closure the table of the
--- names in its list. (Own.)
+-- Which tokens spell which statement and which block of a tree. (Own.)
 use Rattle.std.specs.Prelude.{ℕ, ◌≡◌, ◌≢◌, ◌<◌, Bool, true, false, ◌&&◌, bytes_eq, codes, length, List, [], ◌∷◌, nat_le, Option, Some, None}
 use Rattle.std.specs.List.{slice_get, slice_range}
-use Rattle.swift_syntax.specs.Expressions.{Reads, SpellsExpr, SpellsOperands, after, kind_at, token_at}
+use Rattle.swift_syntax.specs.Expressions.{Reads, Table, SpellsExpr, SpellsOperands, after, kind_at, token_at}
 use Rattle.swift_syntax.specs.declared.closure.ClosureHead.{ClosureHead}
 use Rattle.swift_syntax.specs.declared.closure.HeadForm.{HeadForm}
 use Rattle.swift_syntax.specs.declared.closure.HeadForm.TheVariants as head
@@ -13,7 +12,6 @@ use Rattle.swift_syntax.specs.declared.token.TokenKind.{TokenKind}
 use Rattle.swift_syntax.specs.declared.token.TokenKind.TheVariants as kind
 use Rattle.swift_syntax.specs.declared.tree.Assigning.{Assigning}
 use Rattle.swift_syntax.specs.declared.tree.Assigning.TheVariants as assigning
-use Rattle.swift_syntax.specs.declared.tree.Expr.{Expr}
 use Rattle.swift_syntax.specs.declared.tree.ExprForm.TheVariants as expr
 use Rattle.swift_syntax.specs.declared.tree.Into.{Into}
 use Rattle.swift_syntax.specs.declared.tree.Into.TheVariants as into
@@ -33,7 +31,7 @@ pub record Lexed : Type 0 where
 -- A text with its tokens, and the expressions and statements that were read of it.
 pub record Source : Type 0 where
   pub lexed : Lexed
-  pub exprs : List Expr
+  pub table : Table
   pub stmts : List Stmt
 
 -- whether a token is a name of these bytes
@@ -145,15 +143,21 @@ pub data SpellsPriority (l : Lexed) : ℕ → ℕ → ℕ → Type 0 where
   of_priority : {i j k : ℕ} → Row l (a_sign sign.Open ∷ the_word (codes "priority") ∷ a_sign sign.Colon ∷ a_sign sign.Dot ∷ []) i j → Row l (a_name ∷ a_sign sign.Close ∷ []) j k → SpellsPriority l i k j
 
 -- Names with commas between them, and `] in`.
-pub data SpellsNames (l : Lexed) : ℕ → ℕ → Type 0 where
-  last_name : {i j : ℕ} → Row l (a_name ∷ a_sign sign.CloseBracket ∷ a_key word.In ∷ []) i j → SpellsNames l i j
-  one_name : {i j k : ℕ} → Row l (a_name ∷ a_sign sign.Comma ∷ []) i j → SpellsNames l j k → SpellsNames l i k
+pub data SpellsNames (l : Lexed) : ℕ → ℕ → List ℕ → Type 0 where
+  last_name : {i j : ℕ} → Row l (a_name ∷ a_sign sign.CloseBracket ∷ a_key word.In ∷ []) i j → SpellsNames l i j (i ∷ [])
+  one_name : {i j k : ℕ} {names : List ℕ} → Row l (a_name ∷ a_sign sign.Comma ∷ []) i j → SpellsNames l j k names → SpellsNames l i k (i ∷ names)
 
--- The brace of a closure, on the line of what stands before it, with its list of names or its parameter; that one's token, or 0.
-pub data SpellsFront (l : Lexed) : ℕ → ℕ → ℕ → Type 0 where
-  listed : {i j k : ℕ} → begins_line l i ≡ false → Row l (a_sign sign.OpenBrace ∷ a_sign sign.OpenBracket ∷ []) i j → SpellsNames l j k → SpellsFront l i k 0
-  with_parameter : {i j k : ℕ} → begins_line l i ≡ false → Row l (a_sign sign.OpenBrace ∷ []) i j → Row l (a_name ∷ a_key word.In ∷ []) j k → SpellsFront l i k j
-  without : {i j : ℕ} → begins_line l i ≡ false → Row l (a_sign sign.OpenBrace ∷ []) i j → SpellsFront l i j 0
+-- The names of a list stand among the arguments from a place on, each with the place of the next one, and without a value.
+pub data NamesFrom (x : Table) : ℕ → List ℕ → Type 0 where
+  no_name : NamesFrom x 0 []
+  name_from : {p next name : ℕ} {names : List ℕ} → p ≢ 0 → slice_get x.arguments p ≡ Some (record { label = name; value = 0; next = next }) → NamesFrom x next names → NamesFrom x p (name ∷ names)
+
+-- The brace of a closure, on the line of what stands before it, with its list of names or its parameter: where the names of the list stand,
+-- and the parameter's token, each 0 where there is none.
+pub data SpellsFront (s : Source) : ℕ → ℕ → ℕ → ℕ → Type 0 where
+  listed : {i j k first : ℕ} {names : List ℕ} → begins_line s.lexed i ≡ false → Row s.lexed (a_sign sign.OpenBrace ∷ a_sign sign.OpenBracket ∷ []) i j → SpellsNames s.lexed j k names → NamesFrom s.table first names → SpellsFront s i k first 0
+  with_parameter : {i j k : ℕ} → begins_line s.lexed i ≡ false → Row s.lexed (a_sign sign.OpenBrace ∷ []) i j → Row s.lexed (a_name ∷ a_key word.In ∷ []) j k → SpellsFront s i k 0 j
+  without : {i j : ℕ} → begins_line s.lexed i ≡ false → Row s.lexed (a_sign sign.OpenBrace ∷ []) i j → SpellsFront s i j 0 0
 
 -- The type of the results of a group, in parentheses.
 pub data SpellsGroup (l : Lexed) : ℕ → ℕ → ValueType → Type 0 where
@@ -174,16 +178,16 @@ closed_token h own_token parameter = own_token
 
 -- The tokens from a place up to another one spell the expression at a place of the table.
 abbrev pub IsExpr : Source → ℕ → ℕ → ℕ → Type 0
-IsExpr s i j p = Reads (SpellsExpr s.lexed.tokens) s.exprs i j p
+IsExpr s i j p = Reads (SpellsExpr s.lexed.tokens) s.table i j p
 
 -- The same of a sum, at an end of a range.
 abbrev pub IsSum : Source → ℕ → ℕ → ℕ → Type 0
-IsSum s i j p = Reads (SpellsOperands s.lexed.tokens 4) s.exprs i j p
+IsSum s i j p = Reads (SpellsOperands s.lexed.tokens 4) s.table i j p
 
 -- Expressions with commas between them, up to one of these.
 pub data SpellsTests (s : Source) : ℕ → ℕ → ℕ → Type 0 where
   one_test : {i j p : ℕ} → IsExpr s i j p → SpellsTests s i j p
-  next_test : {i j k m p q r : ℕ} → SpellsTests s i j p → Row s.lexed (a_sign sign.Comma ∷ []) j k → IsExpr s k m q → slice_get s.exprs r ≡ Some (record { form = expr.Both p q; token = j }) → SpellsTests s i m r
+  next_test : {i j k m p q r : ℕ} → SpellsTests s i j p → Row s.lexed (a_sign sign.Comma ∷ []) j k → IsExpr s k m q → slice_get s.table.exprs r ≡ Some (record { form = expr.Both p q; token = j }) → SpellsTests s i m r
 
 -- What stands between `if`, `guard` or `while` and its block: all of them.
 abbrev pub IsTest : Source → ℕ → ℕ → ℕ → Type 0
@@ -208,7 +212,7 @@ mutual
   -- A statement of a form, with the token that it is told by, and with `await` and `try` before its closure where the flags say so.
   pub data SpellsStmt (s : Source) : ℕ → ℕ → StmtForm → ℕ → Bool → Bool → Type 0 where
     valued : {i j k v : ℕ} {x : Into} → SpellsInto s.lexed i j x → IsExpr s j k v → SpellsStmt s i k (form.Value x v) (token_of x i) false false
-    enclosed : (captures : ℕ) {i j k m n parameter body : ℕ} {x : Into} {h : ClosureHead} → SpellsInto s.lexed i j x → SpellsCovered s j k h → SpellsFront s.lexed k m parameter → SpellsRest s m n body → SpellsStmt s i n (closed_form h.form x captures body) (closed_token h.form h.token parameter) h.is_awaited h.is_tried
+    enclosed : {i j k m n captures parameter body : ℕ} {x : Into} {h : ClosureHead} → SpellsInto s.lexed i j x → SpellsCovered s j k h → SpellsFront s k m captures parameter → SpellsRest s m n body → SpellsStmt s i n (closed_form h.form x captures body) (closed_token h.form h.token parameter) h.is_awaited h.is_tried
     assigned : {i j k m n v : ℕ} {own : Bool} {how : Assigning} → SpellsTarget s.lexed i j own → Row s.lexed (a_name ∷ []) j k → assigning_in (kind_at s.lexed.tokens k) ≡ Some how → after k ≡ m → IsExpr s m n v → SpellsStmt s i n (form.Assign how own v) j false false
     toggled : {i j k : ℕ} {own : Bool} → SpellsTarget s.lexed i j own → Row s.lexed (a_name ∷ a_sign sign.Dot ∷ the_word (codes "toggle") ∷ a_sign sign.Open ∷ a_sign sign.Close ∷ []) j k → SpellsStmt s i k (form.Toggle own) j false false
     returned : {i j : ℕ} → Row s.lexed (a_key word.Return ∷ []) i j → ends_return (kind_at s.lexed.tokens j) ≡ true → SpellsStmt s i j form.Return i false false

@@ -1,0 +1,46 @@
+use Rattle.std.proofs.Common.{[], ◌∷◌, ℕ, refl}
+use Rattle.swift_syntax.specs.Declarations.{Rows, SpellsLocal, SpellsLocals}
+use Rattle.swift_syntax.specs.Declarations as swift
+use Rattle.swift_syntax.specs.Statements.{Row, Separates, Source, a_sign}
+use Rattle.swift_syntax.specs.declared.sign.Sign.TheVariants as sign
+use Rattle.swift_syntax.proofs.DeclaredRows.{both_stay, goes_begins, goes_declared, goes_ends, goes_on, goes_took, local_stays, then_took, took_declares, took_then}
+use Rattle.swift_syntax.proofs.Grown.{grows_same}
+use Rattle.swift_syntax.proofs.Statements.{Stays, lexed_stays, row_stays}
+use Rattle.swift_syntax.proofs.Steps.{no_row, rows, takes_one, took_call, took_same, took_sign}
+use Rattle.swift_syntax.proofs.declaration.locals.Goals as goal
+
+pub loop-init : goal.loop-init
+loop-init c = goes_begins (λ s. SpellsLocals s c.args.of) c.args.reader.now
+
+pub loop-preserved-then-takes-2 : goal.loop-preserved-then-takes-2
+loop-preserved-then-takes-2 c =
+    let Q : Source → ℕ → ℕ → Rows → Rows → Type 0 = λ s. SpellsLocals s c.args.of in
+    let none = took_same c.loop.reader c.takes.new.self (λ m. c.if-takes.ensures.taken) (rw c.if-takes.ensures.taken (grows_same c.loop.reader)) in
+    let semicolon = takes_one c.takes.new.self c.takes-in-loop.new.self (a_sign sign.Semicolon) (c.if-takes-2.ensures.found.0 refl) c.if-takes-2.ensures.taken in
+    goes_on Q _ _ _ c.loop.invariant (goes_took Q _ _ (row_stays (a_sign sign.Semicolon ∷ []) c.loop.reader.at c.takes-in-loop.new.self.at) (rows _ _ _ none semicolon) (λ b k u v x d. swift.locals_blank x d))
+
+pub loop-preserved : goal.loop-preserved
+loop-preserved c =
+    let Q : Source → ℕ → ℕ → Rows → Rows → Type 0 = λ s. SpellsLocals s c.args.of in
+    let One : Source → ℕ → ℕ → Rows → Rows → Type 0 = λ s. SpellsLocal s c.args.of in
+    let Line : Source → ℕ → ℕ → Rows → Rows → Type 0 = λ s i j u v. Row s.lexed [] i c.takes-in-loop.new.self.at × One s c.takes-in-loop.new.self.at j u v in
+    let Both : Source → ℕ → ℕ → Rows → Rows → Type 0 = λ s i j u v. Line s i c.local.new.reader.at u v × Separates s.lexed c.local.new.reader.at j in
+    let none = took_same c.loop.reader c.takes.new.self (λ m. c.if-takes.ensures.taken) (rw c.if-takes.ensures.taken (grows_same c.loop.reader)) in
+    let other = took_same c.takes.new.self c.takes-in-loop.new.self (λ m. c.if-takes-2.ensures.taken) (rw c.if-takes-2.ensures.taken (grows_same c.takes.new.self)) in
+    let line = took_then c.loop.reader c.takes-in-loop.new.self c.local.new.reader One Line (row_stays [] c.loop.reader.at c.takes-in-loop.new.self.at) (rows _ _ _ none other) c.local.ensures (λ n a u v x d. (x, d)) in
+    let end = took_call c.local.new.reader c.separator.new.self Separates c.separator.ensures.spelled c.separator.ensures.grows in
+    let line_stays : (i j : ℕ) (u v : Rows) → Stays (λ a. Line a i j u v) = λ i j u v. both_stay (row_stays [] i c.takes-in-loop.new.self.at) (local_stays c.args.of c.takes-in-loop.new.self.at j u v) in
+    let turn = then_took c.loop.reader c.local.new.reader c.separator.new.self Line Both line_stays line end (λ a u v q p. (q, p)) in
+    goes_on Q _ _ _ c.loop.invariant (goes_declared Q Both _ _ (λ i j u v. both_stay (line_stays i c.local.new.reader.at u v) (lexed_stays (λ l. Separates l c.local.new.reader.at j))) turn (λ b k u v w x d. rw (no_row b.lexed x.0.0) (swift.locals_more x.0.1 x.1 d)))
+
+pub returns-then-takes : goal.returns-then-takes
+returns-then-takes c =
+    let Q : Source → ℕ → ℕ → Rows → Rows → Type 0 = λ s. SpellsLocals s c.args.of in
+    let brace = takes_one c.loop.reader c.takes.new.self (a_sign sign.CloseBrace) (c.if-takes.ensures.found.0 refl) c.if-takes.ensures.taken in
+    goes_ends Q _ _ _ c.loop.invariant (took_declares _ _ Q brace (λ a u x. swift.locals_end x))
+
+pub returns : goal.returns
+returns c =
+    let Q : Source → ℕ → ℕ → Rows → Rows → Type 0 = λ s. SpellsLocals s c.args.of in
+    let brace = took_sign c.loop.reader c.sign.new.self sign.CloseBrace c.sign.ensures.taken c.sign.ensures.grows in
+    goes_ends Q _ _ _ c.loop.invariant (took_declares _ _ Q brace (λ a u x. swift.locals_end x))
