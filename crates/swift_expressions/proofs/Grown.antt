@@ -14,7 +14,7 @@ use Rattle.swift_expressions.specs.declared.code.Wait.{Wait}
 use Rattle.swift_expressions.specs.declared.operands.Operands.{Operands}
 use Rattle.swift_expressions.specs.declared.scope.Binding.{Binding}
 use Rattle.swift_expressions.specs.declared.typed.Typed.{Typed}
-use Rattle.swift_expressions.specs.Lowered.{Calls, CallsOwn, Grows, Hands, HandsIf, IsLeaf, Keeps, KeepsIf, Lowers, Means, Names, Waits, checked, counted, counted_child, open_shortcut, slept, used, with_child_test, with_open_test, yielding}
+use Rattle.swift_expressions.specs.Lowered.{Calls, CallsOwn, Grows, Hands, HandsIf, IsLeaf, Keeps, KeepsIf, Lowers, Means, Names, ReadsOther, Waits, checked, counted, counted_child, field_kind, open_shortcut, slept, used, with_child_test, with_open_test, yielding}
 use Rattle.swift_expressions.specs.Lowered as lowered
 use Rattle.swift_expressions.specs.States.{Gives, State, covered, fault_of, is_fault, put, with_target, with_temporary, with_value}
 
@@ -101,21 +101,29 @@ either P false p q = q
 child_counts : (b : Binding) {s t : State} → Grows s t → Grows s (counted_child b t)
 child_counts b {s} {t} g = either (Grows s) (b.count == b.variable) g (counts operators.Minus b.count g)
 
-names_grow : {s t : State} {found : Typed} → Names s t found → Grows s t
-names_grow (lowered.read is g) = gives_grow g
-names_grow {s} (lowered.field {kind = kind} instance field g) = waits_grow _ kind g
-names_grow {s} (lowered.task {b = b} place b2 at g) = on (yields b2 (uses place (stays s))) (waits_grow _ b.kind g)
+others_grow : {s : State} {instance token : ℕ} {t : State} {found : Typed} → ReadsOther s instance token t found → Grows s t
+others_grow {s} (lowered.changing field is at changes g) = waits_grow _ (field_kind s field) g
+others_grow (lowered.fixed field is at stays_so begins g) = gives_grow g
+
+names_grow : {s : State} {token : ℕ} {t : State} {found : Typed} {f : ExprForm} → Names s token t found f → Grows s t
+names_grow (lowered.own_field is g) = gives_grow g
+names_grow (lowered.at_end ends is of_actor g) = gives_grow g
+names_grow {s} (lowered.task {b = b} place b2 turn is at is_task spelled g) = on (yields b2 (uses place (stays s))) (waits_grow _ b.kind g)
+names_grow (lowered.cancelled turn free is spelled g) = gives_grow g
+names_grow (lowered.urgency turn free is spelled g) = gives_grow g
+names_grow (lowered.local turn global is g) = gives_grow g
+names_grow (lowered.another turn global other is g) = others_grow g
 
 means_grow : {s : State} {token : ℕ} {t : State} {found : Typed} → Means s token t found → Grows s t
 means_grow (lowered.a_value place is at holds g) = gives_grow g
 means_grow {s} (lowered.a_child {b = b} place is at child g e) = on (on (uses place (stays s)) (waits_grow _ b.kind g)) (to e (child_counts b (stays _)))
 means_grow (lowered.a_field place free is g) = gives_grow g
-means_grow (lowered.a_constant place number free none is g) = gives_grow g
+means_grow (lowered.a_constant place free other is g) = gives_grow g
 
 leaf_grows : {s : State} {token : ℕ} {f : ExprForm} {t : State} {found : Typed} → IsLeaf s token f t found → Grows s t
 leaf_grows (lowered.number g) = gives_grow g
 leaf_grows (lowered.truth g) = gives_grow g
-leaf_grows (lowered.priority g) = gives_grow g
+leaf_grows (lowered.priority p is g) = gives_grow g
 leaf_grows (lowered.name g) = means_grow g
 leaf_grows (lowered.own_member g) = names_grow g
 leaf_grows (lowered.member g) = names_grow g
@@ -163,7 +171,7 @@ mutual
   -- what an expression puts stands behind what was put before it
   pub lowers_grow : {s t : State} {p : ℕ} {found : Typed} → Lowers s p t found → Grows s t
   lowers_grow (lowered.leaf l) = leaf_grows l
-  lowers_grow (lowered.call what e h c) = on (hands_if_grow h) (calls_grow c)
+  lowers_grow (lowered.call what e is h c) = on (hands_if_grow h) (calls_grow c)
   lowers_grow (lowered.negated e h g) = on (lowers_grow h) (gives_grow g)
   lowers_grow (lowered.inverted e h g) = on (lowers_grow h) (gives_grow g)
   lowers_grow (lowered.binary kept e c h k i g) = on (on (on (lowers_grow h) (keeps_if_grow k)) (lowers_grow i)) (gives_grow g)

@@ -3,13 +3,15 @@ use Rattle.std.proofs.Common.{◌≡◌, ◌<◌, ◌≤◌, ◌+◌, ℕ, Bool,
 use Rattle.std.proofs.lemmas.Option.{none-some, same_Some, slice_get_within}
 use borrow.Author.Count.{below_more}
 use Rattle.std.specs.List.{slice_get}
+use Rattle.swift_syntax.specs.declared.tree.ActorDecl.{ActorDecl}
 use Rattle.swift_syntax.specs.declared.tree.ConstantDecl.{ConstantDecl}
 use Rattle.swift_syntax.specs.declared.tree.FieldDecl.{FieldDecl}
+use Rattle.swift_syntax.specs.declared.tree.InstanceDecl.{InstanceDecl}
 use Rattle.swift_expressions.specs.declared.scope.Binding.{Binding}
 use Rattle.swift_expressions.specs.declared.scope.Standing.{Standing}
 use Rattle.swift_expressions.specs.declared.scope.Standing.TheVariants as standings
 use Rattle.swift_expressions.specs.Lowered.{holds_value}
-use Rattle.swift_expressions.specs.Scopes.{IsConstantAt, IsFieldAt, IsFirst, IsFree, IsInnermost, IsNamedAt}
+use Rattle.swift_expressions.specs.Scopes.{IsActorAt, IsConstantAt, IsFieldAt, IsFirst, IsFree, IsInnermost, IsInstanceAt, IsLocalAt, IsMethodAt, IsNamedAt}
 use Rattle.swift_expressions.specs.States.{State, bytes_at}
 
 -- whether a name stands at a place, by what is read there
@@ -55,6 +57,18 @@ no_field e f = none-some f.field (sym e ∙ f.there)
 pub no_constant : {s : State} {token place : ℕ} → slice_get s.tree.constants.items place ≡ None → IsConstantAt s token place → ⊥
 no_constant e f = none-some f.constant (sym e ∙ f.there)
 
+pub no_method : {s : State} {actor token place : ℕ} → slice_get s.tree.methods.items place ≡ None → IsMethodAt s actor token place → ⊥
+no_method e m = none-some m.method (sym e ∙ m.there)
+
+pub no_instance : {s : State} {token place : ℕ} → slice_get s.tree.instances.items place ≡ None → IsInstanceAt s token place → ⊥
+no_instance e i = none-some i.instance (sym e ∙ i.there)
+
+pub no_local : {s : State} {of token place : ℕ} → slice_get s.tree.locals.items place ≡ None → IsLocalAt s of token place → ⊥
+no_local e l = none-some l.local (sym e ∙ l.there)
+
+pub no_actor : {s : State} {token place : ℕ} → slice_get s.tree.actors.items place ≡ None → IsActorAt s token place → ⊥
+no_actor e a = none-some a.actor (sym e ∙ a.there)
+
 pub constant_there : {R : Type 0} {s : State} {token place : ℕ} {d : ConstantDecl} → slice_get s.tree.constants.items place ≡ Some d → (R ↔ (bytes_at s d.name ≡ bytes_at s token)) → R ↔ IsConstantAt s token place
 constant_there {s = s} {d = d} e h = (λ r. record { constant = d; there = e; spelled = h.0 r }, λ n. h.1 (ap (λ (x : ConstantDecl). bytes_at s x.name) (same_Some d n.constant (sym e ∙ n.there)) ∙ n.spelled))
 
@@ -63,6 +77,24 @@ fields_end {s} le h place x = let lt = slice_get_within s.tree.fields.items plac
 
 pub constants_end : {s : State} {token n : ℕ} → length s.tree.constants.items ≤ n → ((place : ℕ) → place < n → IsConstantAt s token place → ⊥) → (place : ℕ) → IsConstantAt s token place → ⊥
 constants_end {s} le h place x = let lt = slice_get_within s.tree.constants.items place x.constant x.there in h place (omega (arith, le, lt)) x
+
+pub instance_there : {R : Type 0} {s : State} {token place : ℕ} {d : InstanceDecl} → slice_get s.tree.instances.items place ≡ Some d → (R ↔ (bytes_at s d.name ≡ bytes_at s token)) → R ↔ IsInstanceAt s token place
+instance_there {s = s} {d = d} e h = (λ r. record { instance = d; there = e; spelled = h.0 r }, λ n. h.1 (ap (λ (x : InstanceDecl). bytes_at s x.name) (same_Some d n.instance (sym e ∙ n.there)) ∙ n.spelled))
+
+pub actor_there : {R : Type 0} {s : State} {token place : ℕ} {d : ActorDecl} → slice_get s.tree.actors.items place ≡ Some d → (R ↔ (bytes_at s d.name ≡ bytes_at s token)) → R ↔ IsActorAt s token place
+actor_there {s = s} {d = d} e h = (λ r. record { actor = d; there = e; spelled = h.0 r }, λ n. h.1 (ap (λ (x : ActorDecl). bytes_at s x.name) (same_Some d n.actor (sym e ∙ n.there)) ∙ n.spelled))
+
+pub methods_end : {s : State} {actor token n : ℕ} → length s.tree.methods.items ≤ n → ((place : ℕ) → place < n → IsMethodAt s actor token place → ⊥) → (place : ℕ) → IsMethodAt s actor token place → ⊥
+methods_end {s} le h place x = let lt = slice_get_within s.tree.methods.items place x.method x.there in h place (omega (arith, le, lt)) x
+
+pub instances_end : {s : State} {token n : ℕ} → length s.tree.instances.items ≤ n → ((place : ℕ) → place < n → IsInstanceAt s token place → ⊥) → (place : ℕ) → IsInstanceAt s token place → ⊥
+instances_end {s} le h place x = let lt = slice_get_within s.tree.instances.items place x.instance x.there in h place (omega (arith, le, lt)) x
+
+pub locals_end : {s : State} {of token n : ℕ} → length s.tree.locals.items ≤ n → ((place : ℕ) → place < n → IsLocalAt s of token place → ⊥) → (place : ℕ) → IsLocalAt s of token place → ⊥
+locals_end {s} le h place x = let lt = slice_get_within s.tree.locals.items place x.local x.there in h place (omega (arith, le, lt)) x
+
+pub actors_end : {s : State} {token n : ℕ} → length s.tree.actors.items ≤ n → ((place : ℕ) → place < n → IsActorAt s token place → ⊥) → (place : ℕ) → IsActorAt s token place → ⊥
+actors_end {s} le h place x = let lt = slice_get_within s.tree.actors.items place x.actor x.there in h place (omega (arith, le, lt)) x
 
 -- what never changes, or may be assigned, is a value
 pub holds_where : {x : Standing} → (x ≡ standings.Constant) ⊎ (x ≡ standings.Variable) → holds_value x ≡ true

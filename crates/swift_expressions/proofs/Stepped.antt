@@ -1,6 +1,9 @@
 -- What functions on expressions put, from what they call.
 use Rattle.std.proofs.Common.{◌≡◌, ◌<◌, ◌≤◌, ◌+◌, ◌-◌, ℕ, Bool, Some, length, pos, w64, to_z, of_z, arith, true, false, refl, sym, subst, ◌∙◌}
 use Rattle.std.specs.Int.{from_bool}
+use Rattle.swift_types.specs.declared.priority.Priority.{Priority}
+use Rattle.swift_types.specs.declared.priority.Priority.TheVariants as priorities
+use Rattle.swift_types.specs.Priority.{rank}
 use Rattle.swift_syntax.specs.declared.tree.Argument.{Argument}
 use Rattle.swift_syntax.specs.declared.tree.Expr.{Expr}
 use Rattle.swift_syntax.specs.declared.tree.ExprForm.{ExprForm}
@@ -13,6 +16,7 @@ use Rattle.swift_expressions.specs.declared.code.Value.TheVariants as value
 use Rattle.swift_expressions.specs.declared.lowering.Fallback.{Fallback}
 use Rattle.swift_expressions.specs.declared.operands.Operands.{Operands}
 use Rattle.swift_expressions.specs.declared.typed.Typed.{Typed}
+use Rattle.swift_expressions.specs.Scopes.{IsCalled}
 use Rattle.swift_expressions.specs.States.{Gives, State, argument_at, expr_at, form_at, with_fallback, with_operand}
 use Rattle.swift_expressions.specs.Lowered as lowered
 use Rattle.swift_expressions.specs.Lowered.{Calls, Hands, HandsIf, IsLeaf, KeepsIf, Lowers, and_one, caught_by, close_shortcut, fallback_by, has_next, no_operands, number_of, takes_values}
@@ -64,9 +68,9 @@ pub hands_none : {n i : ℕ} {s : State} {p : ℕ} {found : Operands} → n ≤ 
 hands_none {n} {i} {s} {p} {found} le = let e : 0 ≡ n - i = omega arith in subst (λ m. Hands m s p found s found) e lowered.spent
 
 -- a call, from what is read of its name
-pub call_lowered : {s r t u : State} {p first token : ℕ} {receiver : Receiver} {given : Operands} {found : Typed} {takes : Bool} (what : Called) → form_at s p ≡ form.Call receiver first → token ≡ (expr_at s p).token → r ≡ s → takes ≡ takes_values what → HandsIf takes r first t given → Calls t given token u found what → Lowers s p u found
-call_lowered {s} {t = t} {u = u} {first = first} {given = given} {found = found} {takes = takes} what e named same values hands calls =
-    lowered.call what e (subst (λ b. HandsIf b s first t given) values (subst (λ x. HandsIf takes x first t given) same hands)) (subst (λ n. Calls t given n u found what) named calls)
+pub call_lowered : {s r t u : State} {p first token : ℕ} {receiver : Receiver} {given : Operands} {found : Typed} {takes : Bool} (what : Called) → form_at s p ≡ form.Call receiver first → token ≡ (expr_at s p).token → IsCalled s token receiver what → r ≡ s → takes ≡ takes_values what → HandsIf takes r first t given → Calls t given token u found what → Lowers s p u found
+call_lowered {s} {t = t} {u = u} {first = first} {receiver = receiver} {given = given} {found = found} {takes = takes} what e named is_called same values hands calls =
+    lowered.call what e (subst (λ n. IsCalled s n receiver what) named is_called) (subst (λ b. HandsIf b s first t given) values (subst (λ x. HandsIf takes x first t given) same hands)) (subst (λ n. Calls t given n u found what) named calls)
 
 -- an expression without parts, by what it is
 pub leaf_by : {s t : State} {token : ℕ} {f g : ExprForm} {found : Typed} → f ≡ g → IsLeaf s token f t found → IsLeaf s token g t found
@@ -88,3 +92,10 @@ handed_nothing {b} {s} {p} e is = subst (λ x. HandsIf b s p s x) (sym is) (hand
 pub number_of_truth : (b : Bool) → to_z w64 (of_z w64 (pos (from_bool b))) ≡ number_of b
 number_of_truth true = refl
 number_of_truth false = refl
+
+-- the number of a priority, as Rust has it
+pub number_of_rank : (p : Priority) → to_z w64 (of_z w64 (pos (rank p))) ≡ pos (rank p)
+number_of_rank priorities.Background = refl
+number_of_rank priorities.Low = refl
+number_of_rank priorities.Medium = refl
+number_of_rank priorities.High = refl

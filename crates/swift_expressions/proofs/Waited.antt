@@ -1,14 +1,16 @@
 -- What waits put, from what they call.
-use Rattle.std.proofs.Common.{◌≡◌, ℕ, Bool, Some, pos, sym, ap, subst, ◌∙◌}
+use Rattle.std.proofs.Common.{◌≡◌, ℕ, Bool, true, false, Some, pos, sym, ap, subst, ◌∙◌}
+use Rattle.std.specs.Prelude.{ℤ, codes}
 use Rattle.std.specs.List.{slice_get}
 use Rattle.swift_types.specs.declared.operator.Operator.TheVariants as operators
+use Rattle.swift_syntax.specs.declared.tree.ExprForm.TheVariants as form
+use Rattle.swift_syntax.specs.declared.tree.FieldDecl.{FieldDecl}
 use Rattle.swift_expressions.specs.declared.call.Called.TheVariants as callees
 use Rattle.swift_expressions.specs.declared.code.Instruction.TheVariants as instruction
 use Rattle.swift_expressions.specs.declared.code.Kind.{Kind}
 use Rattle.swift_expressions.specs.declared.code.Kind.TheVariants as kinds
 use Rattle.swift_expressions.specs.declared.code.Target.TheVariants.{Nothing}
 use Rattle.swift_expressions.specs.declared.code.TheConstants.{NONE}
-use Rattle.swift_expressions.specs.declared.code.Value.{Value}
 use Rattle.swift_expressions.specs.declared.code.Value.TheVariants as value
 use Rattle.swift_expressions.specs.declared.code.Wait.{Wait}
 use Rattle.swift_expressions.specs.declared.code.Wait.TheVariants as waiting
@@ -18,27 +20,37 @@ use Rattle.swift_expressions.specs.declared.scope.Binding.{Binding}
 use Rattle.swift_expressions.specs.declared.scope.Standing.TheVariants as standings
 use Rattle.swift_expressions.specs.declared.typed.Typed.{Typed}
 use Rattle.swift_expressions.specs.Lowered as lowered
-use Rattle.swift_expressions.specs.Lowered.{Calls, IsNamed, Means, Names, Waits, child_test, close_next, counted, counted_child, used, with_child_test, yielding}
-use Rattle.swift_expressions.specs.Scopes.{IsInnermost}
-use Rattle.swift_expressions.specs.States.{Gives, State, next_variable, put, with_fallback, with_temporary}
-use Rattle.swift_expressions.proofs.Stepped.{given_as, given_from}
+use Rattle.swift_expressions.specs.Lowered.{Calls, Means, Names, ReadsOther, Waits, child_test, close_next, constant_literal, counted, counted_child, field_kind, literal_kind, literal_number, used, with_child_test, yielding}
+use Rattle.swift_expressions.specs.Scopes.{IsFieldOf, IsInnermost}
+use Rattle.swift_expressions.specs.States.{Gives, State, bytes_at, next_variable, put, with_fallback, with_temporary}
+use Rattle.swift_expressions.proofs.Stepped.{given_as, given_from, given_kind}
 
 -- what is waited for from one state is from another one that is the same
 pub waits_from : {s r t : State} (what : Wait) {kind : Kind} {found : Typed} → r ≡ s → Waits r what kind t found → Waits s what kind t found
 waits_from {t = t} what {kind} {found} e h = subst (λ x. Waits x what kind t found) e h
 
 -- a name, from what is read of it
-pub value_named : {s r t : State} {v : Value} {kind : Kind} {found : Typed} → IsNamed v → r ≡ s → Gives r v kind t found → Names s t found
-value_named is e g = lowered.read is (given_from e g)
+pub reads_from : {s r t : State} {instance token : ℕ} {found : Typed} → r ≡ s → ReadsOther r instance token t found → ReadsOther s instance token t found
+reads_from {t = t} {instance = instance} {token = token} {found = found} e h = subst (λ x. ReadsOther x instance token t found) e h
 
-pub names_from : {s r t : State} {found : Typed} → r ≡ s → Names r t found → Names s t found
-names_from {t = t} {found = found} e h = subst (λ x. Names x t found) e h
+-- a field of an instance that may change
+pub other_changing : {s r t : State} {instance token field : ℕ} {d : FieldDecl} {kind : Kind} {found : Typed} → IsFieldOf s instance token field → slice_get s.tree.fields.items field ≡ Some d → d.is_var ≡ true → r ≡ s → kind ≡ field_kind s field → Waits r (waiting.Getter instance field) kind t found → ReadsOther s instance token t found
+other_changing {s} {t = t} {instance = instance} {field = field} {found = found} is at changes e k h = lowered.changing field is at changes (subst (λ x. Waits s (waiting.Getter instance field) x t found) k (waits_from (waiting.Getter instance field) e h))
 
-pub field_named : {s r t : State} (instance field : ℕ) {kind : Kind} {found : Typed} → r ≡ s → Waits r (waiting.Getter instance field) kind t found → Names s t found
-field_named instance field e h = lowered.field instance field (waits_from (waiting.Getter instance field) e h)
+pub task_named : {s r q v t : State} (place : ℕ) {of token : ℕ} {b : Binding} {found : Typed} → s.is_expectation ≡ false → IsInnermost s of place → slice_get s.scope place ≡ Some b → b.standing ≡ standings.Task → bytes_at s token ≡ codes "value" → r ≡ s → q ≡ used place r → (yields : Bool) × (v ≡ yielding yields q) → Waits v (waiting.Task b.variable) b.kind t found → Names s token t found (form.Member of)
+task_named place {b = b} turn is_innermost at is_task spelled e is y h = lowered.task place y.0 turn is_innermost at is_task spelled (waits_from (waiting.Task b.variable) (y.1 ∙ ap (yielding y.0) (is ∙ ap (used place) e)) h)
 
-pub task_named : {s r q v t : State} (place : ℕ) {b : Binding} {found : Typed} → slice_get s.scope place ≡ Some b → r ≡ s → q ≡ used place r → (yields : Bool) × (v ≡ yielding yields q) → Waits v (waiting.Task b.variable) b.kind t found → Names s t found
-task_named place {b} at e is y h = lowered.task place y.0 at (waits_from (waiting.Task b.variable) (y.1 ∙ ap (yielding y.0) (is ∙ ap (used place) e)) h)
+-- the number of a literal
+pub number_given : {s r u : State} (place : ℕ) {n : ℤ} {kind : Kind} {found : Typed} → r ≡ s → n ≡ literal_number s place → kind ≡ literal_kind s place → Gives r (value.Number n) kind u found → Gives s (value.Number (literal_number s place)) (literal_kind s place) u found
+number_given place e is k g = given_kind k (given_as (ap value.Number is) (given_from e g))
+
+-- the number of a constant, from what is read of the same state
+pub constant_given : {s r q u : State} (place : ℕ) {at : ℕ} {n : ℤ} {kind : Kind} {found : Typed} → r ≡ s → at ≡ constant_literal r place → q ≡ r → n ≡ literal_number r at → kind ≡ literal_kind r at → Gives q (value.Number n) kind u found → Gives s (value.Number (literal_number s (constant_literal s place))) (literal_kind s (constant_literal s place)) u found
+constant_given {s} place {at} {n} {kind} e is same is_number is_kind g =
+    let there : at ≡ constant_literal s place = is ∙ ap (λ x. constant_literal x place) e in
+    let numbers : n ≡ literal_number s (constant_literal s place) = is_number ∙ ap (λ x. literal_number x at) e ∙ ap (literal_number s) there in
+    let types : kind ≡ literal_kind s (constant_literal s place) = is_kind ∙ ap (λ x. literal_kind x at) e ∙ ap (literal_kind s) there in
+    number_given (constant_literal s place) (same ∙ e) numbers types g
 
 pub child_meant : {s r q u t : State} {token : ℕ} (place : ℕ) {b : Binding} {found : Typed} → IsInnermost s token place → slice_get s.scope place ≡ Some b → b.standing ≡ standings.Child → r ≡ s → q ≡ used place r → Waits q (waiting.Next b.variable) b.kind u found → t ≡ counted_child b u → Means s token t found
 child_meant place {b} is_innermost at is_child e is h counts = lowered.a_child place is_innermost at is_child (waits_from (waiting.Next b.variable) (is ∙ ap (used place) e) h) counts

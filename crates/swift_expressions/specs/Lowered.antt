@@ -1,12 +1,19 @@
 -- What an expression becomes: a value, and the instructions before it. What Swift computes first comes first. (Our own.)
-use Rattle.std.specs.Prelude.{ℕ, zero, ◌≡◌, ◌==◌, ◌++◌, Bool, true, false, not, ◌&&◌, ◌||◌, if◌then◌else◌, suc, ℤ, pos, List, length, Option, Some, None, slice_set}
+use Rattle.std.specs.Prelude.{ℕ, zero, ◌≡◌, ◌==◌, ◌++◌, Bool, true, false, not, ◌&&◌, ◌||◌, if◌then◌else◌, suc, ℤ, pos, neg_ℤ, int_lt, List, length, Option, Some, None, codes, slice_set}
 use Rattle.std.specs.List.{slice_get}
 use Rattle.swift_types.specs.declared.operator.Operator.{Operator}
 use Rattle.swift_types.specs.declared.operator.Operator.TheVariants as operators
+use Rattle.swift_types.specs.declared.priority.Priority.{Priority}
+use Rattle.swift_types.specs.Priority.{rank}
 use Rattle.swift_syntax.specs.Expressions.{after}
 use Rattle.swift_syntax.specs.declared.tree.Argument.{Argument}
+use Rattle.swift_syntax.specs.declared.tree.ConstantDecl.{ConstantDecl}
 use Rattle.swift_syntax.specs.declared.tree.ExprForm.{ExprForm}
 use Rattle.swift_syntax.specs.declared.tree.ExprForm.TheVariants as form
+use Rattle.swift_syntax.specs.declared.tree.FieldDecl.{FieldDecl}
+use Rattle.swift_syntax.specs.declared.tree.FieldStart.{FieldStart}
+use Rattle.swift_syntax.specs.declared.tree.FieldStart.TheVariants as starts
+use Rattle.swift_syntax.specs.declared.tree.LocalDecl.{LocalDecl}
 use Rattle.swift_syntax.specs.declared.tree.MethodDecl.{MethodDecl}
 use Rattle.swift_syntax.specs.declared.tree.Receiver.{Receiver}
 use Rattle.swift_syntax.specs.declared.tree.ValueType.{ValueType}
@@ -31,8 +38,8 @@ use Rattle.swift_expressions.specs.declared.scope.Binding.{Binding}
 use Rattle.swift_expressions.specs.declared.scope.Standing.{Standing}
 use Rattle.swift_expressions.specs.declared.scope.Standing.TheVariants as standings
 use Rattle.swift_expressions.specs.declared.typed.Typed.{Typed}
-use Rattle.swift_expressions.specs.Scopes.{IsConstantAt, IsFieldAt, IsFirst, IsFree, IsInnermost}
-use Rattle.swift_expressions.specs.States.{Gives, State, argument_at, covered, expr_at, fault_of, form_at, is_fault, next_value, next_variable, put, result_of, target_of, value_in, waited, with_fallback, with_operand, with_target, with_temporary, with_value}
+use Rattle.swift_expressions.specs.Scopes.{IsCalled, IsConstantAt, IsFieldAt, IsFieldOf, IsFirst, IsFree, IsGlobal, IsInnermost, IsInstanceAt, IsLocalAt, IsPriority}
+use Rattle.swift_expressions.specs.States.{Gives, State, argument_at, bytes_at, covered, expr_at, fault_of, form_at, is_fault, next_value, next_variable, put, result_of, target_of, value_in, waited, with_fallback, with_operand, with_target, with_temporary, with_value}
 
 -- whether an expression does something, by what it is; of its parts by themselves
 abbrev pub acts_by : (ℕ → Bool) → ExprForm → Bool
@@ -230,47 +237,111 @@ holds_value standings.Task = false
 holds_value standings.Group = false
 holds_value standings.Child = false
 
--- A name stands for a value that is read there and then, and needs no operation.
-abbrev pub IsNamed : Value → Type 0
-IsNamed (value.Number n) = Unit {0}
-IsNamed (value.Variable v) = Unit {0}
-IsNamed (value.Field f) = Unit {0}
-IsNamed (value.Member i f) = Unit {0}
-IsNamed (value.Local l) = Unit {0}
-IsNamed value.Priority = Unit {0}
-IsNamed value.Cancelled = Unit {0}
-IsNamed (value.Negate v) = ⊥
-IsNamed (value.Not v) = ⊥
-IsNamed (value.Binary o l r) = ⊥
-
--- What a member becomes: a value; a wait for the field of another actor, or for a task. For which one is not said here.
-pub data Names (s t : State) (found : Typed) : Type 0 where
-  read : {v : Value} {kind : Kind} → IsNamed v → Gives s v kind t found → Names s t found
-  field : {kind : Kind} (instance field : ℕ) → Waits s (waiting.Getter instance field) kind t found → Names s t found
-  task : {b : Binding} (place : ℕ) (yields : Bool) → slice_get s.scope place ≡ Some b → Waits (yielding yields (used place s)) (waiting.Task b.variable) b.kind t found → Names s t found
-
--- What a name becomes that stands alone. It means the innermost name in scope of its spelling: a value, or the child of an `async let`, which
--- is waited for. Where there is none it means the field of the own actor of that spelling; where that has none, a global constant, and
--- is a number then. Which number is not said.
-pub data Means (s : State) (token : ℕ) (t : State) (found : Typed) : Type 0 where
-  a_value : {b : Binding} (place : ℕ) → IsInnermost s token place → slice_get s.scope place ≡ Some b → holds_value b.standing ≡ true → Gives s (value.Variable b.variable) b.kind t found → Means s token t found
-  a_child : {b : Binding} {u : State} (place : ℕ) → IsInnermost s token place → slice_get s.scope place ≡ Some b → b.standing ≡ standings.Child → Waits (used place s) (waiting.Next b.variable) b.kind u found → t ≡ counted_child b u → Means s token t found
-  a_field : {kind : Kind} (place : ℕ) → IsFree s token → IsFirst (IsFieldAt s s.actor token) place → Gives s (value.Field place) kind t found → Means s token t found
-  a_constant : {kind : Kind} (place : ℕ) (number : ℤ) → IsFree s token → ((field : ℕ) → IsFieldAt s s.actor token field → ⊥) → IsFirst (IsConstantAt s token) place → Gives s (value.Number number) kind t found → Means s token t found
-
 -- the number of a truth value
 abbrev pub number_of : Bool → ℤ
 number_of true = pos 1
 number_of false = pos 0
 
+-- a number with its sign the other way round; the least one has none, and no token spells it: 0 stands for it
+abbrev pub opposite : ℤ → ℤ
+opposite n = if int_lt (neg_ℤ (pos 9223372036854775808)) n then neg_ℤ n else pos 0
+
+-- the number of what a `-` stands before; 0 where that is no number
+abbrev pub number_below : ExprForm → ℤ
+number_below (form.Number n) = opposite n
+number_below _ = pos 0
+
+-- the number of a literal, by what it is; 0 of what is none
+abbrev pub number_by : State → ExprForm → ℤ
+number_by s (form.Number n) = n
+number_by s (form.Truth b) = number_of b
+number_by s (form.Negate inner) = number_below (form_at s inner)
+number_by s _ = pos 0
+
+-- the type of a literal, by what it is
+abbrev pub kind_by_form : ExprForm → Kind
+kind_by_form (form.Truth b) = kinds.Bool
+kind_by_form _ = kinds.Int
+
+-- the number of the literal at a place
+abbrev pub literal_number : State → ℕ → ℤ
+literal_number s place = number_by s (form_at s place)
+
+-- its type
+abbrev pub literal_kind : State → ℕ → Kind
+literal_kind s place = kind_by_form (form_at s place)
+
+-- the type that a declaration gives, or else another one
+abbrev pub kind_or : Option ValueType → Kind → Kind
+kind_or (Some v) k = kind_in v
+kind_or None k = k
+
+-- the type of what a field begins with
+abbrev pub kind_at_start : State → FieldStart → Kind
+kind_at_start s (starts.Value place) = literal_kind s place
+kind_at_start s starts.None = kinds.Int
+
+-- the type of a field that was looked for
+abbrev pub kind_of_field : State → Option FieldDecl → Kind
+kind_of_field s (Some d) = kind_or d.value_type (kind_at_start s d.start)
+kind_of_field s None = kinds.Int
+
+-- the type of the field at a place: the one that it gives, or else that of its literal
+abbrev pub field_kind : State → ℕ → Kind
+field_kind s place = kind_of_field s (slice_get s.tree.fields.items place)
+
+-- the type of a task local that was looked for
+abbrev pub kind_of_local : State → Option LocalDecl → Kind
+kind_of_local s (Some d) = kind_or d.value_type (literal_kind s d.value)
+kind_of_local s None = kinds.Int
+
+-- the type of the task local at a place, as that of a field
+abbrev pub local_kind : State → ℕ → Kind
+local_kind s place = kind_of_local s (slice_get s.tree.locals.items place)
+
+-- the literal of a constant that was looked for
+abbrev pub literal_of : Option ConstantDecl → ℕ
+literal_of (Some d) = d.value
+literal_of None = 0
+
+-- the literal of the constant at a place
+abbrev pub constant_literal : State → ℕ → ℕ
+constant_literal s place = literal_of (slice_get s.tree.constants.items place)
+
+-- What a field of an instance becomes: a wait for what it is, or, where it never changes, the number that it begins with.
+pub data ReadsOther (s : State) (instance token : ℕ) (t : State) (found : Typed) : Type 0 where
+  changing : {d : FieldDecl} (field : ℕ) → IsFieldOf s instance token field → slice_get s.tree.fields.items field ≡ Some d → d.is_var ≡ true → Waits s (waiting.Getter instance field) (field_kind s field) t found → ReadsOther s instance token t found
+  fixed : {d : FieldDecl} {begins : ℕ} (field : ℕ) → IsFieldOf s instance token field → slice_get s.tree.fields.items field ≡ Some d → d.is_var ≡ false → d.start ≡ starts.Value begins → Gives s (value.Number (literal_number s begins)) (literal_kind s begins) t found → ReadsOther s instance token t found
+
+-- What a member becomes. `self.x`: the first field of the own actor of that spelling. `of.x` in an expectation: the field of an instance at the
+-- end. Elsewhere, where `of` is in scope: the value of that task, which is waited for; where it is not: what Swift's `Task` has, or the first
+-- such task local, or, where there is none, a field of an instance. Whether the turn ends before a task is waited for is not said here.
+pub data Names (s : State) (token : ℕ) (t : State) (found : Typed) : ExprForm → Type 0 where
+  own_field : {field : ℕ} → IsFirst (IsFieldAt s s.actor token) field → Gives s (value.Field field) (field_kind s field) t found → Names s token t found form.OwnMember
+  at_end : {of instance field : ℕ} → s.is_expectation ≡ true → IsFirst (IsInstanceAt s of) instance → IsFieldOf s instance token field → Gives s (value.Member instance field) (field_kind s field) t found → Names s token t found (form.Member of)
+  task : {of : ℕ} {b : Binding} (place : ℕ) (yields : Bool) → s.is_expectation ≡ false → IsInnermost s of place → slice_get s.scope place ≡ Some b → b.standing ≡ standings.Task → bytes_at s token ≡ codes "value" → Waits (yielding yields (used place s)) (waiting.Task b.variable) b.kind t found → Names s token t found (form.Member of)
+  cancelled : {of : ℕ} → s.is_expectation ≡ false → IsFree s of → bytes_at s of ≡ codes "Task" → bytes_at s token ≡ codes "isCancelled" → Gives s value.Cancelled kinds.Bool t found → Names s token t found (form.Member of)
+  urgency : {of : ℕ} → s.is_expectation ≡ false → IsFree s of → bytes_at s of ≡ codes "Task" → bytes_at s token ≡ codes "currentPriority" → Gives s value.Priority kinds.Urgency t found → Names s token t found (form.Member of)
+  local : {of place : ℕ} → s.is_expectation ≡ false → IsGlobal s of → IsFirst (IsLocalAt s of token) place → Gives s (value.Local place) (local_kind s place) t found → Names s token t found (form.Member of)
+  another : {of instance : ℕ} → s.is_expectation ≡ false → IsGlobal s of → ((place : ℕ) → IsLocalAt s of token place → ⊥) → IsFirst (IsInstanceAt s of) instance → ReadsOther s instance token t found → Names s token t found (form.Member of)
+
+-- What a name becomes that stands alone. It means the innermost name in scope of its spelling: a value, or the child of an `async let`, which
+-- is waited for. Where there is none it means the first field of the own actor of that spelling; where that has none, the first global
+-- constant, and is the number of its literal then.
+pub data Means (s : State) (token : ℕ) (t : State) (found : Typed) : Type 0 where
+  a_value : {b : Binding} (place : ℕ) → IsInnermost s token place → slice_get s.scope place ≡ Some b → holds_value b.standing ≡ true → Gives s (value.Variable b.variable) b.kind t found → Means s token t found
+  a_child : {b : Binding} {u : State} (place : ℕ) → IsInnermost s token place → slice_get s.scope place ≡ Some b → b.standing ≡ standings.Child → Waits (used place s) (waiting.Next b.variable) b.kind u found → t ≡ counted_child b u → Means s token t found
+  a_field : (place : ℕ) → IsFree s token → IsFirst (IsFieldAt s s.actor token) place → Gives s (value.Field place) (field_kind s place) t found → Means s token t found
+  a_constant : (place : ℕ) → IsFree s token → ((field : ℕ) → IsFieldAt s s.actor token field → ⊥) → IsFirst (IsConstantAt s token) place → Gives s (value.Number (literal_number s (constant_literal s place))) (literal_kind s (constant_literal s place)) t found → Means s token t found
+
 -- What an expression without parts becomes, which stands at a token.
 pub data IsLeaf (s : State) (token : ℕ) : ExprForm → State → Typed → Type 0 where
   number : {n : ℤ} {t : State} {found : Typed} → Gives s (value.Number n) kinds.Int t found → IsLeaf s token (form.Number n) t found
   truth : {b : Bool} {t : State} {found : Typed} → Gives s (value.Number (number_of b)) kinds.Bool t found → IsLeaf s token (form.Truth b) t found
-  priority : {n : ℤ} {t : State} {found : Typed} → Gives s (value.Number n) kinds.Urgency t found → IsLeaf s token form.Case t found
+  priority : {t : State} {found : Typed} (p : Priority) → IsPriority s token p → Gives s (value.Number (pos (rank p))) kinds.Urgency t found → IsLeaf s token form.Case t found
   name : {t : State} {found : Typed} → Means s token t found → IsLeaf s token form.Name t found
-  own_member : {t : State} {found : Typed} → Names s t found → IsLeaf s token form.OwnMember t found
-  member : {of : ℕ} {t : State} {found : Typed} → Names s t found → IsLeaf s token (form.Member of) t found
+  own_member : {t : State} {found : Typed} → Names s token t found form.OwnMember → IsLeaf s token form.OwnMember t found
+  member : {of : ℕ} {t : State} {found : Typed} → Names s token t found (form.Member of) → IsLeaf s token (form.Member of) t found
 
 -- `Task.sleep`: a turn ends, and a cancelled task ends with a fault, unless a `try?` covers it
 abbrev pub slept : State → State
@@ -322,10 +393,10 @@ takes_values (callees.WaitForAll place) = false
 takes_values (callees.Cancel variable) = false
 
 mutual
-  -- What the expression at a place becomes. A call: which method it names is not said here.
+  -- What the expression at a place becomes.
   pub data Lowers : State → ℕ → State → Typed → Type 0 where
     leaf : {s t : State} {p : ℕ} {found : Typed} → IsLeaf s (expr_at s p).token (form_at s p) t found → Lowers s p t found
-    call : {s t u : State} {p : ℕ} {receiver : Receiver} {first : ℕ} {given : Operands} {found : Typed} (what : Called) → form_at s p ≡ form.Call receiver first → HandsIf (takes_values what) s first t given → Calls t given (expr_at s p).token u found what → Lowers s p u found
+    call : {s t u : State} {p : ℕ} {receiver : Receiver} {first : ℕ} {given : Operands} {found : Typed} (what : Called) → form_at s p ≡ form.Call receiver first → IsCalled s (expr_at s p).token receiver what → HandsIf (takes_values what) s first t given → Calls t given (expr_at s p).token u found what → Lowers s p u found
     negated : {s t u : State} {p q : ℕ} {inner found : Typed} → form_at s p ≡ form.Negate q → Lowers s q t inner → Gives t (value.Negate inner.value) kinds.Int u found → Lowers s p u found
     inverted : {s t u : State} {p q : ℕ} {inner found : Typed} → form_at s p ≡ form.Not q → Lowers s q t inner → Gives t (value.Not inner.value) kinds.Bool u found → Lowers s p u found
     binary : {s t u v w : State} {p l r : ℕ} {o : Operator} {first second found : Typed} (kept : Typed) → form_at s p ≡ form.Binary o l r → is_cut_short s o r ≡ false → Lowers s l t first → KeepsIf (acts s r) t first u kept → Lowers u r v second → Gives v (value.Binary o kept.value second.value) (kind_by o kept.kind) w found → Lowers s p w found

@@ -1,9 +1,10 @@
 //! Calls of methods.
 
-ghost use Rattle.std.specs.Prelude.{◌≡◌, ◌≢◌, ℕ, Bool, IsNone, IsTrue, None, Some, pos};
+ghost use Rattle.std.specs.Prelude.{◌≡◌, ◌≢◌, ℕ, Bool, IsNone, IsSome, IsTrue, None, Some, codes, pos, slice_get};
 ghost use Rattle.swift_expressions.specs.Instructions.{IsHoisted, KeepsRefusal};
 ghost use Rattle.swift_expressions.specs.Lowered.{Calls, CallsOwn, checked, slept, takes_values, yielding};
-ghost use Rattle.swift_expressions.specs.States.{Becomes, Gives, put, state_of};
+ghost use Rattle.swift_expressions.specs.Scopes.{IsCalled, IsFree, IsInnermost};
+ghost use Rattle.swift_expressions.specs.States.{Becomes, Gives, bytes_at, put, state_of};
 ghost use Rattle.swift_expressions.specs.declared.call.Called.TheVariants as callees;
 
 use crate::code::{Instruction, Kind, NONE, Target, UnitKind, Value, Wait};
@@ -12,7 +13,7 @@ use crate::naming::{
     actor_of, function_named, instance_named, is_hidden, method_at, method_named, refuse_hidden,
 };
 use crate::operands::Operands;
-use crate::scope::{Standing, binding_at, find};
+use crate::scope::{Binding, Standing, binding_at, find};
 use crate::typed::{Typed, kind_of, refused, with_kind};
 use crate::waits::{
     group_next, wait, wait_for_all, want_await, want_await_where, want_try, want_try_where,
@@ -65,6 +66,7 @@ fn as_method(called: Called) -> Method
 
 // Nothing is called: a refusal is noted.
 fn unknown(lowering: &mut Lowering<'_>, rule: Rule, token: usize) -> Method
+    ensures noted { IsSome lowering.new.refused }
     ensures state { Becomes lowering.new (state_of lowering.old) }
     ensures known { IsNone lowering.new.refused → result.called ≢ callees.Nothing }
     ensures values { result.takes_operands ≡ takes_values result.called }
@@ -76,6 +78,7 @@ fn unknown(lowering: &mut Lowering<'_>, rule: Rule, token: usize) -> Method
 
 // A method of the own actor.
 fn own_method(lowering: &mut Lowering<'_>, token: usize) -> Method
+    ensures named { IsNone lowering.new.refused → IsCalled (state_of lowering.old) token Receiver.Own result.called }
     ensures state { Becomes lowering.new (state_of lowering.old) }
     ensures known { IsNone lowering.new.refused → result.called ≢ callees.Nothing }
     ensures values { result.takes_operands ≡ takes_values result.called }
@@ -93,19 +96,22 @@ fn own_method(lowering: &mut Lowering<'_>, token: usize) -> Method
 
 // A method of the own actor; else a function outside of actors, which it would hide.
 fn own_or_function(lowering: &mut Lowering<'_>, token: usize) -> Method
+    ensures named { IsNone lowering.new.refused → IsFree (state_of lowering.old) token → IsCalled (state_of lowering.old) token Receiver.Nobody result.called }
     ensures state { Becomes lowering.new (state_of lowering.old) }
     ensures known { IsNone lowering.new.refused → result.called ≢ callees.Nothing }
     ensures values { result.takes_operands ≡ takes_values result.called }
     ensures refused { KeepsRefusal lowering.old lowering.new }
 {
     let actor = lowering.setting.actor;
-    if method_named(lowering, actor, token).is_none() {
-        if let Some(place) = function_named(lowering, token) {
-            refuse_hidden(lowering, token);
-            return as_method(Called::Own(place));
-        }
+    if let Some(place) = method_named(lowering, actor, token) {
+        return as_method(Called::Own(place));
     }
-    own_method(lowering, token)
+    let Some(place) = function_named(lowering, token) else {
+        let rule = rule_of_unknown(lowering, token);
+        return unknown(lowering, rule, token);
+    };
+    refuse_hidden(lowering, token);
+    as_method(Called::Own(place))
 }
 
 // Why nothing of this name can be called.
@@ -127,6 +133,7 @@ fn rule_of_unknown(lowering: &Lowering<'_>, token: usize) -> Rule {
 
 // A method of the type `Task`.
 fn task_method(lowering: &mut Lowering<'_>, token: usize) -> Method
+    ensures named { IsNone lowering.new.refused → (of : ℕ) → IsFree (state_of lowering.old) of → bytes_at (state_of lowering.old) of ≡ codes "Task" → IsCalled (state_of lowering.old) token (Receiver.Named of) result.called }
     ensures state { Becomes lowering.new (state_of lowering.old) }
     ensures known { IsNone lowering.new.refused → result.called ≢ callees.Nothing }
     ensures values { result.takes_operands ≡ takes_values result.called }
@@ -144,8 +151,29 @@ fn task_method(lowering: &mut Lowering<'_>, token: usize) -> Method
     unknown(lowering, Rule::UnknownName, token)
 }
 
+// A method of the group at a place in scope.
+fn group_method(lowering: &mut Lowering<'_>, place: usize, found: Binding, token: usize) -> Method
+    ensures named { IsNone lowering.new.refused → (of : ℕ) → IsInnermost (state_of lowering.old) of place → slice_get lowering.old.scope.items place ≡ Some found → found.standing ≡ Standing.Group → IsCalled (state_of lowering.old) token (Receiver.Named of) result.called }
+    ensures state { Becomes lowering.new (state_of lowering.old) }
+    ensures known { IsNone lowering.new.refused → result.called ≢ callees.Nothing }
+    ensures values { result.takes_operands ≡ takes_values result.called }
+    ensures refused { KeepsRefusal lowering.old lowering.new }
+{
+    if lowering.spells(token, "next") {
+        return as_method(Called::Next(place));
+    }
+    if lowering.spells(token, "waitForAll") {
+        return as_method(Called::WaitForAll(place));
+    }
+    if lowering.spells(token, "cancelAll") {
+        return as_method(Called::Cancel(found.variable));
+    }
+    unknown(lowering, Rule::UnknownName, token)
+}
+
 // A method of the task or group at a place in scope.
 fn scope_method(lowering: &mut Lowering<'_>, place: usize, token: usize) -> Method
+    ensures named { IsNone lowering.new.refused → (of : ℕ) → IsInnermost (state_of lowering.old) of place → IsCalled (state_of lowering.old) token (Receiver.Named of) result.called }
     ensures state { Becomes lowering.new (state_of lowering.old) }
     ensures known { IsNone lowering.new.refused → result.called ≢ callees.Nothing }
     ensures values { result.takes_operands ≡ takes_values result.called }
@@ -154,39 +182,28 @@ fn scope_method(lowering: &mut Lowering<'_>, place: usize, token: usize) -> Meth
     let Some(found) = binding_at(lowering, place) else {
         return unknown(lowering, Rule::UnknownName, token);
     };
-    if found.standing == Standing::Group {
-        if lowering.spells(token, "next") {
-            return as_method(Called::Next(place));
+    match found.standing {
+        Standing::Group => group_method(lowering, place, found, token),
+        Standing::Task => {
+            if lowering.spells(token, "cancel") {
+                return as_method(Called::Cancel(found.variable));
+            }
+            unknown(lowering, Rule::UnknownName, token)
         }
-        if lowering.spells(token, "waitForAll") {
-            return as_method(Called::WaitForAll(place));
-        }
-        if lowering.spells(token, "cancelAll") {
-            return as_method(Called::Cancel(found.variable));
+        Standing::Constant | Standing::Variable | Standing::Child => {
+            unknown(lowering, Rule::UnknownName, token)
         }
     }
-    if found.standing == Standing::Task && lowering.spells(token, "cancel") {
-        return as_method(Called::Cancel(found.variable));
-    }
-    unknown(lowering, Rule::UnknownName, token)
 }
 
-/// What a call names.
-pub(crate) fn method_of(lowering: &mut Lowering<'_>, receiver: Receiver, token: usize) -> Method
+// A method of what a name stands for: something in scope, `Task`, or an instance.
+fn method_of_name(lowering: &mut Lowering<'_>, of: usize, token: usize) -> Method
+    ensures named { IsNone lowering.new.refused → IsCalled (state_of lowering.old) token (Receiver.Named of) result.called }
     ensures state { Becomes lowering.new (state_of lowering.old) }
     ensures known { IsNone lowering.new.refused → result.called ≢ callees.Nothing }
     ensures values { result.takes_operands ≡ takes_values result.called }
     ensures refused { KeepsRefusal lowering.old lowering.new }
 {
-    let of = match receiver {
-        Receiver::Nobody => {
-            let is_variable = find(lowering, token).is_some();
-            lowering.refuse_where(is_variable, Rule::NameTwice, token);
-            return own_or_function(lowering, token);
-        }
-        Receiver::Own => return own_method(lowering, token),
-        Receiver::Named(of) => of,
-    };
     if let Some(place) = find(lowering, of) {
         return scope_method(lowering, place, token);
     }
@@ -198,9 +215,38 @@ pub(crate) fn method_of(lowering: &mut Lowering<'_>, receiver: Receiver, token: 
     };
     refuse_hidden(lowering, of);
     let actor = actor_of(lowering, instance);
-    match method_named(lowering, actor, token) {
-        Some(place) => as_method(Called::Other(instance, place)),
-        None => unknown(lowering, Rule::UnknownName, token),
+    let Some(place) = method_named(lowering, actor, token) else {
+        return unknown(lowering, Rule::UnknownName, token);
+    };
+    as_method(Called::Other(instance, place))
+}
+
+// What a call names that has no receiver. No name in scope is a method.
+fn method_of_nobody(lowering: &mut Lowering<'_>, token: usize) -> Method
+    ensures named { IsNone lowering.new.refused → IsCalled (state_of lowering.old) token Receiver.Nobody result.called }
+    ensures state { Becomes lowering.new (state_of lowering.old) }
+    ensures known { IsNone lowering.new.refused → result.called ≢ callees.Nothing }
+    ensures values { result.takes_operands ≡ takes_values result.called }
+    ensures refused { KeepsRefusal lowering.old lowering.new }
+{
+    if let Some(_) = find(lowering, token) {
+        return unknown(lowering, Rule::NameTwice, token);
+    }
+    own_or_function(lowering, token)
+}
+
+/// What a call names.
+pub(crate) fn method_of(lowering: &mut Lowering<'_>, receiver: Receiver, token: usize) -> Method
+    ensures named { IsNone lowering.new.refused → IsCalled (state_of lowering.old) token receiver result.called }
+    ensures state { Becomes lowering.new (state_of lowering.old) }
+    ensures known { IsNone lowering.new.refused → result.called ≢ callees.Nothing }
+    ensures values { result.takes_operands ≡ takes_values result.called }
+    ensures refused { KeepsRefusal lowering.old lowering.new }
+{
+    match receiver {
+        Receiver::Nobody => method_of_nobody(lowering, token),
+        Receiver::Own => own_method(lowering, token),
+        Receiver::Named(of) => method_of_name(lowering, of, token),
     }
 }
 

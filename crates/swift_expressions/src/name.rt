@@ -1,24 +1,26 @@
 //! What names stand for, as values.
 
-ghost use Rattle.std.specs.Prelude.{◌≡◌, IsNone};
+ghost use Rattle.std.specs.Prelude.{◌≡◌, ℕ, IsNone, codes, true, false};
 ghost use Rattle.swift_expressions.specs.Instructions.{KeepsRefusal};
-ghost use Rattle.swift_expressions.specs.Lowered.{Means, Names};
-ghost use Rattle.swift_expressions.specs.Scopes.{IsFree};
-ghost use Rattle.swift_expressions.specs.States.{Becomes, state_of};
+ghost use Rattle.swift_expressions.specs.Lowered.{Means, Names, field_kind, local_kind};
+ghost use Rattle.swift_expressions.specs.Scopes.{IsFree, IsPriority};
+ghost use Rattle.swift_expressions.specs.States.{Becomes, bytes_at, state_of};
 
 use crate::code::{Kind, Value};
 use crate::lowering::Lowering;
 use crate::naming::{
-    constant_named, field_at, field_named, instance_named, local_named, refuse_hidden,
+    constant_literal, constant_named, field_at, field_named, instance_named, local_named,
+    refuse_hidden,
 };
 use crate::scope::{Standing, binding_at, find};
 use crate::typed::{Typed, kind_of, literal, refused, with_kind};
 use crate::waits::{field_of, getter, next_child, task_value};
-use swift_syntax::{FieldStart, Rule};
+use swift_syntax::{ExprForm, FieldStart, Rule};
 use swift_types::Priority;
 
 /// The type of a field of an actor.
 pub fn field_kind(lowering: &mut Lowering<'_>, field: usize) -> Kind
+    ensures kind { IsNone lowering.new.refused → result ≡ field_kind (state_of lowering.old) field }
     ensures code { IsNone lowering.new.refused → lowering.new.code ≡ lowering.old.code }
     ensures state { Becomes lowering.new (state_of lowering.old) }
     ensures refused { KeepsRefusal lowering.old lowering.new }
@@ -47,7 +49,7 @@ fn global_name(lowering: &mut Lowering<'_>, token: usize) -> Typed
     }
     if let Some(place) = constant_named(lowering, token) {
         refuse_hidden(lowering, token);
-        let value = lowering.tree.constants.get(place).map_or(0, |c| c.value);
+        let value = constant_literal(lowering, place);
         let (number, kind) = literal(lowering, value);
         return with_kind(lowering, Value::Number(number), kind);
     }
@@ -82,7 +84,7 @@ pub(crate) fn name(lowering: &mut Lowering<'_>, token: usize) -> Typed
 
 /// A field of the own actor.
 pub(crate) fn own_field(lowering: &mut Lowering<'_>, token: usize) -> Typed
-    ensures names { IsNone lowering.new.refused → Names (state_of lowering.old) (state_of lowering.new) result }
+    ensures names { IsNone lowering.new.refused → Names (state_of lowering.old) token (state_of lowering.new) result ExprForm.OwnMember }
     ensures refused { KeepsRefusal lowering.old lowering.new }
 {
     let actor = lowering.setting.actor;
@@ -97,7 +99,7 @@ pub(crate) fn own_field(lowering: &mut Lowering<'_>, token: usize) -> Typed
 
 // A member of the type `Task`.
 fn task_member(lowering: &mut Lowering<'_>, token: usize) -> Typed
-    ensures names { IsNone lowering.new.refused → Names (state_of lowering.old) (state_of lowering.new) result }
+    ensures names { (of : ℕ) → lowering.old.setting.is_expectation ≡ false → IsFree (state_of lowering.old) of → bytes_at (state_of lowering.old) of ≡ codes "Task" → IsNone lowering.new.refused → Names (state_of lowering.old) token (state_of lowering.new) result (ExprForm.Member of) }
     ensures refused { KeepsRefusal lowering.old lowering.new }
 {
     if lowering.spells(token, "isCancelled") {
@@ -111,7 +113,7 @@ fn task_member(lowering: &mut Lowering<'_>, token: usize) -> Typed
 
 // A field of an instance at the end of a run. A constant one is its number there.
 fn field_at_end(lowering: &mut Lowering<'_>, of: usize, token: usize) -> Typed
-    ensures names { IsNone lowering.new.refused → Names (state_of lowering.old) (state_of lowering.new) result }
+    ensures names { lowering.old.setting.is_expectation ≡ true → IsNone lowering.new.refused → Names (state_of lowering.old) token (state_of lowering.new) result (ExprForm.Member of) }
     ensures refused { KeepsRefusal lowering.old lowering.new }
 {
     let Some(instance) = instance_named(lowering, of) else {
@@ -128,10 +130,11 @@ fn field_at_end(lowering: &mut Lowering<'_>, of: usize, token: usize) -> Typed
 
 /// `OF.NAME`
 pub(crate) fn member(lowering: &mut Lowering<'_>, of: usize, token: usize) -> Typed
-    ensures names { IsNone lowering.new.refused → Names (state_of lowering.old) (state_of lowering.new) result }
+    ensures names { IsNone lowering.new.refused → Names (state_of lowering.old) token (state_of lowering.new) result (ExprForm.Member of) }
     ensures refused { KeepsRefusal lowering.old lowering.new }
 {
-    if lowering.setting.is_expectation {
+    let is_expectation = lowering.setting.is_expectation;
+    if is_expectation {
         return field_at_end(lowering, of, token);
     }
     if let Some(place) = find(lowering, of) {
@@ -156,6 +159,7 @@ pub(crate) fn member(lowering: &mut Lowering<'_>, of: usize, token: usize) -> Ty
 
 /// The type of a task local.
 pub fn local_kind(lowering: &mut Lowering<'_>, local: usize) -> Kind
+    ensures kind { IsNone lowering.new.refused → result ≡ local_kind (state_of lowering.old) local }
     ensures state { Becomes lowering.new (state_of lowering.old) }
     ensures refused { KeepsRefusal lowering.old lowering.new }
 {
@@ -170,6 +174,7 @@ pub fn local_kind(lowering: &mut Lowering<'_>, local: usize) -> Kind
 
 /// The priority that a token names (SE-0304).
 pub fn priority_named(lowering: &mut Lowering<'_>, token: usize) -> Priority
+    ensures named { IsNone lowering.new.refused → IsPriority (state_of lowering.old) token result }
     ensures state { Becomes lowering.new (state_of lowering.old) }
     ensures refused { KeepsRefusal lowering.old lowering.new }
 {

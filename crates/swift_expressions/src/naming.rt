@@ -1,34 +1,55 @@
 //! Names.
 
-ghost use Rattle.std.specs.Prelude.{◌≡◌, ◌↔◌, ℕ, IfNone, IfSome, IsTrue, slice_get};
+ghost use Rattle.std.specs.Prelude.{◌≡◌, ◌≢◌, ◌↔◌, ℕ, IfNone, IfSome, IsTrue, slice_get};
 ghost use Rattle.swift_expressions.specs.Instructions.{KeepsRefusal};
-ghost use Rattle.swift_expressions.specs.Scopes.{IsConstantAt, IsFieldAt, IsFirst};
+ghost use Rattle.swift_expressions.specs.Lowered.{constant_literal};
+ghost use Rattle.swift_expressions.specs.Scopes.{HasNoMethod, IsActorAt, IsConstantAt, IsFieldAt, IsFirst, IsInstanceAt, IsLocalAt, IsMethodAt, IsMethodOf, IsOfActor};
 ghost use Rattle.swift_expressions.specs.States.{Becomes, state_of};
 
 use crate::code::NONE;
 use crate::lowering::Lowering;
 use swift_syntax::{FieldDecl, InstanceDecl, MethodDecl, Rule};
 
-/// The place of the method of an actor with the bytes of a token.
-pub fn method_named(lowering: &Lowering<'_>, actor: usize, token: usize) -> Option<usize> {
+/// The place of the method of an actor with the bytes of a token: of such ones the first.
+pub fn method_named(lowering: &Lowering<'_>, actor: usize, token: usize) -> Option<usize>
+    ensures found { IfSome result (IsMethodOf (state_of lowering.now) actor token) }
+    ensures none { IfNone result (HasNoMethod (state_of lowering.now) actor token) }
+{
     if actor == NONE {
         return None;
     }
     declared_in(lowering, actor, token)
 }
 
-/// The place of the function outside of actors with the bytes of a token.
-pub fn function_named(lowering: &Lowering<'_>, token: usize) -> Option<usize> {
+/// The place of the function outside of actors with the bytes of a token: of such ones the first.
+pub fn function_named(lowering: &Lowering<'_>, token: usize) -> Option<usize>
+    ensures found { IfSome result (IsFirst (IsMethodAt (state_of lowering.now) NONE token)) }
+    ensures none { IfNone result ((place : ℕ) → IsMethodAt (state_of lowering.now) NONE token place → ⊥) }
+{
     declared_in(lowering, NONE, token)
 }
 
-// The place of the method of an actor, or of the function where that is `NONE`, with the bytes of a token.
-fn declared_in(lowering: &Lowering<'_>, actor: usize, token: usize) -> Option<usize> {
-    lowering
-        .tree
-        .methods
-        .iter()
-        .position(|m| m.actor == actor && lowering.are_same(m.name, token))
+// Whether a method of an actor, or a function where that is `NONE`, stands at a place, and has the bytes of a token.
+fn is_method_at(lowering: &Lowering<'_>, actor: usize, token: usize, place: usize) -> bool
+    ensures { IsTrue result ↔ IsMethodAt (state_of lowering.now) actor token place }
+{
+    match method_at(lowering, place) {
+        Some(method) => method.actor == actor && lowering.are_same(method.name, token),
+        None => false,
+    }
+}
+
+// The place of the method of an actor, or of the function where that is `NONE`, with the bytes of a token: of such ones the first.
+fn declared_in(lowering: &Lowering<'_>, actor: usize, token: usize) -> Option<usize>
+    ensures found { IfSome result (IsFirst (IsMethodAt (state_of lowering.now) actor token)) }
+    ensures none { IfNone result ((place : ℕ) → IsMethodAt (state_of lowering.now) actor token place → ⊥) }
+{
+    for place in 0..lowering.tree.methods.len() {
+        if is_method_at(lowering, actor, token, place) {
+            return Some(place);
+        }
+    }
+    None
 }
 
 // Whether a field of an actor stands at a place, and has the bytes of a token.
@@ -54,13 +75,27 @@ pub fn field_named(lowering: &Lowering<'_>, actor: usize, token: usize) -> Optio
     None
 }
 
-/// The place of the instance with the bytes of a token.
-pub fn instance_named(lowering: &Lowering<'_>, token: usize) -> Option<usize> {
-    lowering
-        .tree
-        .instances
-        .iter()
-        .position(|i| lowering.are_same(i.name, token))
+// Whether an instance stands at a place, and has the bytes of a token.
+fn is_instance_at(lowering: &Lowering<'_>, token: usize, place: usize) -> bool
+    ensures { IsTrue result ↔ IsInstanceAt (state_of lowering.now) token place }
+{
+    match instance_at(lowering, place) {
+        Some(instance) => lowering.are_same(instance.name, token),
+        None => false,
+    }
+}
+
+/// The place of the instance with the bytes of a token: of such ones the first.
+pub fn instance_named(lowering: &Lowering<'_>, token: usize) -> Option<usize>
+    ensures found { IfSome result (IsFirst (IsInstanceAt (state_of lowering.now) token)) }
+    ensures none { IfNone result ((place : ℕ) → IsInstanceAt (state_of lowering.now) token place → ⊥) }
+{
+    for place in 0..lowering.tree.instances.len() {
+        if is_instance_at(lowering, token, place) {
+            return Some(place);
+        }
+    }
+    None
 }
 
 // Whether a global constant stands at a place, and has the bytes of a token.
@@ -86,23 +121,70 @@ pub fn constant_named(lowering: &Lowering<'_>, token: usize) -> Option<usize>
     None
 }
 
-/// The place of the task local of an enum, each with the bytes of a token.
-pub fn local_named(lowering: &Lowering<'_>, of: usize, token: usize) -> Option<usize> {
-    lowering.tree.locals.iter().position(|l| lowering.are_same(l.of, of)
-        && lowering.are_same(l.name, token))
+// Whether a task local of an enum stands at a place, each with the bytes of a token.
+fn is_local_at(lowering: &Lowering<'_>, of: usize, token: usize, place: usize) -> bool
+    ensures { IsTrue result ↔ IsLocalAt (state_of lowering.now) of token place }
+{
+    match lowering.tree.locals.get(place) {
+        Some(local) => lowering.are_same(local.of, of) && lowering.are_same(local.name, token),
+        None => false,
+    }
+}
+
+/// The literal of the constant at a place.
+pub(crate) fn constant_literal(lowering: &Lowering<'_>, place: usize) -> usize
+    ensures { result ≡ constant_literal (state_of lowering.now) place }
+{
+    match lowering.tree.constants.get(place) {
+        Some(constant) => constant.value,
+        None => 0,
+    }
+}
+
+/// The place of the task local of an enum, each with the bytes of a token: of such ones the first.
+pub fn local_named(lowering: &Lowering<'_>, of: usize, token: usize) -> Option<usize>
+    ensures found { IfSome result (IsFirst (IsLocalAt (state_of lowering.now) of token)) }
+    ensures none { IfNone result ((place : ℕ) → IsLocalAt (state_of lowering.now) of token place → ⊥) }
+{
+    for place in 0..lowering.tree.locals.len() {
+        if is_local_at(lowering, of, token, place) {
+            return Some(place);
+        }
+    }
+    None
+}
+
+// Whether an actor stands at a place, and has the bytes of a token.
+fn is_actor_at(lowering: &Lowering<'_>, token: usize, place: usize) -> bool
+    ensures { IsTrue result ↔ IsActorAt (state_of lowering.now) token place }
+{
+    match lowering.tree.actors.get(place) {
+        Some(actor) => lowering.are_same(actor.name, token),
+        None => false,
+    }
+}
+
+// The place of the actor with the bytes of a token: of such ones the first.
+fn actor_named(lowering: &Lowering<'_>, token: usize) -> Option<usize>
+    ensures found { IfSome result (IsFirst (IsActorAt (state_of lowering.now) token)) }
+    ensures none { IfNone result ((place : ℕ) → IsActorAt (state_of lowering.now) token place → ⊥) }
+{
+    for place in 0..lowering.tree.actors.len() {
+        if is_actor_at(lowering, token, place) {
+            return Some(place);
+        }
+    }
+    None
 }
 
 /// The place of the actor of an instance, or `NONE` where it is an executor's.
-pub fn actor_of(lowering: &Lowering<'_>, instance: usize) -> usize {
-    let Some(declared) = lowering.tree.instances.get(instance) else {
+pub fn actor_of(lowering: &Lowering<'_>, instance: usize) -> usize
+    ensures found { result ≢ NONE → IsOfActor (state_of lowering.now) instance result }
+{
+    let Some(declared) = instance_at(lowering, instance) else {
         return NONE;
     };
-    match lowering
-        .tree
-        .actors
-        .iter()
-        .position(|a| lowering.are_same(a.name, declared.of))
-    {
+    match actor_named(lowering, declared.of) {
         Some(actor) => actor,
         None => NONE,
     }
@@ -176,6 +258,8 @@ pub fn field_at(lowering: &Lowering<'_>, place: usize) -> Option<FieldDecl>
 }
 
 /// The instance at a place.
-pub fn instance_at(lowering: &Lowering<'_>, place: usize) -> Option<InstanceDecl> {
+pub fn instance_at(lowering: &Lowering<'_>, place: usize) -> Option<InstanceDecl>
+    ensures { result ≡ slice_get lowering.now.tree.now.value.instances.items place }
+{
     lowering.tree.instances.get(place).copied()
 }

@@ -2,7 +2,7 @@
 
 ghost use Rattle.std.specs.Prelude.{◌≡◌, IsNone, IsSome};
 ghost use Rattle.swift_expressions.specs.Instructions.{IsKept, IsPlaced, KeepsRefusal};
-ghost use Rattle.swift_expressions.specs.Lowered.{Keeps, KeepsIf, kind_in};
+ghost use Rattle.swift_expressions.specs.Lowered.{Keeps, KeepsIf, kind_in, literal_kind, literal_number, number_below};
 ghost use Rattle.swift_expressions.specs.States.{Becomes, Gives, state_of};
 
 use crate::code::{Instruction, Kind, Value};
@@ -64,8 +64,20 @@ pub fn want(lowering: &mut Lowering<'_>, found: Typed, kind: Kind, token: usize)
     }
 }
 
-/// The value of a literal.
+// The number of what a `-` stands before.
+fn number_below(form: ExprForm) -> i64
+    ensures { result ≡ number_below form }
+{
+    match form {
+        ExprForm::Number(number) => number.checked_neg().unwrap_or(0),
+        _ => 0,
+    }
+}
+
+/// The value of a literal, and its type.
 pub fn literal(lowering: &mut Lowering<'_>, place: usize) -> (i64, Kind)
+    ensures number { IsNone lowering.new.refused → result.0 ≡ literal_number (state_of lowering.old) place }
+    ensures kind { IsNone lowering.new.refused → result.1 ≡ literal_kind (state_of lowering.old) place }
     ensures code { lowering.new.code ≡ lowering.old.code }
     ensures state { Becomes lowering.new (state_of lowering.old) }
     ensures refused { KeepsRefusal lowering.old lowering.new }
@@ -74,10 +86,7 @@ pub fn literal(lowering: &mut Lowering<'_>, place: usize) -> (i64, Kind)
     match expr.form {
         ExprForm::Number(number) => (number, Kind::Int),
         ExprForm::Truth(truth) => (i64::from(truth), Kind::Bool),
-        ExprForm::Negate(inner) => match lowering.expr(inner).form {
-            ExprForm::Number(number) => (number.checked_neg().unwrap_or(0), Kind::Int),
-            _ => (0, Kind::Int),
-        },
+        ExprForm::Negate(inner) => (number_below(lowering.expr(inner).form), Kind::Int),
         _ => {
             lowering.refuse(Rule::Outside, expr.token);
             (0, Kind::Int)

@@ -1,9 +1,9 @@
 //! What is waited for.
 
-ghost use Rattle.std.specs.Prelude.{◌≡◌, ℕ, Bool, IsNone, Some, slice_get};
+ghost use Rattle.std.specs.Prelude.{◌≡◌, ℕ, Bool, false, IfSome, IsNone, Some, slice_get};
 ghost use Rattle.swift_expressions.specs.Instructions.{IsHoisted, KeepsRefusal};
-ghost use Rattle.swift_expressions.specs.Lowered.{Calls, Means, Names, Waits, child_test, counted, counted_child, with_child_test, yielding};
-ghost use Rattle.swift_expressions.specs.Scopes.{IsInnermost};
+ghost use Rattle.swift_expressions.specs.Lowered.{Calls, Means, Names, ReadsOther, Waits, child_test, counted, counted_child, with_child_test, yielding};
+ghost use Rattle.swift_expressions.specs.Scopes.{IsFieldOf, IsInnermost};
 ghost use Rattle.swift_expressions.specs.States.{Becomes, state_of};
 ghost use Rattle.swift_expressions.specs.declared.call.Called.TheVariants as callees;
 ghost use Rattle.swift_expressions.specs.declared.operands.Operands.{Operands};
@@ -14,7 +14,7 @@ use crate::name::field_kind;
 use crate::naming::{actor_of, field_at, field_named};
 use crate::scope::{Binding, Standing, binding_at, mark_used};
 use crate::typed::{Typed, literal, refused, with_kind};
-use swift_syntax::{Access, FieldStart, Rule};
+use swift_syntax::{Access, ExprForm, FieldStart, Rule};
 use swift_types::Operator;
 
 /// Refuses what is not covered by `await`.
@@ -79,14 +79,20 @@ pub(crate) fn wait(lowering: &mut Lowering<'_>, what: Wait, kind: Kind) -> Typed
     with_kind(lowering, Value::Variable(variable), kind)
 }
 
-/// The place of the field of an instance with the bytes of a token.
-pub(crate) fn field_of(lowering: &Lowering<'_>, instance: usize, token: usize) -> Option<usize> {
-    field_named(lowering, actor_of(lowering, instance), token)
+/// The place of the field of an instance with the bytes of a token: of its actor's the first one. An executor has none.
+pub(crate) fn field_of(lowering: &Lowering<'_>, instance: usize, token: usize) -> Option<usize>
+    ensures found { IfSome result (IsFieldOf (state_of lowering.now) instance token) }
+{
+    let actor = actor_of(lowering, instance);
+    if actor == NONE {
+        return None;
+    }
+    field_named(lowering, actor, token)
 }
 
 /// A field of an instance.
 pub(crate) fn getter(lowering: &mut Lowering<'_>, instance: usize, token: usize) -> Typed
-    ensures names { IsNone lowering.new.refused → Names (state_of lowering.old) (state_of lowering.new) result }
+    ensures reads { IsNone lowering.new.refused → ReadsOther (state_of lowering.old) instance token (state_of lowering.new) result }
     ensures refused { KeepsRefusal lowering.old lowering.new }
 {
     let Some(field) = field_of(lowering, instance, token) else {
@@ -142,20 +148,23 @@ fn reads_priority(lowering: &Lowering<'_>) -> bool {
 
 /// The value of the task at a place in scope.
 pub(crate) fn task_value(lowering: &mut Lowering<'_>, place: usize, token: usize) -> Typed
-    ensures names { IsNone lowering.new.refused → Names (state_of lowering.old) (state_of lowering.new) result }
+    ensures names { (of : ℕ) → lowering.old.setting.is_expectation ≡ false → IsInnermost (state_of lowering.old) of place → IsNone lowering.new.refused → Names (state_of lowering.old) token (state_of lowering.new) result (ExprForm.Member of) }
     ensures refused { KeepsRefusal lowering.old lowering.new }
 {
     let Some(found) = binding_at(lowering, place) else {
         return refused(lowering, Rule::UnknownName, token);
     };
-    if found.standing != Standing::Task || !lowering.spells(token, "value") {
+    let Standing::Task = found.standing else {
         return refused(lowering, Rule::UnknownName, token);
+    };
+    if lowering.spells(token, "value") {
+        want_await(lowering, token);
+        want_try_where(lowering, found.is_throwing, token);
+        mark_used(lowering, place);
+        yield_before(lowering);
+        return wait(lowering, Wait::Task(found.variable), found.kind);
     }
-    want_await(lowering, token);
-    want_try_where(lowering, found.is_throwing, token);
-    mark_used(lowering, place);
-    yield_before(lowering);
-    wait(lowering, Wait::Task(found.variable), found.kind)
+    refused(lowering, Rule::UnknownName, token)
 }
 
 /// What the one child of an `async let` gives.

@@ -126,7 +126,7 @@ value-returns-in-Call-clause-lowers t c = λ n3.
     let n2 = c.call.ensures.refused n3 in
     let n1 = c.given_operands-given.ensures.refused n2 in
     call_lowered c.method_of-method.result.called (sym (ap (λ (x : Expr). x.form) c.expr-form.ensures) ∙ c.in-Call.is) (ap (λ (x : Expr). x.token) c.expr-form.ensures)
-    (c.method_of-method.ensures.state n1) c.method_of-method.ensures.values (c.given_operands-given.ensures.hands n2) (c.call.ensures.calls (c.method_of-method.ensures.known n1) n3)
+    (c.method_of-method.ensures.named n1) (c.method_of-method.ensures.state n1) c.method_of-method.ensures.values (c.given_operands-given.ensures.hands n2) (c.call.ensures.calls (c.method_of-method.ensures.known n1) n3)
 
 pub value-returns-in_default-clause-lowers : goal.value-returns-in_default-clause-lowers
 value-returns-in_default-clause-lowers t c = λ n. lowered.leaf (leaf_read c.expr-form.ensures (c.leaf.ensures.leaf n))

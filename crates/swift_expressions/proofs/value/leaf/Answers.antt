@@ -1,7 +1,7 @@
-use Rattle.std.proofs.Common.{◌≡◌, w64, to_z, of_z, sym, ap, rules, ◌∙◌}
+use Rattle.std.proofs.Common.{◌≡◌, w64, to_z, of_z, pos, sym, ap, rules, ◌∙◌}
 use Rattle.swift_expressions.specs.declared.code.Value.TheVariants as value
 use Rattle.swift_expressions.specs.Lowered as lowered
-use Rattle.swift_expressions.proofs.Stepped.{given_as, given_from, leaf_by, number_of_truth}
+use Rattle.swift_expressions.proofs.Stepped.{given_as, given_from, leaf_by, number_of_rank, number_of_truth}
 use Rattle.swift_expressions.proofs.value.leaf.Goals as goal
 
 pub returns-in-Number-clause-leaf : goal.returns-in-Number-clause-leaf
@@ -22,4 +22,4 @@ pub returns-in-Member-clause-leaf : goal.returns-in-Member-clause-leaf
 returns-in-Member-clause-leaf c = λ n. leaf_by (sym c.in-Member.is) (lowered.member (c.member.ensures.names n))
 
 pub returns-in-Case-clause-leaf : goal.returns-in-Case-clause-leaf
-returns-in-Case-clause-leaf c = λ n. leaf_by (sym c.in-Case.is) (lowered.priority (given_from (c.priority_named.ensures.state (c.with_kind-in-Case.ensures.refused n)) (c.with_kind-in-Case.ensures.gives n)))
+returns-in-Case-clause-leaf c = λ n. leaf_by (sym c.in-Case.is) (lowered.priority c.priority_named.result (c.priority_named.ensures.named (c.with_kind-in-Case.ensures.refused n)) (given_as (ap value.Number (ap (λ z. to_z w64 (of_z w64 z)) (c.from-number.ensures ∙ ap pos c.number.ensures) ∙ number_of_rank c.priority_named.result)) (given_from (c.priority_named.ensures.state (c.with_kind-in-Case.ensures.refused n)) (c.with_kind-in-Case.ensures.gives n))))

@@ -1,0 +1,6 @@
+use Rattle.std.proofs.Common.{arith}
+use Rattle.swift_expressions.proofs.Scoped.{locals_end}
+use Rattle.swift_expressions.proofs.naming.local_named.Goals as goal
+
+pub returns-clause-none : goal.returns-clause-none
+returns-clause-none c = locals_end (omega (arith, c.loop-place-test.false, rw c.deref.ensures at c.len-place-end.ensures, c.args.lowering.now.tree.now.value.locals.ok.0)) c.loop-place.invariant
