@@ -1,8 +1,9 @@
 -- What statements with a block put, from what they call.
-use Rattle.std.proofs.Common.{Option, ◌≡◌, ◌<◌, ◌≤◌, ◌+◌, ◌-◌, ℕ, Bool, true, false, None, Some, length, IsTrue, arith, refl, ap, subst, ◌∙◌, ◌⊎◌, inl, inr, slice_get}
+use Rattle.std.proofs.Common.{Option, ◌≡◌, ◌<◌, ◌≤◌, ◌+◌, ◌-◌, ℕ, Bool, true, false, None, Some, length, IsTrue, arith, refl, ap, subst, ◌∙◌, ◌⊎◌, inl, inr}
 use Rattle.std.proofs.lemmas.List.{length-take}
 use Rattle.swift_syntax.specs.declared.tree.Stmt.{Stmt}
 use Rattle.swift_syntax.specs.declared.tree.StmtForm.TheVariants as form
+use Rattle.swift_syntax.specs.declared.tree.TaskForm.{TaskForm}
 use Rattle.swift_syntax.specs.declared.tree.ValueType.{ValueType}
 use Rattle.swift_types.specs.declared.priority.Priority.{Priority}
 use Rattle.swift_syntax.specs.Expressions.{after}
@@ -20,7 +21,7 @@ use Rattle.swift_expressions.specs.declared.scope.Standing.TheVariants as standi
 use Rattle.swift_expressions.specs.declared.typed.Typed.{Typed}
 use Rattle.swift_expressions.proofs.Stepped.{given_as}
 use Rattle.swift_lowering.specs.Blocks as blocks
-use Rattle.swift_lowering.specs.Blocks.{AddsTask, AttemptsBlock, BeginsChild, Counts, CountsOn, Does, DoesAll, DoesBlock, DoesElse, EndsChild, Fixes, IsNext, LoopsOver, MakesTask, NamesCounter, Renames, Repeats, StartsChild, TakesResults, Tests, are_in_order, child_begun, child_count, close_while, counted_in, done_where, ends_group, in_groups, open_guard, open_results, open_while, range_test, rest_where, trapped_unless, with_child_count, with_while}
+use Rattle.swift_lowering.specs.Blocks.{AddsTask, AttemptsBlock, BeginsChild, Counts, CountsOn, Does, DoesAll, DoesBlock, DoesElse, EndsChild, Fixes, IsGroupAt, IsNext, IsUrgency, LoopsOver, MakesTask, NamesCounter, Renames, Repeats, StartsChild, TakesResults, Tests, are_in_order, child_begun, child_count, close_while, counted_in, done_where, ends_group, in_groups, open_guard, open_results, open_while, range_test, rest_where, trapped_unless, with_child_count, with_while}
 use Rattle.swift_lowering.specs.Returning.{has_rest, may_return}
 
 -- what is put from one state is from another one that is the same
@@ -95,7 +96,7 @@ pub count_on_by : {s t u r q v : State} {name counter body start : ℕ} → Name
 count_on_by {u = u} {counter = counter} {start = start} n b r e l is = blocks.count_on n b (l ∙ ap (left_to start) (e ∙ ap (put instruction.End) r) ∙ ap (λ x. left_to x (put instruction.End (counted operators.Plus counter u))) is)
 
 -- what is done for each result of a group
-pub loop_over_by : {s t u q v : State} {name body start : ℕ} → TakesResults s name t → Repeats t body u → q ≡ put instruction.End u → v ≡ left_to start q → start ≡ length s.scope → LoopsOver s name body v
+pub loop_over_by : {s t u q v : State} {group name body start : ℕ} → TakesResults s group name t → Repeats t body u → q ≡ put instruction.End u → v ≡ left_to start q → start ≡ length s.scope → LoopsOver s group name body v
 loop_over_by {u = u} {start = start} n b e l is = blocks.loop_over n b (l ∙ ap (left_to start) e ∙ ap (λ x. left_to x (put instruction.End u)) is)
 
 -- the next result of a group
@@ -107,13 +108,13 @@ pub results_opened : (b : Binding) (place : ℕ) {s r q p : State} → r ≡ s �
 results_opened b place e u o = o ∙ ap (open_results b) (u ∙ ap (used place) e)
 
 -- a loop over the results of a group, in each of its forms
-pub results_do : {s t : State} {stmt : Stmt} {group body : ℕ} {is_tried : Bool} → (stmt.form ≡ form.ForAwait group is_tried body) ⊎ (stmt.form ≡ form.WhileNext group is_tried body) → LoopsOver s stmt.token body t → Does s stmt t
+pub results_do : {s t : State} {stmt : Stmt} {group body : ℕ} {is_tried : Bool} → (stmt.form ≡ form.ForAwait group is_tried body) ⊎ (stmt.form ≡ form.WhileNext group is_tried body) → LoopsOver s group stmt.token body t → Does s stmt t
 results_do (inl e) h = blocks.for_results e h
 results_do (inr e) h = blocks.while_results e h
 
 -- the results of a group, each with a name
-pub results_named : {s p u t : State} (place : ℕ) {b : Binding} {name variable : ℕ} → slice_get s.scope place ≡ Some b → p ≡ open_results b (used place s) → variable ≡ next_variable p → IsNext p b name u → Binds u name standings.Constant variable b.kind variable t → TakesResults s name t
-results_named {s} {u = u} {t} place {b} {name} {variable} at opened is next binds =
+pub results_named : {s p u t : State} (place : ℕ) {b : Binding} {group name variable : ℕ} → IsGroupAt s group place b → p ≡ open_results b (used place s) → variable ≡ next_variable p → IsNext p b name u → Binds u name standings.Constant variable b.kind variable t → TakesResults s group name t
+results_named {s} {u = u} {t} place {b} {name = name} {variable} at opened is next binds =
     let var : variable ≡ next_variable s = is ∙ ap next_variable opened in
     blocks.with_name place at (next_from opened next) (subst (λ x. Binds u name standings.Constant x b.kind x t) var binds)
 
@@ -139,19 +140,20 @@ pub all_in_child : {n : ℕ} {s u v w : State} {p : ℕ} {stmt : Stmt} {wanted :
 all_in_child there is begins rest ends = blocks.child there is begins rest ends
 
 -- a task begins
-pub task_made : (callee : Callee) (priority : Option Priority) (kind : Kind) {s r u v t : State} {name variable : ℕ} {is_detached : Bool} → r ≡ s → IsDeclared r name false u → variable ≡ next_variable r → v ≡ put (instruction.Make variable is_detached callee priority) u → Binds v name standings.Task variable kind variable t → MakesTask s name is_detached callee t
-task_made callee priority kind {r = r} {u} {v} {t} {name} {variable} {is_detached} e d is p b =
-    let begins : v ≡ put (instruction.Make (next_variable r) is_detached callee priority) u = p ∙ ap (λ x. put (instruction.Make x is_detached callee priority) u) is in
-    subst (λ x. MakesTask x name is_detached callee t) e (record {
+pub task_made : (callee : Callee) (priority : Option Priority) (kind : Kind) {s r u v t : State} {name variable : ℕ} {what : TaskForm} → r ≡ s → IsDeclared r name false u → variable ≡ next_variable r → IsUrgency u what.priority priority → v ≡ put (instruction.Make variable what.is_detached callee priority) u → Binds v name standings.Task variable kind variable t → MakesTask s name what callee t
+task_made callee priority kind {r = r} {u} {v} {t} {name} {variable} {what} e d is urgent p b =
+    let begins : v ≡ put (instruction.Make (next_variable r) what.is_detached callee priority) u = p ∙ ap (λ x. put (instruction.Make x what.is_detached callee priority) u) is in
+    subst (λ x. MakesTask x name what callee t) e (record {
       u = u;
       priority = priority;
       kind = kind;
       declared = d;
+      urgent = urgent;
       binds = subst (λ x. Binds x name standings.Task (next_variable r) kind (next_variable r) t) begins (subst (λ x. Binds v name standings.Task x kind x t) is b);
     })
 
 -- a child of a group begins
-pub task_added : (callee : Callee) (place : ℕ) (b : Binding) {s r u t : State} {is_only : Bool} → slice_get s.scope place ≡ Some b → r ≡ s → u ≡ put (instruction.Add b.variable is_only callee None) r → t ≡ counted_in is_only place b u → AddsTask s is_only callee t
+pub task_added : (callee : Callee) (place : ℕ) (b : Binding) {s r u t : State} {token : ℕ} {is_only : Bool} → IsGroupAt s token place b → r ≡ s → u ≡ put (instruction.Add b.variable is_only callee None) r → t ≡ counted_in is_only place b u → AddsTask s token is_only callee t
 task_added callee place b {s} {is_only = is_only} at e p n = record { place = place; b = b; there = at; state = n ∙ ap (counted_in is_only place b) (p ∙ ap (put (instruction.Add b.variable is_only callee None)) e) }
 
 -- no name of a block is in scope behind it

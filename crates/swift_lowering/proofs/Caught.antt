@@ -18,12 +18,13 @@ use Rattle.swift_expressions.specs.declared.code.Wait.TheVariants as waiting
 use Rattle.swift_expressions.specs.declared.lowering.Fallback.TheVariants as fallbacks
 use Rattle.swift_expressions.specs.declared.typed.Typed.{Typed}
 use Rattle.swift_expressions.proofs.Stepped.{given_as, lowered_from}
-use Rattle.swift_lowering.specs.Assignments.{set_of}
+use Rattle.swift_lowering.specs.Assignments.{GoesTo, set_of}
 use Rattle.swift_lowering.specs.Catching as catching
 use Rattle.swift_lowering.specs.Catching.{Catches, GivesCaught, HandsOn, Rewires, Tells, Tries, Wraps, begin_or, came_to, fault_sign, is_int, open_where, variable_for, waits_freely, with_variable_for, zero_freed}
 use Rattle.swift_lowering.specs.Statements.{GivesTo}
 use Rattle.swift_lowering.specs.declared.assignment.Destination.{Destination}
 use Rattle.swift_lowering.specs.Units.{BeginsUnit, in_unit, unit_ended, with_instruction}
+use Rattle.swift_lowering.proofs.Stated.{goes_from}
 
 -- no operand was handed on so far
 pub handed_begun : {n : ℕ} {s t : State} {place found : ℕ} → HandsOn (n - 0) s place NONE NONE t found → HandsOn n s place NONE NONE t found
@@ -102,9 +103,9 @@ told_by_two {s} {target = target} {what} {place = place} {two} is at one r e =
     catching.by_two is (e ∙ ap (with_instruction place (instruction.Wait target what two)) r ∙ ap (λ x. with_instruction x (instruction.Wait target what two) (with_value (value.Number (pos 2)) s)) at ∙ ap (λ x. with_instruction (length s.instructions - 1) (instruction.Wait target what x) (with_value (value.Number (pos 2)) s)) one)
 
 -- what came is set
-pub caught_set : {s r t : State} {found : Typed} {f : StmtForm} {how : Assigning} {is_own : Bool} {place : ℕ} → f ≡ form.Assign how is_own place → r ≡ came_to found s → (to : Destination) × (t ≡ put (set_of to found.value) r) → GivesCaught s found t f
-caught_set {s} {t = t} {found} e came d = subst (λ x. GivesCaught s found t x) (sym e) (catching.sets d.0 (d.1 ∙ ap (put (set_of d.0 found.value)) came))
+pub caught_set : {s r t : State} {token : ℕ} {found : Typed} {f : StmtForm} {how : Assigning} {is_own : Bool} {place : ℕ} → f ≡ form.Assign how is_own place → r ≡ came_to found s → (to : Destination) × GoesTo r token is_own to × (t ≡ put (set_of to found.value) r) → GivesCaught s token found t f
+caught_set {s} {t = t} {token} {found} e came d = subst (λ x. GivesCaught s token found t x) (sym e) (catching.sets d.0 (goes_from came d.1) (d.2 ∙ ap (put (set_of d.0 found.value)) came))
 
 -- or given
-pub caught_given : {s r t : State} {found : Typed} {f : StmtForm} {into : Into} {place : ℕ} → f ≡ form.Value into place → r ≡ came_to found s → GivesTo r found t into → GivesCaught s found t f
-caught_given {s} {t = t} {found} {into = into} e came g = subst (λ x. GivesCaught s found t x) (sym e) (catching.gives (subst (λ x. GivesTo x found t into) came g))
+pub caught_given : {s r t : State} {token : ℕ} {found : Typed} {f : StmtForm} {into : Into} {place : ℕ} → f ≡ form.Value into place → r ≡ came_to found s → GivesTo r found t into → GivesCaught s token found t f
+caught_given {s} {t = t} {token} {found} {into = into} e came g = subst (λ x. GivesCaught s token found t x) (sym e) (catching.gives (subst (λ x. GivesTo x found t into) came g))

@@ -1,12 +1,14 @@
 -- What closures, groups and `do` put, from what is called.
 use Rattle.std.proofs.Common.{◌≡◌, ◌<◌, ◌≤◌, ◌+◌, ◌-◌, ℕ, Bool, true, false, None, Some, length, arith, refl, sym, ap, subst, ◌∙◌, slice_get}
+use Rattle.swift_syntax.specs.declared.tree.Expr.{Expr}
 use Rattle.swift_syntax.specs.declared.tree.ExprForm.TheVariants as expr
 use Rattle.swift_syntax.specs.declared.tree.Into.{Into}
 use Rattle.swift_syntax.specs.declared.tree.Receiver.{Receiver}
 use Rattle.swift_syntax.specs.declared.tree.Stmt.{Stmt}
 use Rattle.swift_syntax.specs.declared.tree.StmtForm.TheVariants as form
 use Rattle.swift_syntax.specs.declared.tree.ValueType.{ValueType}
-use Rattle.swift_expressions.specs.States.{Binds, IsBegun, IsDeclared, State, form_at, left_to, next_variable, put, state_of, stmt_at}
+use Rattle.swift_expressions.specs.Scopes.{IsInnermost}
+use Rattle.swift_expressions.specs.States.{Binds, IsBegun, IsDeclared, State, expr_at, form_at, left_to, next_variable, put, state_of, stmt_at}
 use Rattle.swift_expressions.specs.Lowered.{Hands, Lowers, kind_in, no_operands}
 use Rattle.swift_expressions.specs.declared.code.Callee.{Callee}
 use Rattle.swift_expressions.specs.declared.code.Callee.TheVariants as callees
@@ -24,7 +26,7 @@ use Rattle.swift_lowering.specs.Blocks.{AttemptsAll, AttemptsBlock, BeginsChild,
 use Rattle.swift_lowering.specs.Catching.{Catches, GivesCaught, begin_at_zero, begin_or, caught_wait, is_lone_wait, open_caught, open_rest, with_flag}
 use Rattle.swift_lowering.specs.Alone.{IsLone}
 use Rattle.swift_lowering.specs.Closures as closures
-use Rattle.swift_lowering.specs.Closures.{Captures, CapturesAll, HandsOver, IsDirect, IsGiven, IsOfChild, OpensClosure, Receives, handed, in_closure, is_value, uncovered, with_setting}
+use Rattle.swift_lowering.specs.Closures.{Captures, CapturesAll, HandsOver, IsCallee, IsDirect, IsGiven, IsOfChild, OpensClosure, Receives, handed, in_closure, is_value, uncovered, with_setting}
 use Rattle.swift_lowering.specs.Groups.{BeginsBind, BeginsGroup, GivesClosed, entered, result_variable, with_result}
 use Rattle.swift_lowering.specs.Returning.{has_rest, leaves_early}
 use Rattle.swift_lowering.specs.Statements.{as_set, given_back}
@@ -36,7 +38,7 @@ pub does_from : {s r t : State} {stmt : Stmt} → r ≡ s → Does r stmt t → 
 does_from {t = t} {stmt} e h = subst (λ x. Does x stmt t) e h
 
 -- a `do` of one statement, which waits
-pub catches_one_by : {s t u v w : State} {stmt one : Stmt} {body instead place token : ℕ} {found : Typed} → stmt.form ≡ form.DoCatch body instead → stmt.token ≡ token → (one.next ≡ 0) × ((stmt_at s body ≡ Some one) × (caught_wait s one.form ≡ Some place)) → Catches s place token t found → DoesBlock t instead u → GivesCaught u found v one.form → w ≡ put instruction.End v → Does s stmt w
+pub catches_one_by : {s t u v w : State} {stmt one : Stmt} {body instead place token : ℕ} {found : Typed} → stmt.form ≡ form.DoCatch body instead → stmt.token ≡ token → (one.next ≡ 0) × ((stmt_at s body ≡ Some one) × (caught_wait s one.form ≡ Some place)) → Catches s place token t found → DoesBlock t instead u → GivesCaught u one.token found v one.form → w ≡ put instruction.End v → Does s stmt w
 catches_one_by {s} {t} {place = place} {found = found} e is one h b g w = blocks.catches_one e one.1.0 one.0 one.1.1 (subst (λ x. Catches s place x t found) (sym is) h) b g w
 
 -- and of more
@@ -63,9 +65,9 @@ pub attempts_unless : {n : ℕ} {s r t u v w : State} {flag token p : ℕ} {stmt
 attempts_unless there not_caught e h holds u rest w = blocks.rest_unless_returned there not_caught (does_from e h) holds u rest w
 
 -- what follows is done unless a fault was caught
-pub attempts_caught : {n : ℕ} {s t r u q v e w : State} {flag token p place : ℕ} {stmt : Stmt} {found : Typed} {early : Bool} → stmt_at s p ≡ Some stmt → caught_wait s stmt.form ≡ Some place → Catches s place token t found → r ≡ with_flag flag t → GivesCaught r found u stmt.form → early ≡ has_rest u stmt → q ≡ open_rest early u → AttemptsAll (length q.tree.stmts.items) q flag token stmt.next v → e ≡ end_where early v → w ≡ put instruction.End e → AttemptsAll n s flag token p w
+pub attempts_caught : {n : ℕ} {s t r u q v e w : State} {flag token p place : ℕ} {stmt : Stmt} {found : Typed} {early : Bool} → stmt_at s p ≡ Some stmt → caught_wait s stmt.form ≡ Some place → Catches s place token t found → r ≡ with_flag flag t → GivesCaught r stmt.token found u stmt.form → early ≡ has_rest u stmt → q ≡ open_rest early u → AttemptsAll (length q.tree.stmts.items) q flag token stmt.next v → e ≡ end_where early v → w ≡ put instruction.End e → AttemptsAll n s flag token p w
 attempts_caught {u = u} {v = v} {stmt = stmt} {found} there waits h flagged g is q rest ends w =
-    blocks.rest_unless_caught there waits h (subst (λ x. GivesCaught x found u stmt.form) flagged g) (q ∙ ap (λ x. open_rest x u) is) rest (w ∙ ap (put instruction.End) (ends ∙ ap (λ x. end_where x v) is))
+    blocks.rest_unless_caught there waits h (subst (λ x. GivesCaught x stmt.token found u stmt.form) flagged g) (q ∙ ap (λ x. open_rest x u) is) rest (w ∙ ap (put instruction.End) (ends ∙ ap (λ x. end_where x v) is))
 
 -- a closure becomes a unit
 pub enclosed : (l : Lowering) {s t u w : State} {body : ClosureBody} {operand unit skip boundary : ℕ} {callee : Callee} {outer : Setting} → state_of l ≡ s → OpensClosure (state_of l) body operand t → unit ≡ length l.code.units.items → skip ≡ length l.code.instructions.items → (outer ≡ l.setting) × (boundary ≡ length l.scope.items) → Says t body u → w ≡ with_setting outer (left_to boundary (unit_ended unit skip (body.to - 1) u)) → callee ≡ callees.Unit unit operand → Encloses s body w callee
@@ -98,13 +100,13 @@ groups_by {s} {r} {t} {u} {v} {w} {x} {stmt} {into} {body = body} {variable = va
     blocks.groups e (result ∙ ap (with_result into) same) (subst (λ k. BeginsGroup t stmt.token k u) of begins) (subst (λ y. DoesClosed u body y v) var block) (ends ∙ ap (λ y. left_to y (put instruction.End v)) at) (subst (λ y. GivesClosed w into y x) var gives)
 
 -- a binding
-pub binds_by : {s t u v w x : State} {stmt : Stmt} {into : Into} {of given body variable start : ℕ} → stmt.form ≡ form.Bind into of given body → t ≡ with_result into s → variable ≡ result_variable into s → BeginsBind t given u → DoesClosed u body variable v → w ≡ left_to start (put instruction.End v) → start ≡ length s.scope → GivesClosed w into variable x → Does s stmt x
+pub binds_by : {s t u v w x : State} {stmt : Stmt} {into : Into} {of given body variable start : ℕ} → stmt.form ≡ form.Bind into of given body → t ≡ with_result into s → variable ≡ result_variable into s → BeginsBind t of stmt.token given u → DoesClosed u body variable v → w ≡ left_to start (put instruction.End v) → start ≡ length s.scope → GivesClosed w into variable x → Does s stmt x
 binds_by {s} {u = u} {v} {w} {x} {into = into} {body = body} {variable} {start} e result var begins block ends at gives =
     blocks.binds e result begins (subst (λ y. DoesClosed u body y v) var block) (ends ∙ ap (λ y. left_to y (put instruction.End v)) at) (subst (λ y. GivesClosed w into y x) var gives)
 
 -- what is handed over for a captured name
-pub captured_by : {s h t : State} {unit token last next : ℕ} {b : Binding} (place : ℕ) → slice_get s.scope place ≡ Some b → is_value b.standing ≡ true → h ≡ handed b last s → next ≡ length s.operands → Receives h unit token b t → Captures s unit token last t next
-captured_by place there value e is h = closures.captured place there value e h is
+pub captured_by : {s h t : State} {unit token last next : ℕ} {b : Binding} → (place : ℕ) × IsInnermost s token place × (slice_get s.scope place ≡ Some b) → is_value b.standing ≡ true → h ≡ handed b last s → next ≡ length s.operands → Receives h unit token b t → Captures s unit token last t next
+captured_by there value e is h = closures.captured there.0 there.1 there.2 value e h is
 
 -- one name more
 pub captured_more : {s t u : State} {unit token first last next start : ℕ} → start ≡ begin_or first next → CapturesAll s unit t first last → Captures t unit token last u next → CapturesAll s unit u start next
@@ -130,13 +132,13 @@ pub given_alone : {s u t : State} {place given : ℕ} {found : Typed} → Lowers
 given_alone {u = u} {found = found} h is e = record { u = u; found = found; lowers = h; state = e ∙ ap (λ x. put (instruction.Return x) u) is }
 
 -- a method is all that a closure calls
-pub handed_over : {s u t : State} {first instance method : ℕ} {given : Operands} → Hands (length s.tree.arguments.items) s first no_operands u given → t ≡ u → HandsOver s first t (callees.Method instance method given.first)
-handed_over {s} {first = first} {instance} {method} {given} h e = record { given = given; hands = subst (λ x. Hands (length s.tree.arguments.items) s first no_operands x given) (sym e) h; instance = instance; method = method; is = refl }
+pub handed_over : {s u t : State} {first instance method : ℕ} {given : Operands} → Hands (length s.tree.arguments.items) s first no_operands u given → t ≡ u → HandsOver s first instance method t (callees.Method instance method given.first)
+handed_over {s} {first = first} {given = given} h e = record { given = given; hands = subst (λ x. Hands (length s.tree.arguments.items) s first no_operands x given) (sym e) h; is = refl }
 
 -- a closure that is but a call
-pub direct_from : {s r t : State} {value place first : ℕ} {callee : Callee} → r ≡ s → place ≡ uncovered r value → (receiver : Receiver) × (form_at r place ≡ expr.Call receiver first) → HandsOver r first t callee → IsDirect s value t callee
-direct_from {s} {r} {t} {value} {place} {first} {callee} e is call h =
-    subst (λ x. IsDirect x value t callee) e (record { receiver = call.0; first = first; calls = subst (λ x. form_at r x ≡ expr.Call call.0 first) is call.1; hands = h })
+pub direct_from : {s r t : State} {value place first instance method : ℕ} {callee : Callee} → r ≡ s → place ≡ uncovered r value → (receiver : Receiver) × (form_at r place ≡ expr.Call receiver first) × IsCallee r (expr_at r place).token receiver instance method → HandsOver r first instance method t callee → IsDirect s value t callee
+direct_from {s} {r} {t} {value} {place} {first} {instance} {method} {callee} e is call h =
+    subst (λ x. IsDirect x value t callee) e (record { receiver = call.0; first = first; calls = subst (λ x. form_at r x ≡ expr.Call call.0 first) is call.1; instance = instance; method = method; names = subst (λ x. IsCallee r (expr_at r x).token call.0 instance method) is call.2; hands = h })
 
 -- a group begins
 pub group_begun : {s u p z t : State} {name variable count : ℕ} {kind : Kind} → IsDeclared s name false u → variable ≡ next_variable s → p ≡ put (instruction.Group variable) u → z ≡ begin_at_zero p → count ≡ next_variable p → Binds z name standings.Group variable kind count t → BeginsGroup s name kind t
@@ -148,3 +150,7 @@ group_begun {s} {u} {p} {z} {t} {name} {variable} {count} {kind} d is e zero at 
 -- a unit begins
 pub unit_begun : {s u t : State} {actor method token : ℕ} → actor ≡ actor_if (slice_get s.units s.unit) → method ≡ method_if (slice_get s.units s.unit) → IsBegun s unit_kinds.Closure actor method token u → t ≡ put (instruction.Skip 0) u → BeginsUnit s token t
 unit_begun {s} {u} {method = method} {token} of by b e = record { u = u; begun = subst (λ x. IsBegun s unit_kinds.Closure (actor_if (slice_get s.units s.unit)) x token u) by (subst (λ x. IsBegun s unit_kinds.Closure x method token u) of b); state = e }
+
+-- what a closure calls, as it was read
+pub callee_read : {s : State} {e : Expr} (place : ℕ) {first instance method : ℕ} {found receiver : Receiver} → e ≡ expr_at s place → e.form ≡ expr.Call found first → found ≡ receiver → IsCallee s e.token receiver instance method → (r : Receiver) × (form_at s place ≡ expr.Call r first) × IsCallee s (expr_at s place).token r instance method
+callee_read {s} place {first} {instance} {method} {receiver = receiver} e calls is names = (receiver, sym (ap (λ (x : Expr). x.form) e) ∙ calls ∙ ap (λ x. expr.Call x first) is, subst (λ (x : Expr). IsCallee s x.token receiver instance method) e names)

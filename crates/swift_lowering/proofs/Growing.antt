@@ -6,6 +6,7 @@ use Rattle.swift_syntax.specs.declared.tree.Into.{Into}
 use Rattle.swift_syntax.specs.declared.tree.Into.TheVariants as goes
 use Rattle.swift_syntax.specs.declared.tree.Stmt.{Stmt}
 use Rattle.swift_syntax.specs.declared.tree.StmtForm.{StmtForm}
+use Rattle.swift_syntax.specs.declared.tree.TaskForm.{TaskForm}
 use Rattle.swift_expressions.specs.Lowered.{Grows, yielding}
 use Rattle.swift_expressions.specs.States.{State, next_variable}
 use Rattle.swift_expressions.specs.declared.code.Callee.{Callee}
@@ -55,8 +56,8 @@ receives_grow : {s t : State} {unit token : ℕ} {b : Binding} → Receives s un
 receives_grow {s} r = on (on (alike (stays s) refl refl refl) (declares_grow r.declared)) (on (alike (stays _) refl refl refl) (binds_grow r.binds.binding r.binds.state))
 
 captures_grow : {s t : State} {unit token last next : ℕ} → Captures s unit token last t next → Grows s t
-captures_grow (closures.not_captured e n) = same e
-captures_grow {s} (closures.captured place at is e r n) = on (to e (alike (reads _ (stays s)) refl refl refl)) (receives_grow r)
+captures_grow (closures.not_captured free e n) = same e
+captures_grow {s} (closures.captured place named at is e r n) = on (to e (alike (reads _ (stays s)) refl refl refl)) (receives_grow r)
 
 all_captured : {s : State} {unit : ℕ} {t : State} {first last : ℕ} → CapturesAll s unit t first last → Grows s t
 all_captured closures.none_so_far = stays _
@@ -121,8 +122,8 @@ was_given kinds.Urgency v place g = g
 came_grows : (found : Typed) (s : State) → Grows s (came_to found s)
 came_grows found s = was_given found.kind _ found.value (puts _ (stays s))
 
-caught_grows : {s t : State} {found : Typed} {f : StmtForm} → GivesCaught s found t f → Grows s t
-caught_grows {s} {found = found} (catching.sets d e) = to e (puts _ (came_grows found s))
+caught_grows : {s t : State} {token : ℕ} {found : Typed} {f : StmtForm} → GivesCaught s token found t f → Grows s t
+caught_grows {s} {found = found} (catching.sets d to_it e) = to e (puts _ (came_grows found s))
 caught_grows {s} {found = found} (catching.gives g) = on (came_grows found s) (gives_to_grow g)
 
 rests : (b : Bool) {s t : State} → Grows s t → Grows s (open_rest b t)
@@ -164,20 +165,20 @@ names_counter_grow (blocks.by_name r b) = on (renames_grow r) (binds_grow b.bind
 next_grows : {s t : State} {b : Binding} {name : ℕ} → IsNext s b name t → Grows s t
 next_grows {b = b} n = to n.state (counts operators.Minus b.count (puts _ (declares_grow n.declared)))
 
-takes_grow : {s t : State} {name : ℕ} → TakesResults s name t → Grows s t
+takes_grow : {s t : State} {group name : ℕ} → TakesResults s group name t → Grows s t
 takes_grow {s} (blocks.of_nothing {b = b} place at e) = to e (counts operators.Minus b.count (puts _ (puts _ (child_tests b.count (uses place (stays s))))))
 takes_grow {s} (blocks.without_name {b = b} place at n h) = on (puts _ (child_tests b.count (uses place (stays s)))) (next_grows h)
 takes_grow {s} (blocks.with_name {b = b} place at n h) = on (on (puts _ (child_tests b.count (uses place (stays s)))) (next_grows n)) (binds_grow h.binding h.state)
 
 -- tasks
-makes_grow : {s t : State} {name : ℕ} {is_detached : Bool} {callee : Callee} → MakesTask s name is_detached callee t → Grows s t
+makes_grow : {s t : State} {name : ℕ} {what : TaskForm} {callee : Callee} → MakesTask s name what callee t → Grows s t
 makes_grow m = on (puts _ (declares_grow m.declared)) (binds_grow m.binds.binding m.binds.state)
 
 counts_in : (b : Bool) (place : ℕ) (group : Binding) {s t : State} → Grows s t → Grows s (counted_in b place group t)
 counts_in true place group g = alike g refl refl refl
 counts_in false place group g = counts operators.Plus group.count g
 
-adds_grow : {s t : State} {is_only : Bool} {callee : Callee} → AddsTask s is_only callee t → Grows s t
+adds_grow : {s t : State} {token : ℕ} {is_only : Bool} {callee : Callee} → AddsTask s token is_only callee t → Grows s t
 adds_grow {s} {is_only = is_only} a = to a.state (counts_in is_only a.place a.b (puts _ (stays s)))
 
 child_counts : (b : Bool) {s t : State} → Grows s t → Grows s (with_child_count b t)
@@ -272,7 +273,7 @@ mutual
   counts_on_grow : {s t : State} {name counter body : ℕ} → CountsOn s name counter body t → Grows s t
   counts_on_grow (blocks.count_on {counter = counter} n r e) = to e (alike (puts _ (counts operators.Plus counter (on (names_counter_grow n) (repeats_grow r)))) refl refl refl)
 
-  loops_grow : {s t : State} {name body : ℕ} → LoopsOver s name body t → Grows s t
+  loops_grow : {s t : State} {group name body : ℕ} → LoopsOver s group name body t → Grows s t
   loops_grow (blocks.loop_over h r e) = to e (alike (puts _ (on (takes_grow h) (repeats_grow r))) refl refl refl)
 
   attempts_grow : {n : ℕ} {s t : State} {flag token p : ℕ} → AttemptsAll n s flag token p t → Grows s t

@@ -23,9 +23,9 @@ use Rattle.swift_lowering.specs.Statements.{Assigns, Defines, DoesPlain, GivesTo
 below : (vs : List Value) (v : Value) → length vs < length (vs ++ v ∷ [])
 below vs v = omega (arith, length-append vs (v ∷ []))
 
-assigns_grow : {s u : State} {place : ℕ} {how : Option Operator} → Assigns s place u how → Grows s u
-assigns_grow (statements.sets {t = t} d h e) = on (lowers_grow h) (to e (puts _ (stays t)))
-assigns_grow (statements.changes {t = t} d h e) = on (lowers_grow h) (to e (puts _ (reads _ (reads _ (stays t)))))
+assigns_grow : {s u : State} {name place : ℕ} {is_own : Bool} {how : Option Operator} → Assigns s name is_own place u how → Grows s u
+assigns_grow (statements.sets {t = t} d h to_it e) = on (lowers_grow h) (to e (puts _ (stays t)))
+assigns_grow (statements.changes {t = t} d h to_it e) = on (lowers_grow h) (to e (puts _ (reads _ (reads _ (stays t)))))
 
 pub binds_grow : (b : Binding) {s t : State} → t ≡ in_scope b s → Grows s t
 binds_grow b {s} e = to e (alike (stays s) refl refl refl)
@@ -58,7 +58,7 @@ pub gives_to_grow : {s t : State} {found : Typed} {into : Into} → GivesTo s fo
 gives_to_grow (statements.nothing e) = same e
 gives_to_grow (statements.constant d) = defines_grow d
 gives_to_grow (statements.variable d) = defines_grow d
-gives_to_grow {s} (statements.assigned d e) = to e (puts _ (stays s))
+gives_to_grow {s} (statements.assigned d to_it e) = to e (puts _ (stays s))
 gives_to_grow {s} {found = found} (statements.goes_back e) = to e (given_grows s.returns found s)
 
 lets_go_grow : {s t : State} {place : ℕ} → LetsGo s place t → Grows s t
@@ -68,17 +68,17 @@ lets_go_grow {s} (statements.caught e h w) = to w (alike (on (alike (reads _ (st
 lets_go_grow (statements.computed h) = lowers_grow h
 
 -- a statement without a block
-pub plain_grows : {s t : State} {form : StmtForm} → DoesPlain s t form → Grows s t
+pub plain_grows : {s t : State} {token : ℕ} {form : StmtForm} → DoesPlain s token t form → Grows s t
 plain_grows (statements.lets_go is h) = lets_go_grow h
 plain_grows (statements.gives is h g) = on (lowers_grow h) (gives_to_grow g)
 plain_grows (statements.assigns h) = assigns_grow h
-plain_grows {s} (statements.toggles d e) = to e (puts _ (reads _ (reads _ (stays s))))
+plain_grows {s} (statements.toggles d to_it e) = to e (puts _ (reads _ (reads _ (stays s))))
 plain_grows {s} (statements.returns e) = to e (ended_grows s.returns s)
-plain_grows {s} (statements.throws number e) = to e (puts _ (reads _ (stays s)))
+plain_grows {s} (statements.throws number is e) = to e (puts _ (reads _ (stays s)))
 
 -- an assignment with an operator
-pub reads_late : {s u : State} {place : ℕ} {o : Operator} → Assigns s place u (Some o) → ReadsLate s place o u
-reads_late {o = o} (statements.changes {t = t} {found = found} d h e) =
+pub reads_late : {s u : State} {name place : ℕ} {is_own : Bool} {o : Operator} → Assigns s name is_own place u (Some o) → ReadsLate s place o u
+reads_late {o = o} (statements.changes {t = t} {found = found} d h to_it e) =
     let read : State = with_value (read_of d) t in
     record {
       t = t;

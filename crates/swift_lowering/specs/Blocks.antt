@@ -11,6 +11,7 @@ use Rattle.swift_syntax.specs.declared.tree.StmtForm.TheVariants as form
 use Rattle.swift_syntax.specs.declared.tree.TaskForm.{TaskForm}
 use Rattle.swift_syntax.specs.declared.tree.ValueType.{ValueType}
 use Rattle.swift_expressions.specs.Lowered.{Lowers, child_test, counted, kind_in, used, with_child_test, yielding}
+use Rattle.swift_expressions.specs.Scopes.{IsInnermost, IsPriority}
 use Rattle.swift_expressions.specs.States.{Binds, Gives, IsDeclared, State, bytes_at, left_to, named, next_value, next_variable, put, stmt_at, value_in, with_done, with_partial, with_temporary, with_value}
 use Rattle.swift_expressions.specs.declared.code.Callee.{Callee}
 use Rattle.swift_expressions.specs.declared.code.Callee.TheVariants as callees
@@ -130,31 +131,42 @@ pub record IsNext (s : State) (b : Binding) (name : ℕ) (t : State) : Type 0 wh
   pub declared : IsDeclared s name false u
   pub state : t ≡ counted operators.Minus b.count (put (instruction.Wait (Declare (next_variable s)) (waiting.Next b.variable) NONE) u)
 
--- The head of a loop over the results of a group: while the group's count says that a child is left, the next result is waited for. Which
--- group is not said.
-pub data TakesResults (s : State) (name : ℕ) (t : State) : Type 0 where
-  of_nothing : {b : Binding} (place : ℕ) → slice_get s.scope place ≡ Some b → t ≡ counted operators.Minus b.count (put (instruction.Wait Nothing (waiting.Next b.variable) NONE) (open_results b (used place s))) → TakesResults s name t
-  without_name : {b : Binding} (place : ℕ) → slice_get s.scope place ≡ Some b → bytes_at s name ≡ codes "_" → IsNext (open_results b (used place s)) b 0 t → TakesResults s name t
-  with_name : {b : Binding} {u : State} (place : ℕ) → slice_get s.scope place ≡ Some b → IsNext (open_results b (used place s)) b name u → Binds u name standings.Constant (next_variable s) b.kind (next_variable s) t → TakesResults s name t
+-- The innermost name in scope with the bytes of a token stands at a place, and is that of a group.
+pub record IsGroupAt (s : State) (token place : ℕ) (b : Binding) : Type 0 where
+  pub named : IsInnermost s token place
+  pub there : slice_get s.scope place ≡ Some b
+  pub is : b.standing ≡ standings.Group
 
--- A task begins, which its name stands for. How urgent it is, is not said.
-pub record MakesTask (s : State) (name : ℕ) (is_detached : Bool) (callee : Callee) (t : State) : Type 0 where
+-- The head of a loop over the results of a group: while the group's count says that a child is left, the next result is waited for.
+pub data TakesResults (s : State) (group name : ℕ) (t : State) : Type 0 where
+  of_nothing : {b : Binding} (place : ℕ) → IsGroupAt s group place b → t ≡ counted operators.Minus b.count (put (instruction.Wait Nothing (waiting.Next b.variable) NONE) (open_results b (used place s))) → TakesResults s group name t
+  without_name : {b : Binding} (place : ℕ) → IsGroupAt s group place b → bytes_at s name ≡ codes "_" → IsNext (open_results b (used place s)) b 0 t → TakesResults s group name t
+  with_name : {b : Binding} {u : State} (place : ℕ) → IsGroupAt s group place b → IsNext (open_results b (used place s)) b name u → Binds u name standings.Constant (next_variable s) b.kind (next_variable s) t → TakesResults s group name t
+
+-- How urgent a task is by itself: as the token says that names a priority; where there is none, nothing is said.
+abbrev pub IsUrgency : State → ℕ → Option Priority → Type 0
+IsUrgency s token None = token ≡ 0
+IsUrgency s token (Some p) = IsPriority s token p
+
+-- A task begins, which its name stands for.
+pub record MakesTask (s : State) (name : ℕ) (what : TaskForm) (callee : Callee) (t : State) : Type 0 where
   pub u : State
   pub priority : Option Priority
   pub kind : Kind
   pub declared : IsDeclared s name false u
-  pub binds : Binds (put (instruction.Make (next_variable s) is_detached callee priority) u) name standings.Task (next_variable s) kind (next_variable s) t
+  pub urgent : IsUrgency u what.priority priority
+  pub binds : Binds (put (instruction.Make (next_variable s) what.is_detached callee priority) u) name standings.Task (next_variable s) kind (next_variable s) t
 
 -- a child that may be left out may be missing from its group; any other is counted
 abbrev pub counted_in : Bool → ℕ → Binding → State → State
 counted_in true place b s = with_partial place s
 counted_in false place b s = counted operators.Plus b.count s
 
--- A child of a group begins. Which group that is, is not said.
-pub record AddsTask (s : State) (is_only : Bool) (callee : Callee) (t : State) : Type 0 where
+-- A child begins of the group that a token names.
+pub record AddsTask (s : State) (token : ℕ) (is_only : Bool) (callee : Callee) (t : State) : Type 0 where
   pub place : ℕ
   pub b : Binding
-  pub there : slice_get s.scope place ≡ Some b
+  pub there : IsGroupAt s token place b
   pub state : t ≡ counted_in is_only place b (put (instruction.Add b.variable is_only callee None) s)
 
 -- a variable that says whether the child of an `async let` is left, where its scope may be left before that is awaited
@@ -203,20 +215,20 @@ pub record EndsChild (s : State) (variable count : ℕ) (t : State) : Type 0 whe
 mutual
   -- What a statement becomes.
   pub data Does : State → Stmt → State → Type 0 where
-    plain : {s t : State} {stmt : Stmt} → DoesPlain s t stmt.form → Does s stmt t
+    plain : {s t : State} {stmt : Stmt} → DoesPlain s stmt.token t stmt.form → Does s stmt t
     conditional : {s t u v w : State} {stmt : Stmt} {test held failed value : ℕ} → stmt.form ≡ form.If test held failed → Tests s test t value → DoesBlock (put (instruction.If value) t) held u → DoesElse u failed v → w ≡ put instruction.End v → Does s stmt w
     guarded : {s t u v : State} {stmt : Stmt} {test body value : ℕ} → stmt.form ≡ form.Guard test body → Tests s test t value → DoesBlock (open_guard value t) body u → v ≡ put instruction.End u → Does s stmt v
     while_value : {s t u v : State} {stmt : Stmt} {test body value : ℕ} → stmt.form ≡ form.While test body → Tests s test t value → length t.instructions ≡ length s.instructions → Repeats (put (instruction.While value) t) body u → v ≡ put instruction.End u → Does s stmt v
     while_again : {s t u v w : State} {stmt : Stmt} {test body value again : ℕ} → stmt.form ≡ form.While test body → Tests s test t value → Repeats (open_while value t) body u → Tests (rest_where (may_return u body) u) test v again → w ≡ close_while (next_variable t) again (may_return v body) v → Does s stmt w
     for_range : {s t u : State} {stmt : Stmt} {from to body counter : ℕ} {is_closed : Bool} → stmt.form ≡ form.For from to is_closed body → Counts s from to is_closed counter t → CountsOn t stmt.token counter body u → Does s stmt u
-    for_results : {s t : State} {stmt : Stmt} {group body : ℕ} {is_tried : Bool} → stmt.form ≡ form.ForAwait group is_tried body → LoopsOver s stmt.token body t → Does s stmt t
-    while_results : {s t : State} {stmt : Stmt} {group body : ℕ} {is_tried : Bool} → stmt.form ≡ form.WhileNext group is_tried body → LoopsOver s stmt.token body t → Does s stmt t
-    makes_task : {s t u : State} {stmt : Stmt} {name : ℕ} {what : TaskForm} {body : ClosureBody} {callee : Callee} → stmt.form ≡ form.Task name what → IsOfTask s stmt what body → Encloses s body t callee → MakesTask t name what.is_detached callee u → Does s stmt u
-    adds_task : {s t u : State} {stmt : Stmt} {is_only : Bool} {what : TaskForm} {body : ClosureBody} {callee : Callee} → stmt.form ≡ form.AddTask is_only what → IsOfTask s stmt what body → Encloses s body t callee → AddsTask t is_only callee u → Does s stmt u
-    catches_one : {s t u v w : State} {stmt one : Stmt} {body instead place : ℕ} {found : Typed} → stmt.form ≡ form.DoCatch body instead → stmt_at s body ≡ Some one → one.next ≡ 0 → caught_wait s one.form ≡ Some place → Catches s place stmt.token t found → DoesBlock t instead u → GivesCaught u found v one.form → w ≡ put instruction.End v → Does s stmt w
+    for_results : {s t : State} {stmt : Stmt} {group body : ℕ} {is_tried : Bool} → stmt.form ≡ form.ForAwait group is_tried body → LoopsOver s group stmt.token body t → Does s stmt t
+    while_results : {s t : State} {stmt : Stmt} {group body : ℕ} {is_tried : Bool} → stmt.form ≡ form.WhileNext group is_tried body → LoopsOver s group stmt.token body t → Does s stmt t
+    makes_task : {s t u : State} {stmt : Stmt} {name : ℕ} {what : TaskForm} {body : ClosureBody} {callee : Callee} → stmt.form ≡ form.Task name what → IsOfTask s stmt what body → Encloses s body t callee → MakesTask t name what callee u → Does s stmt u
+    adds_task : {s t u : State} {stmt : Stmt} {is_only : Bool} {what : TaskForm} {body : ClosureBody} {callee : Callee} → stmt.form ≡ form.AddTask is_only what → IsOfTask s stmt what body → Encloses s body t callee → AddsTask t stmt.token is_only callee u → Does s stmt u
+    catches_one : {s t u v w : State} {stmt one : Stmt} {body instead place : ℕ} {found : Typed} → stmt.form ≡ form.DoCatch body instead → stmt_at s body ≡ Some one → one.next ≡ 0 → caught_wait s one.form ≡ Some place → Catches s place stmt.token t found → DoesBlock t instead u → GivesCaught u one.token found v one.form → w ≡ put instruction.End v → Does s stmt w
     catches_several : {s t u v : State} {stmt : Stmt} {body instead : ℕ} → stmt.form ≡ form.DoCatch body instead → is_lone_wait s (stmt_at s body) ≡ false → AttemptsBlock (begin_at_zero s) (next_variable s) stmt.token body t → DoesBlock (open_caught (next_variable s) t) instead u → v ≡ put instruction.End u → Does s stmt v
     groups : {s t u v w x : State} {stmt : Stmt} {into : Into} {found : ValueType} {is_throwing : Bool} {body : ℕ} → stmt.form ≡ form.Group into found is_throwing body → t ≡ with_result into s → BeginsGroup t stmt.token (kind_in found) u → DoesClosed u body (result_variable into s) v → w ≡ left_to (length s.scope) (put instruction.End v) → GivesClosed w into (result_variable into s) x → Does s stmt x
-    binds : {s t u v w x : State} {stmt : Stmt} {into : Into} {of given body : ℕ} → stmt.form ≡ form.Bind into of given body → t ≡ with_result into s → BeginsBind t given u → DoesClosed u body (result_variable into s) v → w ≡ left_to (length s.scope) (put instruction.End v) → GivesClosed w into (result_variable into s) x → Does s stmt x
+    binds : {s t u v w x : State} {stmt : Stmt} {into : Into} {of given body : ℕ} → stmt.form ≡ form.Bind into of given body → t ≡ with_result into s → BeginsBind t of stmt.token given u → DoesClosed u body (result_variable into s) v → w ≡ left_to (length s.scope) (put instruction.End v) → GivesClosed w into (result_variable into s) x → Does s stmt x
 
   -- What the statements of a block become, from a place on, in order; at most so many are looked at. What follows one that may return is done
   -- unless it has. What follows an `async let` stands in the group of its child.
@@ -268,8 +280,8 @@ mutual
     count_on : {s t u v : State} {name counter body : ℕ} → NamesCounter s name counter t → Repeats t body u → v ≡ left_to (length s.scope) (put instruction.End (counted operators.Plus counter u)) → CountsOn s name counter body v
 
   -- What is done for each result of a group.
-  pub data LoopsOver : State → ℕ → ℕ → State → Type 0 where
-    loop_over : {s t u v : State} {name body : ℕ} → TakesResults s name t → Repeats t body u → v ≡ left_to (length s.scope) (put instruction.End u) → LoopsOver s name body v
+  pub data LoopsOver : State → ℕ → ℕ → ℕ → State → Type 0 where
+    loop_over : {s t u v : State} {group name body : ℕ} → TakesResults s group name t → Repeats t body u → v ≡ left_to (length s.scope) (put instruction.End u) → LoopsOver s group name body v
 
   -- What the statements of a `do` become, from a place on, in order; at most so many are looked at. What follows a wait is done where no fault
   -- of it was caught; a variable says that one was.
@@ -278,7 +290,7 @@ mutual
     at_end : {n : ℕ} {s : State} {flag token p : ℕ} → stmt_at s p ≡ None → AttemptsAll n s flag token p s
     one_done : {m n : ℕ} {s t u : State} {flag token p : ℕ} {stmt : Stmt} → n ≡ suc m → stmt_at s p ≡ Some stmt → caught_wait s stmt.form ≡ None → Does s stmt t → has_rest t stmt ≡ false → AttemptsAll m t flag token stmt.next u → AttemptsAll n s flag token p u
     rest_unless_returned : {n : ℕ} {s t u v w : State} {flag token p : ℕ} {stmt : Stmt} → stmt_at s p ≡ Some stmt → caught_wait s stmt.form ≡ None → Does s stmt t → has_rest t stmt ≡ true → u ≡ open_rest true t → AttemptsAll (length u.tree.stmts.items) u flag token stmt.next v → w ≡ put instruction.End v → AttemptsAll n s flag token p w
-    rest_unless_caught : {n : ℕ} {s t u q v w : State} {flag token p place : ℕ} {stmt : Stmt} {found : Typed} → stmt_at s p ≡ Some stmt → caught_wait s stmt.form ≡ Some place → Catches s place token t found → GivesCaught (with_flag flag t) found u stmt.form → q ≡ open_rest (has_rest u stmt) u → AttemptsAll (length q.tree.stmts.items) q flag token stmt.next v → w ≡ put instruction.End (end_where (has_rest u stmt) v) → AttemptsAll n s flag token p w
+    rest_unless_caught : {n : ℕ} {s t u q v w : State} {flag token p place : ℕ} {stmt : Stmt} {found : Typed} → stmt_at s p ≡ Some stmt → caught_wait s stmt.form ≡ Some place → Catches s place token t found → GivesCaught (with_flag flag t) stmt.token found u stmt.form → q ≡ open_rest (has_rest u stmt) u → AttemptsAll (length q.tree.stmts.items) q flag token stmt.next v → w ≡ put instruction.End (end_where (has_rest u stmt) v) → AttemptsAll n s flag token p w
 
   -- What the block of a `do` becomes: its names end with it.
   pub data AttemptsBlock : State → ℕ → ℕ → ℕ → State → Type 0 where

@@ -25,7 +25,7 @@ use Rattle.swift_expressions.specs.declared.code.Wait.{Wait}
 use Rattle.swift_expressions.specs.declared.code.Wait.TheVariants as waiting
 use Rattle.swift_expressions.specs.declared.lowering.Fallback.TheVariants as fallbacks
 use Rattle.swift_expressions.specs.declared.typed.Typed.{Typed}
-use Rattle.swift_lowering.specs.Assignments.{set_of}
+use Rattle.swift_lowering.specs.Assignments.{GoesTo, set_of}
 use Rattle.swift_lowering.specs.Statements.{GivesTo}
 use Rattle.swift_lowering.specs.Units.{BeginsUnit, in_unit, unit_ended, with_instruction}
 use Rattle.swift_lowering.specs.declared.assignment.Destination.{Destination}
@@ -156,10 +156,10 @@ given_as_it_was _ _ place s = s
 abbrev pub came_to : Typed → State → State
 came_to found s = given_as_it_was found.kind (value_in s found.value) found.value (put instruction.Else s)
 
--- What came goes to where a statement gives its value. To which variable or field is not said.
-pub data GivesCaught (s : State) (found : Typed) (t : State) : StmtForm → Type 0 where
-  sets : {how : Assigning} {is_own : Bool} {place : ℕ} (to : Destination) → t ≡ put (set_of to found.value) (came_to found s) → GivesCaught s found t (form.Assign how is_own place)
-  gives : {into : Into} {place : ℕ} → GivesTo (came_to found s) found t into → GivesCaught s found t (form.Value into place)
+-- What came goes to where a statement gives its value, which stands at a token.
+pub data GivesCaught (s : State) (token : ℕ) (found : Typed) (t : State) : StmtForm → Type 0 where
+  sets : {how : Assigning} {is_own : Bool} {place : ℕ} (to : Destination) → GoesTo (came_to found s) token is_own to → t ≡ put (set_of to found.value) (came_to found s) → GivesCaught s token found t (form.Assign how is_own place)
+  gives : {into : Into} {place : ℕ} → GivesTo (came_to found s) found t into → GivesCaught s token found t (form.Value into place)
 
 -- what follows is done unless the unit has returned, where it may have
 abbrev pub open_rest : Bool → State → State

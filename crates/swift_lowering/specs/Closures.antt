@@ -5,10 +5,12 @@ use Rattle.swift_syntax.specs.Expressions.{after}
 use Rattle.swift_syntax.specs.declared.tree.ExprForm.{ExprForm}
 use Rattle.swift_syntax.specs.declared.tree.ExprForm.TheVariants as expr
 use Rattle.swift_syntax.specs.declared.tree.Receiver.{Receiver}
+use Rattle.swift_syntax.specs.declared.tree.Receiver.TheVariants as receivers
 use Rattle.swift_syntax.specs.declared.tree.Stmt.{Stmt}
 use Rattle.swift_syntax.specs.declared.tree.TaskForm.{TaskForm}
 use Rattle.swift_expressions.specs.Lowered.{Hands, Lowers, no_operands}
-use Rattle.swift_expressions.specs.States.{Binds, IsDeclared, State, form_at, next_value, next_variable, put, with_operand, with_value}
+use Rattle.swift_expressions.specs.Scopes.{IsFirst, IsFree, IsInnermost, IsInstanceAt, IsMethodAt, IsMethodOf, IsOfActor}
+use Rattle.swift_expressions.specs.States.{Binds, IsDeclared, State, expr_at, form_at, next_value, next_variable, put, with_operand, with_value}
 use Rattle.swift_expressions.specs.declared.code.Callee.{Callee}
 use Rattle.swift_expressions.specs.declared.code.Callee.TheVariants as callees
 use Rattle.swift_expressions.specs.declared.code.Instruction.TheVariants as instruction
@@ -46,11 +48,11 @@ is_value standings.Task = false
 is_value standings.Group = false
 is_value standings.Child = false
 
--- What a name in scope stands for, a value, is handed over, and is a parameter of the unit. Which names are captured, and which of those in
--- scope each is, is not said.
+-- What the innermost name in scope with the bytes of a token stands for, a value, is handed over, and is a parameter of the unit; nothing is
+-- where no name in scope has them. At which tokens names are captured is not said.
 pub data Captures (s : State) (unit token last : ℕ) (t : State) (next : ℕ) : Type 0 where
-  not_captured : t ≡ s → next ≡ last → Captures s unit token last t next
-  captured : {b : Binding} {u : State} (place : ℕ) → slice_get s.scope place ≡ Some b → is_value b.standing ≡ true → u ≡ handed b last s → Receives u unit token b t → next ≡ length s.operands → Captures s unit token last t next
+  not_captured : IsFree s token → t ≡ s → next ≡ last → Captures s unit token last t next
+  captured : {b : Binding} {u : State} (place : ℕ) → IsInnermost s token place → slice_get s.scope place ≡ Some b → is_value b.standing ≡ true → u ≡ handed b last s → Receives u unit token b t → next ≡ length s.operands → Captures s unit token last t next
 
 -- What a closure captures: the operands from one place on to another one.
 pub data CapturesAll (s : State) (unit : ℕ) : State → ℕ → ℕ → Type 0 where
@@ -90,12 +92,16 @@ uncovered s place =
     let twice = covered_by once (form_at s once) in
     covered_by twice (form_at s twice)
 
--- What is called is what a task runs, with these arguments. Which method that is, is not said.
-pub record HandsOver (s : State) (first : ℕ) (t : State) (callee : Callee) : Type 0 where
+-- What a call names that is all that a closure says: a function outside of actors, of no instance, or a method of the actor of an instance.
+-- Of several with one name it is the first. No name in scope is meant.
+pub data IsCallee (s : State) (token : ℕ) : Receiver → ℕ → ℕ → Type 0 where
+  of_nobody : {method : ℕ} → IsFree s token → IsFirst (IsMethodAt s NONE token) method → IsCallee s token receivers.Nobody NONE method
+  of_instance : {of instance actor method : ℕ} → IsFree s of → IsFirst (IsInstanceAt s of) instance → IsOfActor s instance actor → IsMethodOf s actor token method → IsCallee s token (receivers.Named of) instance method
+
+-- What is called is what a task runs, with these arguments.
+pub record HandsOver (s : State) (first instance method : ℕ) (t : State) (callee : Callee) : Type 0 where
   pub given : Operands
   pub hands : Hands (length s.tree.arguments.items) s first no_operands t given
-  pub instance : ℕ
-  pub method : ℕ
   pub is : callee ≡ callees.Method instance method given.first
 
 -- A closure that is but a call, with values that are the same wherever they are computed, is what it calls.
@@ -103,7 +109,10 @@ pub record IsDirect (s : State) (place : ℕ) (t : State) (callee : Callee) : Ty
   pub receiver : Receiver
   pub first : ℕ
   pub calls : form_at s (uncovered s place) ≡ expr.Call receiver first
-  pub hands : HandsOver s first t callee
+  pub instance : ℕ
+  pub method : ℕ
+  pub names : IsCallee s (expr_at s (uncovered s place)).token receiver instance method
+  pub hands : HandsOver s first instance method t callee
 
 -- what holds around a closure holds again
 abbrev pub with_setting : Setting → State → State

@@ -3,6 +3,7 @@ use Rattle.std.specs.Prelude.{ℕ, ◌≡◌, false}
 use Rattle.swift_syntax.specs.declared.tree.Into.{Into}
 use Rattle.swift_syntax.specs.declared.tree.Into.TheVariants as goes
 use Rattle.swift_expressions.specs.Lowered.{Lowers}
+use Rattle.swift_expressions.specs.Scopes.{IsFirst, IsLocalAt}
 use Rattle.swift_expressions.specs.States.{Binds, Gives, IsDeclared, State, next_variable, put}
 use Rattle.swift_expressions.specs.declared.code.Instruction.TheVariants as instruction
 use Rattle.swift_expressions.specs.declared.code.Kind.{Kind}
@@ -36,12 +37,13 @@ pub record BeginsGroup (s : State) (name : ℕ) (kind : Kind) (t : State) : Type
   pub declared : IsDeclared s name false u
   pub binds : Binds (begin_at_zero (put (instruction.Group (next_variable s)) u)) name standings.Group (next_variable s) kind (next_variable u) t
 
--- A value is bound to a task local. To which one is not said.
-pub record BeginsBind (s : State) (given : ℕ) (t : State) : Type 0 where
+-- A value is bound to a task local: to the first one of an enum, each with the bytes of a token.
+pub record BeginsBind (s : State) (of token given : ℕ) (t : State) : Type 0 where
   pub u : State
   pub found : Typed
   pub lowers : Lowers s given u found
   pub local : ℕ
+  pub first : IsFirst (IsLocalAt u of token) local
   pub state : t ≡ put (instruction.Bind local found.value) u
 
 -- what returns from a block goes to its variable, from so many open blocks

@@ -1,8 +1,11 @@
 -- What statements without a block become, over what their expressions do. (Our own.)
-use Rattle.std.specs.Prelude.{ℕ, ◌≡◌, ◌==◌, ◌++◌, ◌∷◌, [], Bool, true, false, if◌then◌else◌, nat_lt, ℤ, pos, Option, Some, None, ◌⊎◌, codes}
+use Rattle.std.specs.Prelude.{ℕ, ◌≡◌, ◌==◌, ◌++◌, ◌∷◌, [], Bool, true, false, if◌then◌else◌, nat_lt, ℤ, pos, neg_ℤ, Option, Some, None, ◌⊎◌, codes}
+use Rattle.std.specs.List.{slice_get}
 use Rattle.swift_types.specs.declared.operator.Operator.{Operator}
 use Rattle.swift_syntax.specs.declared.tree.Argument.{Argument}
 use Rattle.swift_syntax.specs.declared.tree.Assigning.{Assigning}
+use Rattle.swift_syntax.specs.declared.tree.CaseDecl.{CaseDecl}
+use Rattle.swift_syntax.specs.declared.tree.Expr.{Expr}
 use Rattle.swift_syntax.specs.declared.tree.ExprForm.TheVariants as expr
 use Rattle.swift_syntax.specs.declared.tree.Into.{Into}
 use Rattle.swift_syntax.specs.declared.tree.Into.TheVariants as goes
@@ -12,6 +15,7 @@ use Rattle.swift_syntax.specs.declared.tree.StmtForm.{StmtForm}
 use Rattle.swift_syntax.specs.declared.tree.StmtForm.TheVariants as form
 use Rattle.swift_syntax.specs.declared.tree.ValueType.{ValueType}
 use Rattle.swift_expressions.specs.Lowered.{Grows, Lowers}
+use Rattle.swift_expressions.specs.Scopes.{IsFirst}
 use Rattle.swift_expressions.specs.States.{Binds, IsDeclared, State, argument_at, bytes_at, covered, expr_at, form_at, named, next_value, next_variable, put, returned_inside, standing_of, value_in, with_fallback, with_value}
 use Rattle.swift_expressions.specs.declared.code.Instruction.TheVariants as instruction
 use Rattle.swift_expressions.specs.declared.code.Kind.{Kind}
@@ -22,7 +26,7 @@ use Rattle.swift_expressions.specs.declared.lowering.Fallback.TheVariants as fal
 use Rattle.swift_expressions.specs.declared.lowering.Returns.{Returns}
 use Rattle.swift_expressions.specs.declared.lowering.Returns.TheVariants as returning
 use Rattle.swift_expressions.specs.declared.typed.Typed.{Typed}
-use Rattle.swift_lowering.specs.Assignments.{operator_of, read_of, set_of}
+use Rattle.swift_lowering.specs.Assignments.{GoesTo, operator_of, read_of, set_of}
 use Rattle.swift_lowering.specs.declared.assignment.Destination.{Destination}
 
 -- what stands somewhere is read, combined with a value that is computed already, and set
@@ -37,10 +41,10 @@ toggled to s =
     let read = with_value (read_of to) s in
     put (set_of to (next_value read)) (with_value (value.Not (next_value s)) read)
 
--- `x = e`, and `x += e`, which reads x after e. To which variable or field is not said.
-pub data Assigns (s : State) (place : ℕ) (u : State) : Option Operator → Type 0 where
-  sets : {t : State} {found : Typed} (to : Destination) → Lowers s place t found → u ≡ put (set_of to found.value) t → Assigns s place u None
-  changes : {t : State} {found : Typed} {o : Operator} (to : Destination) → Lowers s place t found → u ≡ changed o to found.value t → Assigns s place u (Some o)
+-- `x = e`, and `x += e`, which reads x after e.
+pub data Assigns (s : State) (name : ℕ) (is_own : Bool) (place : ℕ) (u : State) : Option Operator → Type 0 where
+  sets : {t : State} {found : Typed} (to : Destination) → Lowers s place t found → GoesTo t name is_own to → u ≡ put (set_of to found.value) t → Assigns s name is_own place u None
+  changes : {t : State} {found : Typed} {o : Operator} (to : Destination) → Lowers s place t found → GoesTo t name is_own to → u ≡ changed o to found.value t → Assigns s name is_own place u (Some o)
 
 -- A value is a variable, which gets a name.
 pub record IsNamed (s : State) (place name variable : ℕ) (t : State) : Type 0 where
@@ -91,10 +95,30 @@ pub data GivesTo (s : State) (found : Typed) (t : State) : Into → Type 0 where
   nothing : t ≡ s → GivesTo s found t goes.Nothing
   constant : {name : ℕ} {wanted : Option ValueType} → Defines s name found false t → GivesTo s found t (goes.Let name wanted)
   variable : {name : ℕ} {wanted : Option ValueType} → Defines s name found true t → GivesTo s found t (goes.Var name wanted)
-  assigned : {name : ℕ} (to : Destination) → t ≡ put (set_of to found.value) s → GivesTo s found t (goes.Assign name)
+  assigned : {name : ℕ} (to : Destination) → GoesTo s name false to → t ≡ put (set_of to found.value) s → GivesTo s found t (goes.Assign name)
   goes_back : t ≡ given_by s.returns found s → GivesTo s found t goes.Return
 
--- `throw e`: the number of what is thrown. Which one is not said.
+-- A case of an enum of errors stands at a place of the tree, each with the bytes of a token.
+pub record IsCaseAt (s : State) (of token place : ℕ) : Type 0 where
+  pub declared : CaseDecl
+  pub there : slice_get s.tree.cases.items place ≡ Some declared
+  pub within : bytes_at s declared.of ≡ bytes_at s of
+  pub spelled : bytes_at s declared.name ≡ bytes_at s token
+
+-- The number of a case of an enum of errors: its place in the enum. Of several with one name it is the first.
+pub record IsCaseNumber (s : State) (of token : ℕ) (number : ℤ) : Type 0 where
+  pub place : ℕ
+  pub first : IsFirst (IsCaseAt s of token) place
+  pub declared : CaseDecl
+  pub there : slice_get s.tree.cases.items place ≡ Some declared
+  pub is : number ≡ pos declared.place
+
+-- The number that an expression throws: that of a case, or -1 of a `CancellationError()`.
+pub data IsThrown (s : State) (e : Expr) (number : ℤ) : Type 0 where
+  a_case : {of : ℕ} → e.form ≡ expr.Member of → IsCaseNumber s of e.token number → IsThrown s e number
+  a_cancellation : {from : Receiver} → e.form ≡ expr.Call from 0 → bytes_at s e.token ≡ codes "CancellationError" → number ≡ neg_ℤ (pos 1) → IsThrown s e number
+
+-- `throw e`: the number of what is thrown
 abbrev pub thrown : ℤ → State → State
 thrown number s = put (instruction.Throw (next_value s)) (with_value (value.Number number) s)
 
@@ -134,14 +158,14 @@ is_let_go (goes.Var name wanted) = false
 is_let_go (goes.Assign name) = false
 is_let_go goes.Return = false
 
--- What a statement without a block becomes.
-pub data DoesPlain (s : State) (t : State) : StmtForm → Type 0 where
-  lets_go : {into : Into} {place : ℕ} → is_let_go into ≡ true → LetsGo s place t → DoesPlain s t (form.Value into place)
-  gives : {u : State} {into : Into} {place : ℕ} {found : Typed} → is_let_go into ≡ false → Lowers s place u found → GivesTo u found t into → DoesPlain s t (form.Value into place)
-  assigns : {how : Assigning} {is_own : Bool} {place : ℕ} → Assigns s place t (operator_of how) → DoesPlain s t (form.Assign how is_own place)
-  toggles : {is_own : Bool} (to : Destination) → t ≡ toggled to s → DoesPlain s t (form.Toggle is_own)
-  returns : t ≡ ended_by s.returns s → DoesPlain s t form.Return
-  throws : {place : ℕ} (number : ℤ) → t ≡ thrown number s → DoesPlain s t (form.Throw place)
+-- What a statement without a block becomes, which stands at a token.
+pub data DoesPlain (s : State) (token : ℕ) (t : State) : StmtForm → Type 0 where
+  lets_go : {into : Into} {place : ℕ} → is_let_go into ≡ true → LetsGo s place t → DoesPlain s token t (form.Value into place)
+  gives : {u : State} {into : Into} {place : ℕ} {found : Typed} → is_let_go into ≡ false → Lowers s place u found → GivesTo u found t into → DoesPlain s token t (form.Value into place)
+  assigns : {how : Assigning} {is_own : Bool} {place : ℕ} → Assigns s token is_own place t (operator_of how) → DoesPlain s token t (form.Assign how is_own place)
+  toggles : {is_own : Bool} (to : Destination) → GoesTo s token is_own to → t ≡ toggled to s → DoesPlain s token t (form.Toggle is_own)
+  returns : t ≡ ended_by s.returns s → DoesPlain s token t form.Return
+  throws : {place : ℕ} (number : ℤ) → IsThrown s (expr_at s place) number → t ≡ thrown number s → DoesPlain s token t (form.Throw place)
 
 -- An assignment with an operator: its right side is computed first, and then one instruction sets what stands somewhere to that, read there
 -- and then, combined with the right side's value.

@@ -1,12 +1,13 @@
 //! Where values go.
 
-ghost use Rattle.std.specs.Prelude.{◌≡◌, ℤ, IfNone, IfSome, IsNone, IsSome};
+ghost use Rattle.std.specs.Prelude.{◌≡◌, ◌↔◌, ℤ, IfNone, IfSome, IsNone, IsSome, IsTrue, true, false, codes, slice_get};
 ghost use Rattle.swift_expressions.specs.Instructions.{IsPlaced, KeepsRefusal, Puts};
-ghost use Rattle.swift_lowering.specs.Assignments.{operator_of, read_of, set_of};
-ghost use Rattle.swift_expressions.specs.States.{Becomes, next_value, put, state_of, with_value};
+ghost use Rattle.swift_lowering.specs.Assignments.{GoesTo, operator_of, read_of, set_of};
+ghost use Rattle.swift_expressions.specs.Scopes.{IsFirst, IsFree};
+ghost use Rattle.swift_expressions.specs.States.{Becomes, bytes_at, expr_at, next_value, put, state_of, with_value};
 ghost use Rattle.swift_lowering.specs.Catching.{GivesCaught};
 ghost use Rattle.swift_lowering.specs.EndsInside.{EndsInAssignment, EndsInChange, EndsInSet};
-ghost use Rattle.swift_lowering.specs.Statements.{Assigns, Defines, GivesTo, IsNamed, changed, ended_by, given_back, given_by, returned, thrown, toggled};
+ghost use Rattle.swift_lowering.specs.Statements.{Assigns, Defines, GivesTo, IsCaseAt, IsCaseNumber, IsNamed, IsThrown, changed, ended_by, given_back, given_by, returned, thrown, toggled};
 ghost use Rattle.swift_lowering.specs.declared.assignment.Destination.{Destination};
 
 use crate::catching::begin_came;
@@ -16,7 +17,7 @@ use swift_expressions::{
     expression, field_at, field_kind, field_named, kind_of, refuse_hidden, standing_at, want,
     with_kind,
 };
-use swift_syntax::{Assigning, ExprForm, Into, Rule, Stmt, StmtForm, ValueType};
+use swift_syntax::{Assigning, CaseDecl, ExprForm, Into, Rule, Stmt, StmtForm, ValueType};
 use swift_types::Operator;
 
 // Refuses a value of another type, where one is wanted.
@@ -118,16 +119,30 @@ enum Destination {
 
 // Where an assignment to a name goes, behind `self.` where the flag says so: to the name in scope, or else to the field. Refuses another one.
 fn destination_of(lowering: &mut Lowering<'_>, name: usize, is_own: bool) -> Option<Destination>
+    ensures goes { IfSome result (GoesTo (state_of lowering.old) name is_own) }
     ensures unknown { IfNone result (IsSome lowering.new.refused) }
     ensures code { lowering.new.code ≡ lowering.old.code }
     ensures state { Becomes lowering.new (state_of lowering.old) }
     ensures refused { KeepsRefusal lowering.old lowering.new }
 {
-    if !is_own {
-        if let Some(found) = standing_at(lowering, name) {
-            return Some(Destination::Name(found));
-        }
+    if is_own {
+        return own_destination(lowering, name);
     }
+    match standing_at(lowering, name) {
+        Some(found) => Some(Destination::Name(found)),
+        None => own_destination(lowering, name),
+    }
+}
+
+// The field of the own actor that an assignment to a name goes to. Refuses another one.
+fn own_destination(lowering: &mut Lowering<'_>, name: usize) -> Option<Destination>
+    ensures own { IfSome result (GoesTo (state_of lowering.old) name true) }
+    ensures bare { IsFree (state_of lowering.old) name → IfSome result (GoesTo (state_of lowering.old) name false) }
+    ensures unknown { IfNone result (IsSome lowering.new.refused) }
+    ensures code { lowering.new.code ≡ lowering.old.code }
+    ensures state { Becomes lowering.new (state_of lowering.old) }
+    ensures refused { KeepsRefusal lowering.old lowering.new }
+{
     let actor = lowering.setting.actor;
     match field_named(lowering, actor, name) {
         Some(field) => Some(Destination::Field(field)),
@@ -189,12 +204,13 @@ fn store(lowering: &mut Lowering<'_>, to: Destination, found: Typed, name: usize
 #[tactic(auto, using(crate::proofs::Changes::sets_of))]
 fn set(lowering: &mut Lowering<'_>, name: usize, is_own: bool, found: Typed)
     ensures set { IsNone lowering.new.refused → EndsInSet lowering.old.code.instructions.items lowering.new.code found.value }
-    ensures state { IsNone lowering.new.refused → (to : Destination) × (state_of lowering.new ≡ put (set_of to found.value) (state_of lowering.old)) }
+    ensures state { IsNone lowering.new.refused → (to : Destination) × GoesTo (state_of lowering.old) name is_own to × (state_of lowering.new ≡ put (set_of to found.value) (state_of lowering.old)) }
     ensures refused { KeepsRefusal lowering.old lowering.new }
 {
-    if let Some(to) = destination_of(lowering, name, is_own) {
-        store(lowering, to, found, name);
-    }
+    let Some(to) = destination_of(lowering, name, is_own) else {
+        return;
+    };
+    store(lowering, to, found, name);
 }
 
 // What stands there before it is changed.
@@ -232,7 +248,7 @@ fn operator_of(how: Assigning) -> Option<Operator>
 #[tactic(auto, using(crate::proofs::Changes::changed))]
 fn change(lowering: &mut Lowering<'_>, operator: Operator, is_own: bool, found: Typed, name: usize)
     ensures changed { IsNone lowering.new.refused → EndsInChange lowering.old.code.instructions.items lowering.new.code operator found.value }
-    ensures state { IsNone lowering.new.refused → (to : Destination) × (state_of lowering.new ≡ changed operator to found.value (state_of lowering.old)) }
+    ensures state { IsNone lowering.new.refused → (to : Destination) × GoesTo (state_of lowering.old) name is_own to × (state_of lowering.new ≡ changed operator to found.value (state_of lowering.old)) }
     ensures refused { KeepsRefusal lowering.old lowering.new }
 {
     want(lowering, found, Kind::Int, name);
@@ -254,7 +270,7 @@ pub(crate) fn assign(
     name: usize,
 )
     ensures assigned { IsNone lowering.new.refused → EndsInAssignment lowering.new.code (operator_of how) }
-    ensures assigns { IsNone lowering.new.refused → Assigns (state_of lowering.old) place (state_of lowering.new) (operator_of how) }
+    ensures assigns { IsNone lowering.new.refused → Assigns (state_of lowering.old) name is_own place (state_of lowering.new) (operator_of how) }
     ensures refused { KeepsRefusal lowering.old lowering.new }
 {
     let found = expression(lowering, place);
@@ -266,7 +282,7 @@ pub(crate) fn assign(
 
 /// `NAME.toggle()`
 pub(crate) fn toggle(lowering: &mut Lowering<'_>, is_own: bool, name: usize)
-    ensures state { IsNone lowering.new.refused → (to : Destination) × (state_of lowering.new ≡ toggled to (state_of lowering.old)) }
+    ensures state { IsNone lowering.new.refused → (to : Destination) × GoesTo (state_of lowering.old) name is_own to × (state_of lowering.new ≡ toggled to (state_of lowering.old)) }
     ensures refused { KeepsRefusal lowering.old lowering.new }
 {
     let Some(to) = destination_of(lowering, name, is_own) else {
@@ -370,38 +386,80 @@ pub(crate) fn give(lowering: &mut Lowering<'_>, into: Into, found: Typed, stmt: 
     }
 }
 
+// Whether a case of an enum of errors stands at a place, each with the bytes of a token.
+fn is_case_at(lowering: &Lowering<'_>, of: usize, name: usize, place: usize) -> bool
+    ensures { IsTrue result ↔ IsCaseAt (state_of lowering.now) of name place }
+{
+    match lowering.tree.cases.get(place) {
+        Some(found) => lowering.are_same(found.of, of) && lowering.are_same(found.name, name),
+        None => false,
+    }
+}
+
+// The place of the case of an enum of errors, each with the bytes of a token: of such ones the first.
+fn case_named(lowering: &Lowering<'_>, of: usize, name: usize) -> Option<usize>
+    ensures found { IfSome result (IsFirst (IsCaseAt (state_of lowering.now) of name)) }
+{
+    for place in 0..lowering.tree.cases.len() {
+        if is_case_at(lowering, of, name, place) {
+            return Some(place);
+        }
+    }
+    None
+}
+
+// The case at a place.
+fn case_at(lowering: &Lowering<'_>, place: usize) -> Option<CaseDecl>
+    ensures { result ≡ slice_get lowering.now.tree.now.value.cases.items place }
+{
+    lowering.tree.cases.get(place).copied()
+}
+
 // The number of a case of an enum of errors.
 fn case_number(lowering: &mut Lowering<'_>, of: usize, name: usize) -> i64
+    ensures number { IsNone lowering.new.refused → IsCaseNumber (state_of lowering.old) of name result }
     ensures state { Becomes lowering.new (state_of lowering.old) }
     ensures refused { KeepsRefusal lowering.old lowering.new }
 {
-    let found = lowering
-        .tree
-        .cases
-        .iter()
-        .find(|c| lowering.are_same(c.of, of) && lowering.are_same(c.name, name))
-        .map(|c| c.place);
-    match found {
-        Some(place) => {
-            refuse_hidden(lowering, of);
-            i64::try_from(place).unwrap_or(0)
-        }
-        None => {
-            lowering.refuse(Rule::UnknownName, name);
-            0
-        }
-    }
+    let Some(place) = case_named(lowering, of, name) else {
+        lowering.refuse(Rule::UnknownName, name);
+        return 0;
+    };
+    let Some(found) = case_at(lowering, place) else {
+        lowering.refuse(Rule::UnknownName, name);
+        return 0;
+    };
+    refuse_hidden(lowering, of);
+    let Ok(number) = i64::try_from(found.place) else {
+        lowering.refuse(Rule::TooLarge, name);
+        return 0;
+    };
+    number
+}
+
+// Whether a call of what a token names, with these arguments, is `CancellationError()`.
+fn is_cancellation(lowering: &Lowering<'_>, first: usize, token: usize) -> bool
+    ensures { IsTrue result ↔ (first ≡ 0) × (bytes_at (state_of lowering.now) token ≡ codes "CancellationError") }
+{
+    first == 0 && lowering.spells(token, "CancellationError")
 }
 
 // The number that an expression throws: the place of a case in its enum, or -1.
 fn thrown(lowering: &mut Lowering<'_>, place: usize) -> i64
+    ensures thrown { IsNone lowering.new.refused → IsThrown (state_of lowering.old) (expr_at (state_of lowering.old) place) result }
     ensures state { Becomes lowering.new (state_of lowering.old) }
     ensures refused { KeepsRefusal lowering.old lowering.new }
 {
-    let expr = lowering.tree.expr(place);
+    let expr = lowering.expr(place);
     match expr.form {
         ExprForm::Member(of) => case_number(lowering, of, expr.token),
-        ExprForm::Call(_, 0) if lowering.spells(expr.token, "CancellationError") => -1,
+        ExprForm::Call(_, first) => {
+            if is_cancellation(lowering, first, expr.token) {
+                return -1;
+            }
+            lowering.refuse(Rule::Outside, expr.token);
+            0
+        }
         _ => {
             lowering.refuse(Rule::Outside, expr.token);
             0
@@ -411,11 +469,11 @@ fn thrown(lowering: &mut Lowering<'_>, place: usize) -> i64
 
 /// `throw e`
 pub(crate) fn throw(lowering: &mut Lowering<'_>, place: usize)
-    ensures state { IsNone lowering.new.refused → (number : ℤ) × (state_of lowering.new ≡ thrown number (state_of lowering.old)) }
+    ensures state { IsNone lowering.new.refused → (number : ℤ) × IsThrown (state_of lowering.old) (expr_at (state_of lowering.old) place) number × (state_of lowering.new ≡ thrown number (state_of lowering.old)) }
     ensures refused { KeepsRefusal lowering.old lowering.new }
 {
     lowering.setting.has_thrown = true;
-    let token = lowering.tree.expr(place).token;
+    let token = lowering.expr(place).token;
     lowering.refuse_thrown(token);
     let number = thrown(lowering, place);
     let value = lowering.number(number);
@@ -424,7 +482,7 @@ pub(crate) fn throw(lowering: &mut Lowering<'_>, place: usize)
 
 /// The beginning of what is done where what came in a `do` was given to where its statement gives it.
 pub(crate) fn begin_given(lowering: &mut Lowering<'_>, found: Typed, stmt: Stmt)
-    ensures gives { IsNone lowering.new.refused → GivesCaught (state_of lowering.old) found (state_of lowering.new) stmt.form }
+    ensures gives { IsNone lowering.new.refused → GivesCaught (state_of lowering.old) stmt.token found (state_of lowering.new) stmt.form }
     ensures refused { KeepsRefusal lowering.old lowering.new }
 {
     begin_came(lowering, found);

@@ -9,8 +9,8 @@ ghost use Rattle.swift_lowering.specs.EndsInside.{IsHandedOver};
 use crate::catching::begin_or;
 use crate::closure::ClosureBody;
 use swift_expressions::{
-    Binding, Lowering, NONE, Standing, Typed, Value, binding_at, constant_named, declare, find,
-    instance_named, refuse_hidden, standing_at,
+    Binding, Lowering, NONE, Standing, Typed, Value, constant_named, declare, instance_named,
+    refuse_hidden, standing_at,
 };
 use swift_syntax::{Rule, Sign, TokenKind};
 
@@ -94,10 +94,7 @@ fn capture(
     ensures captures { IsNone lowering.new.refused → Captures (state_of lowering.old) unit token last (state_of lowering.new) result }
     ensures refused { KeepsRefusal lowering.old lowering.new }
 {
-    let Some(place) = find(lowering, token) else {
-        return last;
-    };
-    let Some(found) = binding_at(lowering, place) else {
+    let Some(found) = standing_at(lowering, token) else {
         return last;
     };
     if may_be_handed(lowering, found, captures, token) {

@@ -2,8 +2,8 @@
 
 ghost use Rattle.std.specs.Prelude.{◌≡◌, ◌-◌, IfNone, IfSome, IsNone, length};
 ghost use Rattle.swift_expressions.specs.Instructions.{KeepsRefusal};
-ghost use Rattle.swift_expressions.specs.States.{Becomes, form_at, left_to, state_of};
-ghost use Rattle.swift_lowering.specs.Closures.{HandsOver, IsDirect, IsGiven, OpensClosure, covered_by, in_closure, uncovered, with_setting};
+ghost use Rattle.swift_expressions.specs.States.{Becomes, expr_at, form_at, left_to, state_of};
+ghost use Rattle.swift_lowering.specs.Closures.{HandsOver, IsCallee, IsDirect, IsGiven, OpensClosure, covered_by, in_closure, uncovered, with_setting};
 ghost use Rattle.swift_lowering.specs.Units.{unit_ended};
 
 use crate::assignment::given_back;
@@ -121,22 +121,6 @@ fn are_fixed(lowering: &Lowering<'_>, first: usize) -> bool {
     true
 }
 
-// The instance whose method is all that a closure calls, with values that are the same wherever they are computed.
-fn called_instance(lowering: &Lowering<'_>, place: usize) -> Option<usize> {
-    match lowering.tree.expr(place).form {
-        ExprForm::Call(Receiver::Named(of), first) => {
-            if standing_at(lowering, of).is_some()
-                || is_hidden(lowering, of)
-                || !are_fixed(lowering, first)
-            {
-                return None;
-            }
-            instance_named(lowering, of)
-        }
-        _ => None,
-    }
-}
-
 // A call of a method of an instance, or of a function for that of `NONE`, with the first of its arguments and the token of its name.
 #[derive(Clone, Copy)]
 struct InstanceCall {
@@ -149,21 +133,28 @@ struct InstanceCall {
 
 // The function that is all that a closure calls, with values that are the same wherever they are computed.
 fn called_function(lowering: &Lowering<'_>, place: usize) -> Option<InstanceCall>
-    ensures { IfSome result (λ call. form_at (state_of lowering.now) place ≡ ExprForm.Call Receiver.Nobody call.first) }
+    ensures { IfSome result (λ call. (receiver : Receiver) × (form_at (state_of lowering.now) place ≡ ExprForm.Call receiver call.first) × IsCallee (state_of lowering.now) (expr_at (state_of lowering.now) place).token receiver call.instance call.method) }
 {
     let expr = lowering.expr(place);
-    let ExprForm::Call(Receiver::Nobody, first) = expr.form else {
+    let ExprForm::Call(receiver, first) = expr.form else {
+        return None;
+    };
+    let Receiver::Nobody = receiver else {
         return None;
     };
     let token = expr.token;
-    if standing_at(lowering, token).is_some()
-        || is_hidden(lowering, token)
-        || !are_fixed(lowering, first)
-    {
+    if let Some(_) = standing_at(lowering, token) {
         return None;
     }
-    let method = function_named(lowering, token)?;
-    let declared = method_at(lowering, method)?;
+    if is_hidden(lowering, token) || !are_fixed(lowering, first) {
+        return None;
+    }
+    let Some(method) = function_named(lowering, token) else {
+        return None;
+    };
+    let Some(declared) = method_at(lowering, method) else {
+        return None;
+    };
     if !declared.is_async {
         return None;
     }
@@ -176,21 +167,34 @@ fn called_function(lowering: &Lowering<'_>, place: usize) -> Option<InstanceCall
     })
 }
 
-// What a closure calls, if that is all that it does.
-fn called(lowering: &Lowering<'_>, place: usize) -> Option<InstanceCall>
-    ensures { IfSome result (λ call. (receiver : Receiver) × (form_at (state_of lowering.now) place ≡ ExprForm.Call receiver call.first)) }
+// The method of an instance that is all that a closure calls, with values that are the same wherever they are computed.
+fn called_method(lowering: &Lowering<'_>, place: usize) -> Option<InstanceCall>
+    ensures { IfSome result (λ call. (receiver : Receiver) × (form_at (state_of lowering.now) place ≡ ExprForm.Call receiver call.first) × IsCallee (state_of lowering.now) (expr_at (state_of lowering.now) place).token receiver call.instance call.method) }
 {
-    if let Some(call) = called_function(lowering, place) {
-        return Some(call);
-    }
-    let instance = called_instance(lowering, place)?;
     let expr = lowering.expr(place);
-    let ExprForm::Call(_, first) = expr.form else {
+    let ExprForm::Call(receiver, first) = expr.form else {
+        return None;
+    };
+    let Receiver::Named(of) = receiver else {
         return None;
     };
     let token = expr.token;
-    let method = method_named(lowering, actor_of(lowering, instance), token)?;
-    let declared = method_at(lowering, method)?;
+    if let Some(_) = standing_at(lowering, of) {
+        return None;
+    }
+    if is_hidden(lowering, of) || !are_fixed(lowering, first) {
+        return None;
+    }
+    let Some(instance) = instance_named(lowering, of) else {
+        return None;
+    };
+    let actor = actor_of(lowering, instance);
+    let Some(method) = method_named(lowering, actor, token) else {
+        return None;
+    };
+    let Some(declared) = method_at(lowering, method) else {
+        return None;
+    };
     Some(InstanceCall {
         instance,
         method,
@@ -198,6 +202,16 @@ fn called(lowering: &Lowering<'_>, place: usize) -> Option<InstanceCall>
         first,
         token,
     })
+}
+
+// What a closure calls, if that is all that it does.
+fn called(lowering: &Lowering<'_>, place: usize) -> Option<InstanceCall>
+    ensures { IfSome result (λ call. (receiver : Receiver) × (form_at (state_of lowering.now) place ≡ ExprForm.Call receiver call.first) × IsCallee (state_of lowering.now) (expr_at (state_of lowering.now) place).token receiver call.instance call.method) }
+{
+    match called_function(lowering, place) {
+        Some(call) => Some(call),
+        None => called_method(lowering, place),
+    }
 }
 
 /// A closure that only calls a method of an instance is that method; one that only calls a function that is `async` is that function, which
@@ -225,7 +239,7 @@ pub(crate) fn direct(lowering: &mut Lowering<'_>, body: ClosureBody) -> Option<M
 
 // What is called as what a task runs.
 fn hand_over(lowering: &mut Lowering<'_>, call: InstanceCall, is_tried: bool) -> MadeClosure
-    ensures hands { IsNone lowering.new.refused → HandsOver (state_of lowering.old) call.first (state_of lowering.new) result.callee }
+    ensures hands { IsNone lowering.new.refused → HandsOver (state_of lowering.old) call.first call.instance call.method (state_of lowering.new) result.callee }
     ensures refused { KeepsRefusal lowering.old lowering.new }
 {
     let InstanceCall {

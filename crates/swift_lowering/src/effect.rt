@@ -60,7 +60,7 @@ fn is_let_go(into: Into) -> bool
 
 /// A statement without a block.
 pub(crate) fn simple(lowering: &mut Lowering<'_>, stmt: Stmt)
-    ensures does { IsNone lowering.new.refused → DoesPlain (state_of lowering.old) (state_of lowering.new) stmt.form }
+    ensures does { IsNone lowering.new.refused → DoesPlain (state_of lowering.old) stmt.token (state_of lowering.new) stmt.form }
     ensures refused { KeepsRefusal lowering.old lowering.new }
 {
     match stmt.form {

@@ -1,6 +1,6 @@
 //! What holds of the definitions.
 
-ghost use Rattle.std.specs.Prelude.{ℕ, ◌≤◌, Some, length};
+ghost use Rattle.std.specs.Prelude.{Bool, ℕ, ◌≤◌, Some, length};
 ghost use Rattle.swift_types.specs.declared.operator.Operator.{Operator};
 ghost use Rattle.swift_syntax.specs.declared.tree.Stmt.{Stmt};
 ghost use Rattle.swift_syntax.specs.declared.tree.StmtForm.{StmtForm};
@@ -11,13 +11,13 @@ ghost use Rattle.swift_lowering.specs.Statements.{Assigns, DoesPlain, ReadsLate}
 
 /// A law: an assignment with an operator reads what it changes after its right side was computed, whatever that did. It does nothing.
 pub fn an_operator_reads_late()
-    ensures { (s u : State) (place : ℕ) (o : Operator) → Assigns s place u (Some o) → ReadsLate s place o u }
+    ensures { (s u : State) (name : ℕ) (is_own : Bool) (place : ℕ) (o : Operator) → Assigns s name is_own place u (Some o) → ReadsLate s place o u }
 {}
 
 /// A law: what a statement becomes, with its blocks and closures, stands behind what was put before it, and that stays as it is. It does
 /// nothing.
 pub fn what_statements_put_stays()
-    ensures plain { (s t : State) (form : StmtForm) → DoesPlain s t form → Grows s t }
+    ensures plain { (s t : State) (token : ℕ) (form : StmtForm) → DoesPlain s token t form → Grows s t }
     ensures any { (s t : State) (stmt : Stmt) → Does s stmt t → Grows s t }
 {}
 

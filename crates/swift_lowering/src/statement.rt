@@ -291,7 +291,7 @@ fn loop_results(
     body: usize,
     depth: u32,
 )
-    ensures results { IsNone lowering.new.refused → LoopsOver (state_of lowering.old) name body (state_of lowering.new) }
+    ensures results { IsNone lowering.new.refused → LoopsOver (state_of lowering.old) group name body (state_of lowering.new) }
     ensures refused { KeepsRefusal lowering.old lowering.new }
 {
     let start = lowering.scope.len();

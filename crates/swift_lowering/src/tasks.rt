@@ -1,10 +1,10 @@
 //! Tasks, groups and bindings, beside their closures.
 
-ghost use Rattle.std.specs.Prelude.{◌≡◌, ℕ, IfNone, IfSome, IsNone, IsSome, Some, slice_get};
+ghost use Rattle.std.specs.Prelude.{◌≡◌, ℕ, IfNone, IfSome, IsNone, IsSome};
 ghost use Rattle.swift_expressions.specs.Instructions.{KeepsRefusal};
 ghost use Rattle.swift_expressions.specs.States.{Becomes, Gives, left_to, next_variable, put, state_of};
 ghost use Rattle.swift_expressions.specs.Lowered.{yielding};
-ghost use Rattle.swift_lowering.specs.Blocks.{AddsTask, BeginsChild, EndsChild, IsNext, MakesTask, TakesResults, child_begun, child_count, counted_in, open_results, with_child_count};
+ghost use Rattle.swift_lowering.specs.Blocks.{AddsTask, BeginsChild, EndsChild, IsGroupAt, IsNext, IsUrgency, MakesTask, TakesResults, child_begun, child_count, counted_in, open_results, with_child_count};
 ghost use Rattle.swift_lowering.specs.Closures.{IsOfChild, IsOfTask};
 ghost use Rattle.swift_lowering.specs.Groups.{BeginsBind, BeginsGroup, entered, result_variable, with_result};
 ghost use Rattle.swift_lowering.specs.Returning.{leaves_early};
@@ -63,6 +63,7 @@ pub(crate) fn child_body(stmt: Stmt, value: usize) -> ClosureBody
 
 // The priority that a token names; none where the token is 0.
 fn priority(lowering: &mut Lowering<'_>, token: usize) -> Option<Priority>
+    ensures urgent { IsNone lowering.new.refused → IsUrgency (state_of lowering.old) token result }
     ensures state { Becomes lowering.new (state_of lowering.old) }
     ensures refused { KeepsRefusal lowering.old lowering.new }
 {
@@ -81,7 +82,7 @@ pub(crate) fn make_task(
     form: TaskForm,
     made: MadeClosure,
 )
-    ensures makes { IsNone lowering.new.refused → MakesTask (state_of lowering.old) name form.is_detached made.callee (state_of lowering.new) }
+    ensures makes { IsNone lowering.new.refused → MakesTask (state_of lowering.old) name form made.callee (state_of lowering.new) }
     ensures refused { KeepsRefusal lowering.old lowering.new }
 {
     lowering.refuse_where(name == 0, Rule::TaskLeft, stmt.token);
@@ -101,7 +102,7 @@ pub(crate) fn make_task(
 
 /// The group in scope with the name of a token; refuses another name.
 pub(crate) fn group_named(lowering: &mut Lowering<'_>, token: usize) -> Option<(usize, Binding)>
-    ensures found { IfSome result (λ r. slice_get lowering.old.scope.items r.0 ≡ Some r.1) }
+    ensures found { IfSome result (λ r. IsGroupAt (state_of lowering.old) token r.0 r.1) }
     ensures unknown { IfNone result (IsSome lowering.new.refused) }
     ensures state { Becomes lowering.new (state_of lowering.old) }
     ensures refused { KeepsRefusal lowering.old lowering.new }
@@ -114,10 +115,10 @@ pub(crate) fn group_named(lowering: &mut Lowering<'_>, token: usize) -> Option<(
         lowering.refuse(Rule::UnknownName, token);
         return None;
     };
-    if found.standing != Standing::Group {
+    let Standing::Group = found.standing else {
         lowering.refuse(Rule::WrongType, token);
         return None;
-    }
+    };
     Some((place, found))
 }
 
@@ -153,7 +154,7 @@ pub(crate) fn add_task(
     form: TaskForm,
     made: MadeClosure,
 )
-    ensures adds { IsNone lowering.new.refused → AddsTask (state_of lowering.old) is_only made.callee (state_of lowering.new) }
+    ensures adds { IsNone lowering.new.refused → AddsTask (state_of lowering.old) stmt.token is_only made.callee (state_of lowering.new) }
     ensures refused { KeepsRefusal lowering.old lowering.new }
 {
     let Some((place, group)) = group_named(lowering, stmt.token) else {
@@ -361,7 +362,7 @@ pub(crate) fn begin_group(lowering: &mut Lowering<'_>, stmt: Stmt, kind: Kind, i
 
 /// Binds a task local.
 pub(crate) fn begin_bind(lowering: &mut Lowering<'_>, of: usize, name: usize, given: usize)
-    ensures begins { IsNone lowering.new.refused → BeginsBind (state_of lowering.old) given (state_of lowering.new) }
+    ensures begins { IsNone lowering.new.refused → BeginsBind (state_of lowering.old) of name given (state_of lowering.new) }
     ensures refused { KeepsRefusal lowering.old lowering.new }
 {
     let found = expression(lowering, given);
@@ -411,7 +412,7 @@ fn next_result(lowering: &mut Lowering<'_>, found: Binding, name: usize) -> usiz
 
 /// Begins a loop over the results of a group, with the name of each.
 pub(crate) fn begin_results(lowering: &mut Lowering<'_>, name: usize, group: usize, is_tried: bool)
-    ensures takes { IsNone lowering.new.refused → TakesResults (state_of lowering.old) name (state_of lowering.new) }
+    ensures takes { IsNone lowering.new.refused → TakesResults (state_of lowering.old) group name (state_of lowering.new) }
     ensures refused { KeepsRefusal lowering.old lowering.new }
 {
     let Some((place, found)) = group_named(lowering, group) else {

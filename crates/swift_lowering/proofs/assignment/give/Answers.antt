@@ -13,7 +13,7 @@ pub returns-in-Var-clause-gives : goal.returns-in-Var-clause-gives
 returns-in-Var-clause-gives c = λ n. given_to c.in-Var.is (statements.variable (c.define-in-Var.ensures.defines n))
 
 pub returns-in-Assign-clause-gives : goal.returns-in-Assign-clause-gives
-returns-in-Assign-clause-gives c = λ n. let d = c.set.ensures.state n in given_to c.in-Assign.is (statements.assigned d.0 d.1)
+returns-in-Assign-clause-gives c = λ n. let d = c.set.ensures.state n in given_to c.in-Assign.is (statements.assigned d.0 d.1 d.2)
 
 pub returns-in-Return-clause-gives : goal.returns-in-Return-clause-gives
 returns-in-Return-clause-gives c = λ n. given_to c.in-Return.is (statements.goes_back (c.give_back.ensures.state n))

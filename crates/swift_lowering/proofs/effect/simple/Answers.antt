@@ -13,10 +13,10 @@ pub returns-in-Assign-clause-does : goal.returns-in-Assign-clause-does
 returns-in-Assign-clause-does c = λ n. plain_by c.in-Assign.is (statements.assigns (c.assign.ensures.assigns n))
 
 pub returns-in-Toggle-clause-does : goal.returns-in-Toggle-clause-does
-returns-in-Toggle-clause-does c = λ n. let d = c.toggle.ensures.state n in plain_by c.in-Toggle.is (statements.toggles d.0 d.1)
+returns-in-Toggle-clause-does c = λ n. let d = c.toggle.ensures.state n in plain_by c.in-Toggle.is (statements.toggles d.0 d.1 d.2)
 
 pub returns-in-Return-clause-does : goal.returns-in-Return-clause-does
 returns-in-Return-clause-does c = λ n. plain_by c.in-Return.is (statements.returns (c.give_nothing.ensures.state n))
 
 pub returns-in-Throw-clause-does : goal.returns-in-Throw-clause-does
-returns-in-Throw-clause-does c = λ n. let d = c.throw.ensures.state n in plain_by c.in-Throw.is (statements.throws d.0 d.1)
+returns-in-Throw-clause-does c = λ n. let d = c.throw.ensures.state n in plain_by c.in-Throw.is (statements.throws d.0 d.1 d.2)

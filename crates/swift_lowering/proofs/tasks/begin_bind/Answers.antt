@@ -13,5 +13,6 @@ returns-clause-begins c = λ n4.
       found = c.expression-found.result;
       lowers = c.expression-found.ensures.lowers (c.refuse_hidden.ensures.refused n1);
       local = c.in-Some.local;
+      first = c.in-Some.ensures.found;
       state = c.put.ensures.state n4 ∙ ap (put (instruction.Bind c.in-Some.local c.expression-found.result.value)) (c.want.ensures.state n3 ∙ c.local_kind-kind.ensures.state n2 ∙ c.refuse_hidden.ensures.state n1);
     }
