@@ -1,5 +1,6 @@
 -- What becomes of a Swift file (our own).
 use Rattle.std.specs.Prelude.{ℕ, All, List}
+use Rattle.swift_syntax.specs.Declarations.{SpellsFile}
 use Rattle.swift_syntax.specs.Lexes.{AreTokensOf}
 use Rattle.swift_syntax.specs.declared.rule.Refusal.{Refusal}
 use Rattle.swift_syntax.specs.declared.token.Token.{Token}
@@ -26,13 +27,15 @@ abbrev pub IfRefused : (Refusal → Type 0) → Translation → Type 0
 IfRefused holds (Script s) = Unit {0}
 IfRefused holds (Refused r) = holds r
 
--- A script is that of a file: it is written of the file's tokens, a tree, and the instructions that this becomes.
+-- A script is that of a file: it is written of the file's tokens, the tree that they spell, and the instructions that this becomes.
 pub record IsScriptOf (text script : List ℕ) : Type 0 where
   pub tokens : List Token
   pub tree : Tree
   pub code : Code
   -- the file consists of these tokens, and of no others
   pub lexed : AreTokensOf text tokens
+  -- the tokens spell the tree
+  pub spelled : SpellsFile text tokens tree
   -- the tree becomes these instructions
   pub lowered : IsCodeOf text tokens tree code
   -- each byte of the script is written of these

@@ -66,8 +66,8 @@ fn written(
     }))
 }
 
-/// The script that a Swift file becomes, with the lines that its methods are from, or the first rule that the file breaks. The text of a
-/// script, and a file that becomes one, has at most 65,536 bytes.
+/// The script that a Swift file becomes, with the lines that its methods are from, or the first rule that the file breaks. A script is
+/// written of the tree that the file's tokens spell. The text of a script, and a file that becomes one, has at most 65,536 bytes.
 ///
 /// # Errors
 ///
