@@ -103,8 +103,8 @@ named_atom h (swift.case e n c) = let x : kind.Name ≡ kind.Sign sign.Dot = sym
 named_atom h (swift.parenthesis e d c) = let x : kind.Name ≡ kind.Sign sign.Open = sym h ∙ e in absurd cc
 
 uncalled : {tokens : List Token} {r : Receiver} {alone : ExprForm} {n i j : ℕ} {t : SwiftTree} → opens_at tokens i ≡ false → SpellsCalled tokens r alone n i j t → (j ≡ i) × (t ≡ Leaf alone n)
-uncalled h (swift.no_arguments e) = (refl, refl)
-uncalled h (swift.arguments e) = absurd (false≢true (sym h ∙ e))
+uncalled h (swift.uncalled e) = (refl, refl)
+uncalled h (swift.call e d) = absurd (false≢true (sym h ∙ e))
 
 name_alone : {text : List ℕ} {tokens : List Token} {i j : ℕ} {t : SwiftTree} (w : List ℕ) → means.bytes_at text tokens i ≡ w → kind_at tokens (after i) ≢ kind.Sign sign.Dot → opens_at tokens (after i) ≡ false → SpellsNamed tokens i j t → Spelled text tokens (Named w) (after i) j t
 name_alone {text} {tokens} w b n o (swift.alone e c) =
