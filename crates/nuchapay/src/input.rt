@@ -65,8 +65,9 @@ pub fn script(rt: &HostRuntime, input: Input<'_>) -> Result<ReadScript, NoScript
     script_in(rt.alloc(), input.language, text)
 }
 
-/// The script that a text of a language is, or becomes. What is read of it afterwards is read as a script, also where it was made of Swift:
-/// so `check` says that such a text is accepted only where the script is that it becomes.
+/// The script that a text of a language is, or becomes: of Swift, what is written of the tree that its tokens spell. What is read of it
+/// afterwards is read as a script, also where it was made of Swift: so `check` says that such a text is accepted only where the script is
+/// that it becomes.
 ///
 /// # Errors
 ///
