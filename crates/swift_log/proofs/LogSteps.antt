@@ -68,6 +68,29 @@ follows s es ns ms e x place log some at is entries entries_len entries_capacity
       limit = omega (arith, some, limit);
     }
 
+-- the entry of a turn that gives way comes last, which has no number
+pub yields : (s : Inside) (es : Vec LogEntry) (ms : Vec Mark) (x : LogEntry) → IsLog s → 2 < s.room → needed x ≡ 0 → width_of x ≡ 3
+    → es.items ≡ s.entries.items ++ x ∷ [] → vec_len es ≡ vec_len s.entries + 1 → vec_capacity es ≡ vec_capacity s.entries
+    → All (IsMark es.items) ms.items → vec_capacity ms ≡ vec_capacity s.marks
+    → IsLog (record { numbers = s.numbers; marks = ms; entries = es; len = s.len + 3; room = s.room - 3 })
+yields s es ms x log some none three entries entries_len entries_capacity marks marks_capacity =
+    let room = log.entries_room in
+    let beside = log.numbers_room in
+    let marked = log.marks_room (omega (arith, some)) in
+    let places = log.places in
+    let limit = log.limit in
+    record {
+      within = subst (λ (xs : List LogEntry). All (IsWithin (length s.numbers.items)) xs) (sym entries)
+          (All-push (IsWithin (length s.numbers.items)) s.entries.items x log.within (omega (arith, none)));
+      len = ap (λ n. n + 3) log.len ∙ sym (ap count_in entries ∙ sum_by_push width_of s.entries.items x ∙ ap (λ n. count_in s.entries.items + n) three);
+      marks = marks;
+      entries_room = omega (arith, some, room, entries_len, entries_capacity);
+      numbers_room = omega (arith, some, beside);
+      marks_room = λ more. omega (arith, some, marked, marks_capacity);
+      places = omega (arith, some, places);
+      limit = omega (arith, some, limit);
+    }
+
 pub stands_too : (s : Inside) (es : Vec LogEntry) (e : Event) → IsLog s → 0 < s.room → IsJoined s.entries.items e es.items → vec_len es ≡ vec_len s.entries → vec_capacity es ≡ vec_capacity s.entries
     → IsLog (record { numbers = s.numbers; marks = s.marks; entries = es; len = s.len + 1; room = s.room - 1 })
 stands_too s es e log some joined entries_len entries_capacity =
