@@ -14,3 +14,4 @@ pub mod GroupCalls
 pub mod GroupSteps
 pub mod GroupOpenings
 pub mod TurnLemmas
+pub mod YieldLemmas

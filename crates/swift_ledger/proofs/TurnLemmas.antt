@@ -2,7 +2,7 @@
 use Rattle.swift_ledger.proofs.Prelude.{◌≡◌, ℕ, ◌+◌, ◌-◌, ◌<◌, ◌≤◌, List, [], ◌∷◌, ◌++◌, Bool, true, false, set, get_or, length, refl, subst, sym, ◌∙◌, ap, arith, None, get, false≢true, Event, Begin, Apply, Give, Life, task_of, is_made, tasks_of, life_of, lived, is_open, room_held, own_tasks, waiters_of, link_in, links_of, length-lives_of, links_of-push_none, NamesNothingNew, LogView, CanNote, IsWellFormed, count_at, AreLists, same_place, own_pair, waiter_pair, AreGroupsOf, AreIndexes, HasSpare, KeepsLevels, Indexes, GroupIndex}
 use Rattle.swift_ledger.specs.LivesInside.{AreLives}
 use Rattle.swift_ledger.specs.LivesInside as lives
-use Rattle.swift_ledger.specs.FlagsInside.{flags_of}
+use Rattle.swift_ledger.specs.FlagsInside.{flags_of, AreFlags}
 use Rattle.swift_ledger.specs.LedgerInside.{IsLedger}
 use Rattle.swift_ledger.specs.declared.ledger.Ledger.TheInside.{Inside}
 use Rattle.swift_ledger.specs.declared.lists.TaskLists.{TaskLists}
@@ -76,15 +76,31 @@ groups_stay w log (Apply t n) turn old = plain-step w log (Apply t n) old tt (λ
 groups_stay w log (Give t n resume) turn old = plain-step w log (Give t n resume) old tt (λ u h. refl) (λ u h. refl) (λ u h. refl) (λ u h. refl) (λ u h. refl) (λ u. refl)
 groups_stay w log _ turn old = absurd (false≢true turn)
 
-pub indexes_stay : (a : Indexes) (l : Lives) (roots : ℕ) (log : List Event) (e : Event) → IsWellFormed roots log → CanNote roots log e → is_of_turn e ≡ true → AreIndexes a roots log → AreLives l roots (log ++ e ∷ []) → AreIndexes (record a { lives = l }) roots (log ++ e ∷ [])
-indexes_stay a l roots log e form can turn are now = record {
-  lives = now;
+-- each index but the lives is what the log gives
+pub record AreOthers (a : Indexes) (roots : ℕ) (log : List Event) : Type 0 where
+  pub flags : AreFlags a.flags roots log
+  pub own : AreLists a.own (λ t. own_tasks t log)
+  pub waiters : AreLists a.waiters (λ t. waiters_of t log)
+  pub links : a.waits.events ≡ links_of log
+  pub groups : AreGroupsOf a.groups log
+
+pub others : (a : Indexes) (roots : ℕ) (log : List Event) → AreIndexes a roots log → AreOthers a roots log
+others a roots log are = record { flags = are.flags; own = are.own; waiters = are.waiters; links = are.links; groups = are.groups }
+
+pub others_stay : (a : Indexes) (roots : ℕ) (log : List Event) (e : Event) → IsWellFormed roots log → CanNote roots log e → is_of_turn e ≡ true → AreOthers a roots log → AreOthers a roots (log ++ e ∷ [])
+others_stay a roots log e form can turn are = record {
   flags = flags_stay roots log e a.flags.flags.items form can turn are.flags;
   own = own_stays a.own log e turn are.own;
   waiters = waiters_stay a.waiters log e turn are.waiters;
   links = are.links ∙ links_stay log e turn;
   groups = groups_stay a.groups log e turn are.groups;
 }
+
+pub with_lives : (a : Indexes) (l : Lives) (roots : ℕ) (log : List Event) → AreOthers a roots log → AreLives l roots log → AreIndexes (record a { lives = l }) roots log
+with_lives a l roots log are now = record { lives = now; flags = are.flags; own = are.own; waiters = are.waiters; links = are.links; groups = are.groups }
+
+pub indexes_stay : (a : Indexes) (l : Lives) (roots : ℕ) (log : List Event) (e : Event) → IsWellFormed roots log → CanNote roots log e → is_of_turn e ≡ true → AreIndexes a roots log → AreLives l roots (log ++ e ∷ []) → AreIndexes (record a { lives = l }) roots (log ++ e ∷ [])
+indexes_stay a l roots log e form can turn are now = with_lives a l roots (log ++ e ∷ []) (others_stay a roots log e form can turn (others a roots log are)) now
 
 pub keeps_levels : (l : Levels) (log : List Event) (e : Event) → is_of_turn e ≡ true → KeepsLevels l log → KeepsLevels l (log ++ e ∷ [])
 keeps_levels l log e turn keeps = record {
@@ -96,7 +112,7 @@ keeps_levels l log e turn keeps = record {
 -- what is known of the task
 
 -- the task is open afterwards just where it was before
-open_stays : (l : Life) (e : Event) → is_of_turn e ≡ true → is_open (lived l e) ≡ is_open l
+pub open_stays : (l : Life) (e : Event) → is_of_turn e ≡ true → is_open (lived l e) ≡ is_open l
 open_stays l (Begin t n env) turn = refl
 open_stays l (Apply t n) turn = refl
 open_stays l (Give t n resume) turn = refl
@@ -110,7 +126,7 @@ place_within l roots log e form can turn are =
     omega (arith, below, long)
 
 -- so what stands there is what the log says
-was : (l : Lives) (roots : ℕ) (log : List Event) (e : Event) (before : Life) → IsWellFormed roots log → CanNote roots log e → is_of_turn e ≡ true → AreLives l roots log → before ≡ get_or l.lives.items (task_of e) before → before ≡ life_of (task_of e) log
+pub was : (l : Lives) (roots : ℕ) (log : List Event) (e : Event) (before : Life) → IsWellFormed roots log → CanNote roots log e → is_of_turn e ≡ true → AreLives l roots log → before ≡ get_or l.lives.items (task_of e) before → before ≡ life_of (task_of e) log
 was l roots log e before form can turn are read = read_life (tasks_of roots log) log e l.lives.items before (task_of e) are.lives refl (known_below roots log e form can (makes_none e turn)) read
 
 -- the room that it held is part of what is reserved

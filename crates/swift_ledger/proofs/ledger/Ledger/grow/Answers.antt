@@ -1,4 +1,4 @@
-use Rattle.swift_ledger.proofs.ledger.Ledger.reserve.Goals as goal
+use Rattle.swift_ledger.proofs.ledger.Ledger.grow.Goals as goal
 
 pub invariant_of-self : goal.invariant_of-self
 invariant_of-self c =
