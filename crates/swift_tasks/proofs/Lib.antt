@@ -22,3 +22,4 @@ pub mod TurnIs
 pub mod TurnTaken
 pub mod WakesKept
 pub mod WithinRoom
+pub mod Yielding

@@ -10,11 +10,11 @@ use Rattle.swift_tasks.proofs.Fitting.{FitsTurn, begun_fits}
 some_none : {A B : Type 0} (o : Option A) → is_some o ≡ true → o ≡ None → B
 some_none o some none = absurd (false≢true (sym (ap is_some none) ∙ some))
 
-first_none : (a : Option BookFault) (b : Bool) → refused_unless a b ≡ None → a ≡ None
+pub first_none : (a : Option BookFault) (b : Bool) → refused_unless a b ≡ None → a ≡ None
 first_none None b h = refl
 first_none (Some cause) b h = some_none (refused_unless (Some cause) b) refl h
 
-second_true : (a : Option BookFault) (b : Bool) → refused_unless a b ≡ None → b ≡ true
+pub second_true : (a : Option BookFault) (b : Bool) → refused_unless a b ≡ None → b ≡ true
 second_true None true h = refl
 second_true None false h = some_none (refused_unless None false) refl h
 second_true (Some cause) b h = some_none (refused_unless (Some cause) b) refl h
