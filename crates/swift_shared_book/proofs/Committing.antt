@@ -1,13 +1,14 @@
 -- A turn that was played before it begins, and then begins and is applied at once.
 use mathlib.Core.Option.{some}
 use lib.ListN.{get_elem?}
-use Rattle.swift_shared_book.proofs.Prelude.{◌≡◌, ℕ, zero, suc, List, [], ◌∷◌, length, drop, map, set, refl, sym, ap, ◌∙◌, subst, Option, Some, None, Env, ScriptView, root_count, BodyView, JobView, IsEnv, RecordView, has_last_root, job_executor, JobFacts, BookView, IsEndOf, job_facts, refusal_of_apply, refusal_of_begin, BookFacts, BookKnown, Ticket, MayGive, knowing_begin, facts_of, BeginsTicket, HasPlayed, IsInRun, MayGiveBack, knowing_record, BeginsNamed, CommitsHanded, CommitsNamed, ahead_in, IsSome, IsSomeAnd, IfSome, false≢true, some_parted, tickets_view}
+use Rattle.swift_shared_book.proofs.Prelude.{◌≡◌, ℕ, zero, suc, List, [], ◌∷◌, ◌++◌, length, drop, map, set, refl, sym, ap, ◌∙◌, subst, Option, Some, None, Env, ScriptView, root_count, BodyView, JobView, IsEnv, RecordView, has_last_root, job_executor, JobFacts, BookView, IsEndOf, end_of_turn, job_facts, refusal_of_apply, refusal_of_begin, BookFacts, BookKnown, Ticket, MayGive, knowing_begin, facts_of, BeginsTicket, HasPlayed, IsInRun, MayGiveBack, knowing_record, BeginsNamed, CommitsHanded, CommitsNamed, ahead_in, IsSome, IsSomeAnd, IfSome, false≢true, some_parted, tickets_view}
 use Rattle.std.specs.Prelude.{IsPermutation}
 use Rattle.swift_course.proofs.Lists.{set_there}
 use Rattle.swift_course.proofs.Ordered.{tickets_ordered}
 use Rattle.swift_course.specs.Course.{IsCourse}
 use Rattle.swift_course.specs.Steps.{with_turn_begun}
-use Rattle.swift_interpreter.specs.Turn.{EffectView, ExitView}
+use Rattle.swift_interpreter.specs.Turn.{EffectView, ExitView, yielding}
+use Rattle.swift_tasks.specs.Yields.{Yields}
 use Rattle.swift_turn.specs.Body.{callers_of}
 use Rattle.swift_shared_book.specs.Commits.{CommitsTurn, HasPlayedAhead, ahead_of, book_begun}
 use Rattle.swift_shared_book.proofs.CallsKeep.{begin_keeps}
@@ -194,6 +195,29 @@ module _ (place : Option (JobView BodyView)) (j : JobView BodyView) (v : BookKno
         let done = committed v script b j plays.0 of_script plays.5 may env_own newest effects exit b1 b2 before after plays.1 plays.2 plays.3 begun_own fits_own ends_own script_is w jobs jobs' run two old new in
         subst (λ (o : Option (JobView BodyView)). IsSomeAnd o (λ x. IfSome newest (λ r. CommitsTurn b x r jobs jobs' v w))) (sym is)
         (subst (λ (o : Option RecordView). IfSome o (λ r. CommitsTurn b j r jobs jobs' v w)) (sym plays.1) done)
+
+-- The same of a turn that has done nothing but give way, which begins and is applied by one call.
+
+pub yield_gives : (place : Option (JobView BodyView)) (v : BookKnown) (script : ScriptView) (newest : Option RecordView) (env : Env) (held : Option BookFacts) (b b2 : BookView) (before after : List (JobView BodyView))
+    → IsSomeAnd place (PlaysIn script v newest [] yielding env) → held ≡ Some (facts_of b) → b.script ≡ script → IsSomeAnd place (λ j. Yields b (map job_facts before) j env b2 (map job_facts after))
+    → (other : Option (JobView BodyView)) → other ≡ place → MayGiveBack v held (facts_of b2) (CommitsNamed (ahead_in newest other) newest (map job_facts (drop (length before) after)) v)
+yield_gives None v script newest env held b b2 before after played taken of_script y other same = absurd played
+yield_gives (Some j) v script newest env held b b2 before after played taken of_script y other same =
+    commits_placed (Some j) j v script newest [] yielding env env held b refl played taken of_script y.may y.given refl (book_begun b j env) b2 before after refl y.allowed y.ends y.script_is other same
+
+pub yield_committed : (place : Option (JobView BodyView)) (v : BookKnown) (script : ScriptView) (newest : Option RecordView) (env : Env) (held : Option BookFacts) (b b2 : BookView) (before after : List (JobView BodyView))
+    → IsSomeAnd place (PlaysIn script v newest [] yielding env) → held ≡ Some (facts_of b) → b.script ≡ script → IsSomeAnd place (λ j. Yields b (map job_facts before) j env b2 (map job_facts after))
+    → (other : Option (JobView BodyView)) (w : BookKnown) → other ≡ place → IsInRun v (facts_of b) → IfSome held (λ x. CommitsHanded (ahead_in newest other) newest v x w)
+    → IsSomeAnd place (λ j. IfSome newest (λ r. CommitsTurn b j r (map job_facts before) (map job_facts after) v w))
+yield_committed None v script newest env held b b2 before after played taken of_script y other w same run handed = absurd played
+yield_committed (Some j) v script newest env held b b2 before after played taken of_script y other w same run handed =
+    committed_placed (Some j) j v script newest [] yielding env env held b refl played taken of_script y.may y.given refl (book_begun b j env) b2 before after refl y.allowed y.ends y.script_is other w
+    (map job_facts before) (map job_facts after) same run handed refl refl
+
+pub yield_makes : (place : Option (JobView BodyView)) (env : Env) (b b2 : BookView) (before after : List (JobView BodyView)) → IsSomeAnd place (λ j. Yields b (map job_facts before) j env b2 (map job_facts after))
+    → (made : List JobFacts) × (map job_facts after ≡ map job_facts before ++ made)
+yield_makes None env b b2 before after y = absurd y
+yield_makes (Some j) env b b2 before after y = ((end_of_turn (book_begun b j env) j [] yielding).jobs, y.ends.jobs_are)
 
 -- the tickets of the jobs that the turn made, parted from the others
 pub parted_committed : (held : Option BookFacts) (written : Option RecordView) (place : Option (JobView BodyView)) (made : List (JobView BodyView)) (v w : BookKnown) → IsSome held → IsSome (ahead_in written place)
