@@ -198,6 +198,11 @@ module _ (place : Option (JobView BodyView)) (j : JobView BodyView) (v : BookKno
 
 -- The same of a turn that has done nothing but give way, which begins and is applied by one call.
 
+pub plays_plain : (place : Option (JobView BodyView)) (script : ScriptView) (v : BookKnown) (newest : Option RecordView) (effects : List EffectView) (exit : ExitView) (env : Env) → effects ≡ [] → exit ≡ yielding
+    → IsSomeAnd place (PlaysIn script v newest effects exit env) → IsSomeAnd place (PlaysIn script v newest [] yielding env)
+plays_plain place script v newest effects exit env none is played =
+    subst (λ (es : List EffectView). IsSomeAnd place (PlaysIn script v newest es yielding env)) none (subst (λ (e : ExitView). IsSomeAnd place (PlaysIn script v newest effects e env)) is played)
+
 pub yield_gives : (place : Option (JobView BodyView)) (v : BookKnown) (script : ScriptView) (newest : Option RecordView) (env : Env) (held : Option BookFacts) (b b2 : BookView) (before after : List (JobView BodyView))
     → IsSomeAnd place (PlaysIn script v newest [] yielding env) → held ≡ Some (facts_of b) → b.script ≡ script → IsSomeAnd place (λ j. Yields b (map job_facts before) j env b2 (map job_facts after))
     → (other : Option (JobView BodyView)) → other ≡ place → MayGiveBack v held (facts_of b2) (CommitsNamed (ahead_in newest other) newest (map job_facts (drop (length before) after)) v)
