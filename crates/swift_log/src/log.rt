@@ -3,6 +3,7 @@
 ghost use Rattle.std.specs.Prelude.{◌≡◌, ◌+◌, ◌<◌, ◌≤◌, ◌^◌, [], ◌∷◌, ◌++◌, true, false, max, length, IfOk, OnOk, OnErr, slice_index_or, vec_len, vec_capacity};
 ghost use Rattle.swift_events.specs.declared.event.Event.{Event};
 ghost use Rattle.swift_log.specs.EntriesInside.{numbers_of};
+ghost use Rattle.swift_log.specs.Logs.{events_of_yield};
 ghost use Rattle.swift_log.specs.MarksInside.{IsMark, IsJoined, events_in};
 
 use crate::entry::{LogEntry, number_of};
@@ -10,6 +11,7 @@ use crate::mark::{Mark, mark_before, marks_among, push_mark};
 use std::alloc::{AllocError, Global};
 use std::marker::Model;
 use swift_events::Event;
+use swift_types::{Env, TaskId};
 
 // For how many more events a copy takes memory: for a quarter of those that there are, within these bounds.
 const FEW_MORE: usize = 16;
@@ -203,5 +205,27 @@ impl EventLog {
         push_mark(&mut self.marks, self.entries.len(), start);
         self.entries.push_reserved(LogEntry::of(event, place));
         push_number(&mut self.numbers, event);
+    }
+
+    /// Appends the events of a turn that begins in an environment, is applied, and is followed by the job of the next turn, which goes on
+    /// without an answer: one entry for the three. Takes no memory, and constant time.
+    #[inline(always)]
+    pub fn push_yield(&mut self, task: TaskId, number: u32, env: Env)
+        requires room { 2 < self.old.room }
+        requires small { number + 1 < 2 ^ 32 }
+        ensures events { self.new.events ≡ self.old.events ++ events_of_yield task number env }
+        ensures room { self.new.room + 3 ≡ self.old.room }
+    {
+        let start = self.len;
+        self.len += 3;
+        self.room -= 3;
+        push_mark(&mut self.marks, self.entries.len(), start);
+        self.entries.push_reserved(LogEntry::Yield(
+            env.priority,
+            env.cancelled,
+            task,
+            number,
+            env.room,
+        ));
     }
 }
