@@ -40,6 +40,7 @@ impl TaskPlaces {
     }
 
     /// The place of the task with this number.
+    #[inline(always)]
     pub(crate) fn get(&self, number: u32) -> Option<usize>
         ensures { result ≡ place_in self.now number }
     {

@@ -303,6 +303,7 @@ impl Waits {
     }
 
     /// The task's priority by the events so far. None where it is not known. Constant time.
+    #[inline(always)]
     pub fn priority(&self, task: TaskId) -> Option<Priority>
         ensures known { IsSome result ↔ IsKnown self.now.events task }
         ensures priority { IfSome result (IsPriority self.now.events task) }
