@@ -12,6 +12,7 @@ ghost use Rattle.swift_events.specs.Events.{task_of, tasks_of};
 ghost use Rattle.swift_events.specs.Lives.{life_of, room_held};
 ghost use Rattle.swift_events.specs.Relations.{own_tasks, waiters_of, opened_by, is_open_group, is_cancelled, is_cancelled_group, group_of, parent_of, links_of};
 ghost use Rattle.swift_events.specs.Room.{IsEnv, open_of, reserved_of, room_of};
+ghost use Rattle.swift_log.specs.Logs.{events_of_yield};
 ghost use Rattle.swift_ledger.specs.Ledgers.{CanNote, IsMade};
 ghost use Rattle.swift_ledger.specs.Levels.{AreLevels, HaveStayed};
 
@@ -31,8 +32,8 @@ const FEW_AT_ONCE: usize = 16;
 
 const MANY_AT_ONCE: usize = 64;
 
-/// The log of a run, and indexes by which each question below is answered in constant time (our own). Only `note` writes, and the
-/// three calls that it makes for the events of a turn.
+/// The log of a run, and indexes by which each question below is answered in constant time (our own). Only `note` writes, the
+/// three calls that it makes for the events of a turn, and `note_yield`.
 pub struct Ledger {
     roots: usize,
     // Its room is that for which the indexes have room too.
@@ -166,6 +167,7 @@ impl Ledger {
     }
 
     /// What a turn of the task is given, if it begins now.
+    #[inline(always)]
     pub fn env(&self, task: TaskId) -> Env
         requires { IsMade self.now.log task }
         ensures env { IsEnv self.now.roots task self.now.log result }
@@ -184,6 +186,7 @@ impl Ledger {
     }
 
     /// How many tasks a turn of the task may make, if it begins now.
+    #[inline(always)]
     fn room(&self, task: TaskId) -> u32
         requires { IsMade self.now.log task }
         ensures room { result ≡ room_of self.now.roots task.0 self.now.log }
@@ -268,6 +271,7 @@ impl Ledger {
     /// Makes room, so that the next `events` calls of `note` find memory. Out of memory nothing else has changed. Where
     /// so much is reserved already it takes constant time, else time that is linear in what is kept and in `events`; it
     /// then makes room for 16 to 64 events at least, by how many there are, so that most calls find it.
+    #[inline(always)]
     pub fn reserve(&mut self, events: usize) -> Result<(), AllocError>
         ensures same { self.new ≡ record self.old { spare = self.new.spare } }
         ensures ok { OnOk result (events ≤ self.new.spare) }
@@ -276,6 +280,17 @@ impl Ledger {
         if events <= self.log.room() {
             return Ok(());
         }
+        self.grow(events)
+    }
+
+    // Makes room for some events more than there is room for.
+    #[inline(never)]
+    fn grow(&mut self, events: usize) -> Result<(), AllocError>
+        requires { self.old.spare < events }
+        ensures same { self.new ≡ record self.old { spare = self.new.spare } }
+        ensures ok { OnOk result (events ≤ self.new.spare) }
+        ensures more { self.old.spare ≤ self.new.spare }
+    {
         let at_once = (self.log.len() / 4).clamp(FEW_AT_ONCE, MANY_AT_ONCE);
         let room = events.max(at_once);
         self.indexes.reserve(room)?;
@@ -362,6 +377,22 @@ impl Ledger {
             turn: number,
             resume,
         });
+    }
+
+    /// Writes that a turn of a task begins in an environment and has done nothing but give way: its begin, its apply, and the job of the
+    /// next turn, which goes on without an answer (our own). Takes no memory, and constant time.
+    #[inline(always)]
+    pub fn note_yield(&mut self, task: TaskId, number: u32, env: Env)
+        requires fits { CanNote self.old.roots self.old.log (Event.Begin task number env) }
+        requires small { number + 1 < 2 ^ 32 }
+        requires spare { 2 < self.old.spare }
+        ensures log { self.new ≡ record self.old { log = self.old.log ++ events_of_yield task number env; spare = self.new.spare } }
+        ensures spare { self.new.spare + 3 ≡ self.old.spare }
+    {
+        self.indexes
+            .lives
+            .give_way(self.roots, &self.log, task, number, env);
+        self.log.push_yield(task, number, env);
     }
 
     /// Writes an event that each index is asked about.

@@ -6,6 +6,7 @@ ghost use Rattle.swift_events.specs.declared.event.Event.{Event};
 ghost use Rattle.swift_events.specs.Events.{is_made, tasks_of};
 ghost use Rattle.swift_events.specs.Lives.{life_of, is_open, unborn};
 ghost use Rattle.swift_events.specs.Room.{open_of, reserved_of, lives_of};
+ghost use Rattle.swift_log.specs.Logs.{events_of_yield};
 ghost use Rattle.swift_ledger.specs.Ledgers.{CanNote};
 ghost use Rattle.swift_ledger.specs.WellFormedInside.{IsWellFormed};
 ghost use Rattle.swift_ledger.specs.LivesInside.{AreLives, HasSpare};
@@ -212,6 +213,35 @@ impl Lives {
         self.reserved -= self.lives[place].room();
         let life = &mut self.lives[place];
         life.given = Some(LastJob { number, resume });
+        life.stage = Some(JobStage::Given);
+    }
+
+    /// Follows the log by a turn that begins, is applied, and is followed by the job of the next turn, which goes on without an answer.
+    #[inline(always)]
+    pub(crate) fn give_way(
+        &mut self,
+        roots: usize,
+        log: &EventLog,
+        task: TaskId,
+        number: u32,
+        env: Env,
+    )
+        requires lives { AreLives self.old roots log.now.events }
+        requires log { IsWellFormed roots log.now.events }
+        requires fits { CanNote roots log.now.events (Event.Begin task number env) }
+        requires small { number + 1 < 2 ^ 32 }
+        ensures lives { AreLives self.new roots (log.now.events ++ events_of_yield task number env) }
+        ensures spare { (n : ℕ) → HasSpare self.old n → HasSpare self.new n }
+    {
+        let _env = env;
+        let later = number + 1;
+        let place = task.0 as usize;
+        self.reserved -= self.lives[place].room();
+        let life = &mut self.lives[place];
+        life.given = Some(LastJob {
+            number: later,
+            resume: Resume::Go,
+        });
         life.stage = Some(JobStage::Given);
     }
 }
