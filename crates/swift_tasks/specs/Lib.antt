@@ -5,3 +5,4 @@ pub mod Books
 pub mod CountedInside
 pub mod Laws
 pub mod Refusals
+pub mod Yields

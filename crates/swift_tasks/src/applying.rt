@@ -1,6 +1,6 @@
 //! What a turn did is taken.
 
-ghost use Rattle.std.specs.Prelude.{◌≡◌, [], None, Some, OnOk, OnErr, IfErr, IsErrAnd, IsOk, IsSome, IsSomeAnd, MatchResult, map};
+ghost use Rattle.std.specs.Prelude.{◌≡◌, true, false, [], None, Some, OnOk, OnErr, IfErr, IsErrAnd, IsOk, IsSome, IsSomeAnd, MatchResult, map};
 ghost use Rattle.std.specs.List.{AllByRecursion};
 ghost use Rattle.swift_interpreter.specs.Turn.{InvocationView, calling, yielding};
 ghost use Rattle.swift_interpreter.specs.Frames.{effect_views};
@@ -10,18 +10,20 @@ ghost use Rattle.swift_tasks.specs.ApplyingInside.{CanApply};
 ghost use Rattle.swift_tasks.specs.Books.{IsJobOf, IsEndOf};
 ghost use Rattle.swift_history.specs.Jobs.{job_facts};
 ghost use Rattle.swift_tasks.specs.Refusals.{IsRefusal, refusal_of_apply};
+ghost use Rattle.swift_tasks.specs.Yields.{Yields};
 
 use crate::bodies::bodies_of;
 use crate::book::Book;
 use crate::fault::BookFault;
-use crate::refusals::JobScript;
+use crate::refusals::{JobScript, unless_current};
 use crate::turns::{go_on, make_room, take_turn};
 use std::alloc::AllocError;
 use std::mem;
 use swift_interpreter::{Effect, Exit};
 use swift_job::Job;
 use swift_turn::{Body, Step};
-use swift_types::Resume;
+use swift_types::limits::TURNS;
+use swift_types::{Env, Resume};
 
 // Puts a job back into its place.
 fn put_back(place: &mut Option<Job<Body>>, job: Job<Body>)
@@ -241,6 +243,52 @@ impl Book {
         let mut place = Some(job);
         let answer = self.apply_in(&mut place, exit, &effects, jobs);
         given_back(answer, place, effects)
+    }
+
+    /// Begins the turn of a job that is in its place, in this environment, and takes it, where it has done nothing but give way, and goes
+    /// on so: what `begin_known` and `apply_in` do one after the other, by one entry of the log (our own). Where the book gives another
+    /// environment, where the turn does not begin so, where it is the last one that its task may have, or where there is no memory, the
+    /// answer is false, and all is as before. Constant time.
+    #[inline(always)]
+    pub fn commit_yield(
+        &mut self,
+        place: &mut Option<Job<Body>>,
+        env: Env,
+        jobs: &mut Vec<Job<Body>>,
+    ) -> bool
+        requires running { IsSomeAnd place.old (λ j. IsRunning j.body) }
+        requires known { IsSomeAnd place.old (λ j. j.body.script ≡ self.old.script) }
+        ensures yes { result ≡ true → IsSomeAnd place.old (λ j. Yields self.old (map job_facts jobs.old.items) j env self.new (map job_facts jobs.new.items)) }
+        ensures taken { result ≡ true → place.new ≡ None }
+        ensures bodies { AllByRecursion (IsJobOf self.old.script) jobs.old.items → AllByRecursion (IsJobOf self.old.script) jobs.new.items }
+        ensures no { result ≡ false → (self.new ≡ self.old) × (jobs.new.items ≡ jobs.old.items) × (place.new ≡ place.old) }
+    {
+        let Some(job) = &*place else { unreachable!() };
+        let (task, number) = (job.task(), job.number());
+        if !matches!(job.resume(), Resume::Go) || number >= TURNS - 1 {
+            return false;
+        }
+        let life = self.ledger.life(task);
+        if unless_current(life, number, Resume::Go).is_some() {
+            return false;
+        }
+        if self.ledger.env(task) != env {
+            return false;
+        }
+        let Ok(()) = jobs.reserve(1) else {
+            return false;
+        };
+        let Ok(()) = self.ledger.reserve(3) else {
+            return false;
+        };
+        let Some(job) = place.take() else {
+            unreachable!()
+        };
+        let (task, number, _resume, mut body) = job.spend();
+        self.ledger.note_yield(task, number, env);
+        body.rest();
+        jobs.push_reserved(Job::new(task, number + 1, Resume::Go, body));
+        true
     }
 
     /// `apply_known` for a job that is in a place, which must not be empty: where the turn is taken the place is empty, and on

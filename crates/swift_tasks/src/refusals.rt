@@ -105,7 +105,7 @@ pub(crate) fn unless_open(life: Life) -> Option<BookFault>
 
 // Why a turn may not begin, of a task of which this is known.
 #[inline(always)]
-fn unless_current(life: Life, number: u32, resume: Resume) -> Option<BookFault>
+pub(crate) fn unless_current(life: Life, number: u32, resume: Resume) -> Option<BookFault>
     ensures cause { result ≡ refused_unless (refusal_unless_open life) (is_current life number resume) }
     ensures made { result ≡ None → is_some life.origin ≡ true }
     ensures small { result ≡ None → number + 1 < 2 ^ 32 }
