@@ -1,7 +1,8 @@
 //! Turns that were played before they begin: they begin, and are applied at once.
 
-ghost use Rattle.std.specs.Prelude.{◌≡◌, true, Some, map, IfSome, IsSome, IsSomeAnd};
+ghost use Rattle.std.specs.Prelude.{◌≡◌, true, false, [], Some, map, IfSome, IsSome, IsSomeAnd};
 ghost use Rattle.std.specs.List.{AllByRecursion};
+ghost use Rattle.swift_interpreter.specs.Turn.{yielding};
 ghost use Rattle.swift_interpreter.specs.Frames.{effect_views};
 ghost use Rattle.swift_interpreter.specs.TurnStates.{exit_view};
 ghost use Rattle.swift_turn.specs.Body.{IsRunning};
@@ -10,7 +11,7 @@ ghost use Rattle.swift_history.specs.Jobs.{job_facts};
 ghost use Rattle.swift_course.specs.Seats.{gathered, some_left, some_parted};
 ghost use Rattle.swift_tasks.specs.Books.{IsJobOf};
 ghost use Rattle.swift_shared_book.specs.Calls.{facts_of};
-ghost use Rattle.swift_shared_book.specs.Commits.{CommitsTo, HasPlayedAhead, PlaceAfter, SameUnlessApplied};
+ghost use Rattle.swift_shared_book.specs.Commits.{CommitsTo, CommitsTurn, HasPlayedAhead, PlaceAfter, SameUnlessApplied};
 ghost use Rattle.swift_shared_book.specs.Shared.{IsAsTaken, IsInRun, newest, seat_of, tickets_view};
 ghost use Rattle.swift_shared_book.specs.SharedInside.{HasTicketsOf};
 ghost use Rattle.swift_shared_book.specs.StepsInside.{BeginsNamed, CommitsHanded, CommitsNamed, IsKept, MayGiveBack, ahead_in};
@@ -165,7 +166,75 @@ impl BookLock {
         }
     }
 
+    // Commits a turn that has done nothing but give way, as `commit_open` does, where the book gives it that environment.
+    #[inline(always)]
+    fn commit_plain(
+        &self,
+        mut taken: OpenBook,
+        env: Env,
+        place: &mut Option<Job<Body>>,
+        written: &Snapshot<Journal>,
+        jobs: &mut Vec<Job<Body>>,
+        tickets: &mut BookSeat,
+    ) -> (bool, OpenBook)
+        requires untouched { IsAsTaken self.now taken.seat taken.book.value }
+        requires run { IsInRun taken.seat.knows (facts_of taken.book.value) }
+        requires tickets { (tickets.old.lock ≡ self.now.id) × HasTicketsOf jobs.old.items tickets.old }
+        requires job { IsSomeAnd place.old (λ j. IsRunning j.body × (j.body.script ≡ self.now.script)) }
+        requires played { IsSomeAnd place.old (λ j. (r : RecordView) × (newest written.now.value ≡ Some r) × (r.exit ≡ yielding) × (r.effects ≡ []) × (r.env ≡ env) × HasPlayedAhead self.now.script taken.seat.knows j r) }
+        ensures yes { result.0 ≡ true → IsSomeAnd place.old (λ j. IfSome (newest written.now.value) (λ r. CommitsTurn taken.book.value j r (map job_facts jobs.old.items) (map job_facts jobs.new.items) taken.seat.knows result.1.seat.knows)) }
+        ensures taken { result.0 ≡ true → place.new ≡ None }
+        ensures no { result.0 ≡ false → (result.1 ≡ taken) × (place.new ≡ place.old) × (jobs.new.items ≡ jobs.old.items) × (tickets.new ≡ tickets.old) }
+        ensures untouched { IsAsTaken self.now result.1.seat result.1.book.value }
+        ensures bodies { AllByRecursion (IsJobOf self.now.script) jobs.old.items → AllByRecursion (IsJobOf self.now.script) jobs.new.items }
+        ensures tickets { (tickets.new.lock ≡ self.now.id) × HasTicketsOf jobs.new.items tickets.new }
+    {
+        let was = Snapshot::of(place);
+        let before = jobs.len();
+        if !taken.book.commit_yield(place, env, jobs) {
+            return (false, taken);
+        }
+        let made = jobs_from(jobs, before);
+        (true, self.keep_commit(taken, &was, written, made, tickets))
+    }
+
+    // Commits a turn, as `commit_open` does, by one call of the book for its begin and its end where it has done nothing but give way.
+    #[inline(always)]
+    fn commit_fast(
+        &self,
+        taken: OpenBook,
+        env: Env,
+        place: &mut Option<Job<Body>>,
+        written: &Snapshot<Journal>,
+        exit: &Exit,
+        effects: &[Effect],
+        jobs: &mut Vec<Job<Body>>,
+        tickets: &mut BookSeat,
+    ) -> (Committed, OpenBook)
+        requires untouched { IsAsTaken self.now taken.seat taken.book.value }
+        requires run { IsInRun taken.seat.knows (facts_of taken.book.value) }
+        requires tickets { (tickets.old.lock ≡ self.now.id) × HasTicketsOf jobs.old.items tickets.old }
+        requires job { IsSomeAnd place.old (λ j. IsRunning j.body × (j.body.script ≡ self.now.script)) }
+        requires played { IsSomeAnd place.old (λ j. (r : RecordView) × (newest written.now.value ≡ Some r) × (r.exit ≡ exit_view exit.now) × (r.effects ≡ effect_views effects.now) × (r.env ≡ env) × HasPlayedAhead self.now.script taken.seat.knows j r) }
+        ensures done { IsSomeAnd place.old (λ j. IfSome (newest written.now.value) (λ r. CommitsTo taken.book.value j r (map job_facts jobs.old.items) (map job_facts jobs.new.items) taken.seat.knows result.1.seat.knows result.0)) }
+        ensures untouched { IsAsTaken self.now result.1.seat result.1.book.value }
+        ensures place { PlaceAfter place.old place.new result.0 }
+        ensures bodies { AllByRecursion (IsJobOf self.now.script) jobs.old.items → AllByRecursion (IsJobOf self.now.script) jobs.new.items }
+        ensures tickets { (tickets.new.lock ≡ self.now.id) × HasTicketsOf jobs.new.items tickets.new }
+        ensures same { SameUnlessApplied jobs.old.items jobs.new.items result.0 }
+    {
+        if !effects.is_empty() || !matches!(exit, Exit::Yield) {
+            return self.commit_open(taken, env, place, written, exit, effects, jobs, tickets);
+        }
+        let (is_done, kept) = self.commit_plain(taken, env, place, written, jobs, tickets);
+        if is_done {
+            return (Committed::Applied, kept);
+        }
+        self.commit_open(kept, env, place, written, exit, effects, jobs, tickets)
+    }
+
     // Commits a turn, as `commit_kept` does, to a list of jobs and a seat that has their tickets.
+    #[inline(never)]
     fn commit_open(
         &self,
         mut taken: OpenBook,
@@ -223,6 +292,7 @@ impl BookLock {
     /// Where it refuses to begin the turn all is as before. So in the log the begin and the end of such a turn stand next to each other.
     ///
     /// Time and memory as for `begin` and `apply`.
+    #[inline(always)]
     pub fn commit_kept(
         &self,
         taken: OpenBook,
@@ -247,7 +317,7 @@ impl BookLock {
         ensures same { SameUnlessApplied jobs.old.jobs jobs.new.jobs result.0 }
     {
         turn(&mut jobs.jobs, &mut jobs.is_reversed, false);
-        let (committed, kept) = self.commit_open(
+        let (committed, kept) = self.commit_fast(
             taken,
             env,
             place,
