@@ -116,6 +116,7 @@ pub(crate) fn play_more(
 }
 
 // Commits turns that are aside in a book that was taken, in their order, as far as it takes them as they were played.
+#[inline(never)]
 fn commit_each(
     worker: u32,
     asides: &mut [Aside],

@@ -88,6 +88,7 @@ fn are_current(ready: &ReadyJobs<Body>, book: &mut Book, task: TaskId) -> bool
 
 // Lets a book that was taken begin and take the turn of a job that was played, whose record is the newest of the journal as it was written,
 // where the levels by which it was chosen are current. The book is kept, as if it were given back and taken again at once.
+#[inline(always)]
 fn commit_open(
     chosen: &mut Chosen,
     ready: &ReadyJobs<Body>,
