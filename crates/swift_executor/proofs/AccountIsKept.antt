@@ -6,7 +6,7 @@ use mathlib.Core.Option.{some, some-injective, some-ne-none}
 use lib.ListN.{get_elem?}
 use Rattle.crossbeam_queue.specs.Fifo.{Pushes, Pops, Forks}
 use Rattle.swift_shared_book.specs.Tickets.{TicketedJobView}
-use Rattle.swift_executor.specs.Rule.{unused, blank, pushed_in, taken_in, IsTaking, IsPutting, OneTakes, KeepsAccount, InboxInvariant, with_pushed, with_taken, IsTaken}
+use Rattle.swift_executor.specs.Rule.{unused, blank, having_put, having_taken, pushed_in, taken_in, IsTaking, IsPutting, OneTakes, KeepsAccount, InboxInvariant, with_pushed, with_taken, IsTaken}
 
 module _ {X : Type 0} (P : X → Type 0) where
   all_at : (xs : List X) (i : ℕ) (x : X) → All P xs → get_elem? xs i ≡ some x → P x
@@ -181,6 +181,40 @@ splits pass v site is inside views (inr (here, k)) at =
         fits = k.fits;
       },
     )
+
+-- a new view has its own jobs
+new_has : (f : PassKnown → List JobFacts) (views : List PassKnown) (w : PassKnown) → flat_map f (views ++ w ∷ []) ≡ flat_map f views ++ f w
+new_has f views w = flat_map-append f views (w ∷ []) ∙ ap (λ l. flat_map f views ++ l) (append-nil (f w))
+
+-- this job goes past the queue
+passes_one : (pass : ℕ) (v : PassKnown) (site : SiteView) (j : JobFacts) → v.site ≡ Some site → v.takes ≡ true → Forks InboxInvariant pass v (having_taken v (Some j)) (having_put v (Some j))
+passes_one pass v site j is kind inside views (inl new) at = absurd (known_not_blank v site is (is_blank views pass v new.alone at))
+passes_one pass v site j is kind inside views (inr (here, k)) at =
+    let u = having_taken v (Some j) in
+    let w = having_put v (Some j) in
+    let front = set views pass u in
+    let jobs = map noted inside in
+    let mine = taking_at here views pass v k.one_takes at kind in
+    let same = none_more (λ x. x.pushed) views pass v u at refl in
+    let more = one_more (λ x. x.taken) views pass v u j at refl in
+    let put : pushed_in (front ++ w ∷ []) ≡ pushed_in views ++ j ∷ [] = new_has (λ x. x.pushed) front w ∙ ap (λ l. l ++ j ∷ []) same in
+    let taken : taken_in (front ++ w ∷ []) ≡ taken_in front = new_has_none (λ x. x.taken) front w refl in
+    let behind : IsPermutation (pushed_in views ++ j ∷ []) (taken_in views ++ (jobs ++ j ∷ [])) =
+    rw (← append_assoc (taken_in views) jobs (j ∷ [])) (IsPermutation-append_left (j ∷ []) (pushed_in views) (taken_in views ++ jobs) k.moves) in
+    let turned : IsPermutation (taken_in views ++ (jobs ++ j ∷ [])) (taken_in views ++ (j ∷ jobs)) = IsPermutation-append_right (taken_in views) (jobs ++ j ∷ []) (j ∷ jobs) (IsPermutation-append_comm jobs (j ∷ [])) in
+    let left : IsPermutation (taken_in views ++ j ∷ jobs) (taken_in front ++ jobs) =
+    rw (append_assoc (taken_in views) (j ∷ []) jobs) at (IsPermutation-append_left jobs (taken_in views ++ j ∷ []) (taken_in front) more) in
+    inr (
+      here,
+      record {
+        one_takes = one_push here front w (one_set here views pass v u at (λ t. mine) (λ p. absurd (both_kinds v kind p.1)) k.one_takes) (mine.0, refl, refl);
+        moves = rw (put, taken) (IsPermutation-trans _ _ _ behind (IsPermutation-trans _ _ _ turned left));
+        fits = k.fits;
+      },
+    )
+
+pub passes_by : (pass : ℕ) (v : PassKnown) (site : SiteView) (o : Option JobFacts) (j : JobFacts) → v.site ≡ Some site → v.takes ≡ true → o ≡ Some j → Forks InboxInvariant pass v (having_taken v o) (having_put v o)
+passes_by pass v site o j is kind named = subst (λ (x : Option JobFacts). Forks InboxInvariant pass v (having_taken v x) (having_put v x)) (sym named) (passes_one pass v site j is kind)
 
 -- a queue that has its first pass alone, once that takes and another puts
 told : (site : SiteView) (views : List PassKnown) → views ≡ blank ∷ [] → set views 0 (unused true (Some site)) ++ unused false (Some site) ∷ [] ≡ unused true (Some site) ∷ unused false (Some site) ∷ []

@@ -5,6 +5,7 @@ pub mod OneRecord
 pub mod TurnsRun
 pub mod VisitsDone
 pub mod VisitSteps
+pub mod Keeping
 pub mod PlayedAhead
 pub mod Shuffled
 pub mod Batches

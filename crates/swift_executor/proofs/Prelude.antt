@@ -26,6 +26,7 @@ pub use Rattle.swift_executor.specs.Exec.{DeskView, ExecView, FoundFree, HasFoun
 pub use Rattle.swift_executor.specs.FieldsInside.{FieldsAre}
 pub use Rattle.swift_executor.specs.Held.{GoesOn, GoesTogether, HasOpened, IsOfBook, IsResting, IsStateAt, order_at, order_of}
 pub use Rattle.swift_executor.specs.Inbox.{InboxView, TakerView, has_taken}
+pub use Rattle.swift_executor.specs.KeepsInside.{IsFirstOwn, KeepsFirst}
 pub use Rattle.swift_executor.specs.Looks.{FreeAreSeen, IsSeen}
 pub use Rattle.swift_executor.specs.Picks.{IsOlder, PicksFirst, raised}
 pub use Rattle.swift_executor.specs.PlayingInside.{Applied, CanGoBack, HasFoldRoom, JobTurned, JobUnturned, MaySpare, Settles, StageIsBegun, StageIsPlayed, WritesRecord, refusal_of_left}
@@ -44,7 +45,7 @@ pub use Rattle.swift_executor.specs.State.{BeginsChosen, BeginsTurn, BelongsTo, 
 pub use Rattle.swift_executor.specs.StateInside.{chosen_at, chosen_of, chosen_view, stage_of}
 pub use Rattle.swift_executor.specs.Taken.{TakenView, taken_of}
 pub use Rattle.swift_executor.specs.TasksInside.{ReadyTasksView}
-pub use Rattle.swift_executor.specs.Visits.{BeginsIn, CannotBegin, CannotChoose, CannotEnd, CannotPlay, Fails, FindsNone, Finishes, HasBegun, HasMoved, HasRun, HasStayed, HasStopped, IsFree, IsNotBegun, IsNotEnded, IsRefused, Leaves, RunsNone, RunsTurn, RunsTurns, Starts, TurnsWriteAll, TurnsWriteOne, Visited, Visits, WritesAll, journal_with_all}
+pub use Rattle.swift_executor.specs.Visits.{BeginsIn, CannotBegin, CannotChoose, CannotEnd, CannotPlay, Fails, FindsNone, Finishes, HasBegun, HasMoved, HasRun, HasStayed, HasStopped, IsFree, IsNotBegun, IsNotEnded, IsRefused, AddsAll, Leaves, RunsAndKeeps, RunsNone, RunsTurn, RunsTurns, Starts, TakesOn, TurnsWriteAll, TurnsWriteOne, Visited, Visits, WritesAll, journal_with_all}
 pub use Rattle.swift_executor.specs.declared.chosen.Chosen.{Chosen}
 pub use Rattle.swift_executor.specs.declared.chosen.ChosenStage.{ChosenStage}
 pub use Rattle.swift_executor.specs.declared.chosen.ChosenStage.TheVariants.{Begun, Picked, Played}

@@ -1,5 +1,5 @@
 -- What the parts of a visit have done together.
-use Rattle.swift_executor.proofs.Prelude.{◌≡◌, ℕ, ◌*◌, ◌<◌, Option, Some, None, Result, Ok, Err, IfOk, IfErr, OnErr, List, ◌∷◌, ◌⊎◌, inl, inr, refl, ap, sym, subst, ◌∙◌, BookKnown, JobFacts, ScriptView, facts_of, IsInRun, BookView, BookFault, DeskView, FoundFree, HasFound, HasLeft, HasTried, IfTurns, IsAt, IsAtMost, IsRunFault, image_of, seat_after, InboxView, IsRefusal, fault_of, ChosenView, refusal_to_apply, TakenView, Fails, HasMoved, HasRun, HasStayed, HasStopped, IsFree, IsNotBegun, IsNotEnded, IsRefused, Leaves, RunsNone, RunsTurns, Visited, Visits, ExecFault, Memory, Worker, Full, Refused, Spent, StateName, Afresh, StaysWhole}
+use Rattle.swift_executor.proofs.Prelude.{◌≡◌, ℕ, ◌*◌, ◌<◌, Option, Some, None, Result, Ok, Err, IfOk, IfErr, OnErr, List, ◌∷◌, ◌⊎◌, inl, inr, refl, ap, sym, subst, ◌∙◌, BookKnown, JobFacts, ScriptView, facts_of, IsInRun, BookView, BookFault, DeskView, FoundFree, HasFound, HasLeft, HasTried, IfTurns, IsAt, IsAtMost, IsRunFault, image_of, seat_after, InboxView, IsRefusal, fault_of, ChosenView, refusal_to_apply, TakenView, Fails, HasMoved, HasRun, HasStayed, HasStopped, IsFree, IsNotBegun, IsNotEnded, IsRefused, Leaves, RunsAndKeeps, RunsNone, Visited, Visits, ExecFault, Memory, Worker, Full, Refused, Spent, StateName, Afresh, StaysWhole}
 use Rattle.swift_executor.proofs.VisitSteps.{stays_both}
 use Rattle.swift_tasks.specs.declared.fault.BookFault.TheVariants as book
 use Rattle.swift_word.specs.Seat.{WordSeatView, last_found, left}
@@ -66,7 +66,7 @@ module _ (i : InboxView) (d d' : DeskView) (took ready : TakenView) (s s' : Word
 
   pub visited : (worker pending : ℕ) (jobs jobs' : List JobFacts) (ran : Result VisitOutcome ExecFault) → d'.found ≡ s'.found → s.found ≡ 2 * pending ∷ d.found
       → IfOk ran (λ ran. Leaves i (Afresh (HasRun worker pending jobs jobs' ran) ready) (seat_after ran) s s') → IfOk ran (λ ran. Visits i worker jobs jobs' ran d d')
-  visited worker pending jobs jobs' (Ok (Turns last turns rest)) found begun l = moved_by (RunsTurns worker turns last jobs jobs') (seat_after (Turns last turns rest)) l (ap (λ (x : WordSeatView StateName StateImage). x.moved) l.seat)
+  visited worker pending jobs jobs' (Ok (Turns last turns kept rest)) found begun l = moved_by (RunsAndKeeps worker turns kept last jobs jobs') (seat_after (Turns last turns kept rest)) l (ap (λ (x : WordSeatView StateName StateImage). x.moved) l.seat)
   visited worker pending jobs jobs' (Ok Busy) found begun l = absurd l.holds.does
   visited worker pending jobs jobs' (Ok (Nothing more)) found begun l =
       let n = last_found s' in
@@ -92,7 +92,7 @@ module _ (i : InboxView) (d d' : DeskView) (took ready : TakenView) (s s' : Word
   -- what its steps on the word found
   pub has_found : (worker pending : ℕ) (jobs jobs' : List JobFacts) (ran : Result VisitOutcome ExecFault) → d'.found ≡ s'.found → s.found ≡ 2 * pending ∷ d.found
       → IfOk ran (λ ran. Leaves i (Afresh (HasRun worker pending jobs jobs' ran) ready) (seat_after ran) s s') → IfOk ran (λ ran. HasLeft ran (last_found s')) → IfOk ran (IfTurns (IsAtMost pending)) → IfOk ran (λ ran. HasFound ran d.found d'.found)
-  has_found worker pending jobs jobs' (Ok (Turns last turns rest)) found begun l left some =
+  has_found worker pending jobs jobs' (Ok (Turns last turns kept rest)) found begun l left some =
       (pending, last_found s', found ∙ ap (λ (x : WordSeatView StateName StateImage). x.found) l.seat ∙ ap (λ (xs : List ℕ). last_found s' ∷ xs) begun, some, left)
   has_found worker pending jobs jobs' (Ok Busy) found begun l left some = absurd l.holds.does
   has_found worker pending jobs jobs' (Ok (Nothing more)) found begun l left some =

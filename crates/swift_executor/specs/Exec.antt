@@ -38,8 +38,8 @@ pub record ExecView : Type 0 where
 abbrev pub IsBookOf : ExecView → BookLockView → Type 0
 IsBookOf e b = (e.inbox.site.book ≡ Some b.id) × (b.script ≡ e.inbox.site.script)
 
--- A desk: of which executor it is, the jobs that were sent by it, the oldest first, how many turns were run by it, how many jobs may
--- still be sent, what each of its steps on the executor's word found there, the newest first, and each state that it took out of the word
+-- A desk: of which executor it is, the jobs that were sent by it, the oldest first, how many turns were run by it for which no job was kept,
+-- how many jobs may still be sent, what each of its steps on the executor's word found there, the newest first, and each state that it took out of the word
 -- or gave back to it, the newest first.
 pub record DeskView : Type 0 where
   pub word : TableId
@@ -79,9 +79,9 @@ image_of r = record { resting = r }
 abbrev pub has_found : List ℕ → List StateImage → DeskView → DeskView
 has_found found moved d = record d { found = found; moved = moved }
 
--- so many turns more were run by the desk, where any was
+-- so many turns more were run by the desk, where any was; as many as jobs were kept count no more, since these stand in their place
 abbrev pub after_run : VisitOutcome → DeskView → DeskView
-after_run (Turns task turns left) d = record d { finished = d.finished + turns }
+after_run (Turns task turns kept left) d = record d { finished = d.finished + (turns - kept) }
 after_run Busy d = d
 after_run (Nothing left) d = d
 
@@ -94,10 +94,10 @@ FoundFree old new pending n = new ≡ n ∷ 2 * pending ∷ old
 abbrev pub FoundRunning : List ℕ → List ℕ → Type 0
 FoundRunning old new = (n : ℕ) × (new ≡ n ∷ old) × (n % 2 ≡ 1)
 
--- whether jobs were left, by the word that the end of so many turns found, and by that which the visit found that gave the state back
--- unused
+-- whether jobs were left, by the word that the end of so many turns found, for which so many jobs were kept, and by that which the visit
+-- found that gave the state back unused
 abbrev pub HasLeft : VisitOutcome → ℕ → Type 0
-HasLeft (Turns task turns left) n = (left ≡ More) ↔ (turns < n / 2)
+HasLeft (Turns task turns kept left) n = (left ≡ More) ↔ (turns - kept < n / 2)
 HasLeft Busy n = ⊥
 HasLeft (Nothing left) n = (left ≡ More) ↔ (0 < n / 2)
 
@@ -108,7 +108,7 @@ IsAtMost most turns = (0 < turns) × (turns ≤ most)
 -- What a visit answers is what its steps on the word found. `Busy`: its begin found that a worker held the state. Turns, of which there is
 -- at least one: as many jobs were pending.
 abbrev pub HasFound : VisitOutcome → List ℕ → List ℕ → Type 0
-HasFound (Turns task turns left) old new = (pending n : ℕ) × FoundFree old new pending n × IsAtMost pending turns × HasLeft (Turns task turns left) n
+HasFound (Turns task turns kept left) old new = (pending n : ℕ) × FoundFree old new pending n × IsAtMost pending turns × HasLeft (Turns task turns kept left) n
 HasFound Busy old new = FoundRunning old new
 HasFound (Nothing left) old new = (pending n : ℕ) × FoundFree old new pending n × HasLeft (Nothing left) n
 
@@ -140,18 +140,18 @@ IsSeatAt e s = (s.word ≡ e.word) × (s.name ≡ Some (state_name e.inbox.site 
 
 -- what a visit, whose last step found this word and gave this state back, leaves of the seat that held the state
 abbrev pub seat_after : VisitOutcome → ℕ → TakenView → WordSeatView StateName StateImage → WordSeatView StateName StateImage
-seat_after (Turns task turns l) n r s = ended turns n (image_of r) s
+seat_after (Turns task turns kept l) n r s = ended (turns - kept) n (image_of r) s
 seat_after Busy n r s = s
 seat_after (Nothing l) n r s = left n (image_of r) s
 
 -- where turns were run, this holds of how many
 abbrev pub IfTurns : (ℕ → Type 0) → VisitOutcome → Type 0
-IfTurns P (Turns task turns left) = P turns
+IfTurns P (Turns task turns kept left) = P turns
 IfTurns P _ = Unit {0}
 
 -- where no turn was run, this holds
 abbrev pub IfNoTurn : Type 0 → VisitOutcome → Type 0
-IfNoTurn P (Turns task turns left) = Unit {0}
+IfNoTurn P (Turns task turns kept left) = Unit {0}
 IfNoTurn P _ = P
 
 -- the task of the chosen job, where one is

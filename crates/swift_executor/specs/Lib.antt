@@ -8,6 +8,7 @@ pub mod Exec
 pub mod FieldsInside
 pub mod Held
 pub mod HomeInside
+pub mod KeepsInside
 pub mod PlayingInside
 pub mod Ready
 pub mod ReadyInside

@@ -66,3 +66,16 @@ with_taken v j = record v { taken = v.taken ++ job_facts j ∷ [] }
 -- what a take tells: the job went out through this pass, and it can run at the executor that the pass knows
 abbrev pub IsTaken : PassKnown → TicketedJobView → PassKnown → Type 0
 IsTaken v t w = (w ≡ with_taken v t.job) × IfSome v.site (λ site. CanRunAt site t)
+
+-- that job, if there is one
+abbrev pub those : Option JobFacts → List JobFacts
+those None = []
+those (Some j) = j ∷ []
+
+-- a pass through which that job more was taken out
+abbrev pub having_taken : PassKnown → Option JobFacts → PassKnown
+having_taken v o = record v { taken = v.taken ++ those o }
+
+-- a pass of the same executor, through which that job was put in, and no other
+abbrev pub having_put : PassKnown → Option JobFacts → PassKnown
+having_put v o = record { site = v.site; takes = false; pushed = those o; taken = [] }

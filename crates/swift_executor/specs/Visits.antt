@@ -1,19 +1,23 @@
 -- What a visit to an executor has done, by the state that it took out of the executor's word and the one that it gave back (SE-0306 for one
 -- turn at a time and for the order by priority; the rest is our own).
-use Rattle.std.specs.Prelude.{◌≡◌, ◌⊎◌, ◌<◌, ℕ, zero, suc, Some, None, List, [], ◌∷◌, ◌++◌, length, map}
+use Rattle.std.specs.Prelude.{◌≡◌, ◌⊎◌, ◌<◌, ◌≤◌, ℕ, zero, suc, Some, None, List, [], ◌∷◌, ◌++◌, length, map}
 use Rattle.std.specs.List.Sorted.{IsPermutation}
 use Rattle.swift_types.specs.declared.id.TaskId.{TaskId}
 use Rattle.swift_journal.specs.Records.{RecordView}
+use Rattle.swift_history.specs.Jobs.{job_facts}
 use Rattle.swift_history.specs.TurnEnds.{JobFacts}
+use Rattle.swift_job.specs.Job.{JobView}
 use Rattle.swift_course.specs.Views.{BookKnown, at_rest}
 use Rattle.swift_tasks.specs.Books.{BookView}
 use Rattle.swift_tasks.specs.declared.fault.BookFault.TheVariants.{Unknown}
 use Rattle.swift_shared_book.specs.Calls.{facts_of}
 use Rattle.swift_shared_book.specs.Shared.{IsInRun, after_turn, knowing}
+use Rattle.swift_turn.specs.Body.{BodyView}
 use Rattle.swift_executor.specs.Account.{job_seen, ready_jobs, record_seen}
 use Rattle.swift_executor.specs.Exec.{DeskView, FoundFree, IsAt, image_of, name_of}
 use Rattle.swift_executor.specs.Held.{GoesOn}
 use Rattle.swift_executor.specs.Inbox.{InboxView}
+use Rattle.swift_executor.specs.Ready.{Adds, ReadyJobsView}
 use Rattle.swift_executor.specs.Refusals.{IsRefusal}
 use Rattle.swift_executor.specs.Taken.{TakenView}
 use Rattle.swift_executor.specs.Seats.{IsSeatFor, KeepsOrder, records_in}
@@ -184,9 +188,32 @@ pub record WritesAll (turns : ℕ) (last : TaskId) (old new : TakenView) : Type 
 abbrev pub TurnsWriteAll : Type 0
 TurnsWriteAll = (worker turns : ℕ) (last : TaskId) (jobs jobs' : List JobFacts) (old new : TakenView) → RunsTurns worker turns last jobs jobs' old new → WritesAll turns last old new
 
+-- these jobs were made ready, one after the other
+abbrev pub AddsAll : ReadyJobsView BodyView → List (JobView BodyView) → ReadyJobsView BodyView → Type 0
+AddsAll r [] new = new ≡ r
+AddsAll r (job ∷ jobs) new = (mid : ReadyJobsView BodyView) × Adds r job mid × AddsAll mid jobs new
+
+-- The executor has taken these jobs, one after the other, and each is ready. No turn was run.
+pub record TakesOn (own : List (JobView BodyView)) (old new : TakenView) : Type 0 where
+  pub stays : HasStayed old new
+  pub taken : new.taker ≡ record old.taker { taken = old.taker.taken ++ map job_facts own }
+  pub ready : AddsAll old.state.ready own new.state.ready
+
+-- So many turns were run, and then so many jobs were kept, no more than turns were run: the first of those that were made, which are gone
+-- from these.
+pub record RunsAndKeeps (worker turns kept : ℕ) (last : TaskId) (jobs jobs' : List JobFacts) (old new : TakenView) : Type 0 where
+  pub made : List JobFacts
+  pub own : List (JobView BodyView)
+  pub ran : TakenView
+  pub runs : RunsTurns worker turns last jobs made old ran
+  pub made_are : made ≡ map job_facts own ++ jobs'
+  pub as_many : length own ≡ kept
+  pub most : kept ≤ turns
+  pub takes : TakesOn own ran new
+
 -- what was done to a state in which the jobs of the inbox are ready, where this many were pending, by what the visit answers
 abbrev pub HasRun : ℕ → ℕ → List JobFacts → List JobFacts → VisitOutcome → TakenView → TakenView → Type 0
-HasRun worker pending jobs jobs' (Turns last turns left) old new = RunsTurns worker turns last jobs jobs' old new
+HasRun worker pending jobs jobs' (Turns last turns kept left) old new = RunsAndKeeps worker turns kept last jobs jobs' old new
 HasRun worker pending jobs jobs' Busy old new = ⊥
 HasRun worker pending jobs jobs' (Nothing left) old new = RunsNone pending old new
 
@@ -215,9 +242,9 @@ pub record Visited (i : InboxView) (P : TakenView → TakenView → Type 0) (too
   pub does : P ready gave
 
 -- What a visit did that answers so: it took the executor's state out of the word, made jobs of the inbox ready, ran as many turns as it
--- answers or none, and gave the state back. Where it ran none though its first step on the word found jobs pending, none was ready.
+-- answers or none, kept as many of the jobs that they made as it answers, and gave the state back. Where it ran none though its first step on the word found jobs pending, none was ready.
 abbrev pub Visits : InboxView → ℕ → List JobFacts → List JobFacts → VisitOutcome → DeskView → DeskView → Type 0
-Visits i worker jobs jobs' (Turns last turns left) old new = HasMoved i old.moved new.moved (Visited i (RunsTurns worker turns last jobs jobs'))
+Visits i worker jobs jobs' (Turns last turns kept left) old new = HasMoved i old.moved new.moved (Visited i (RunsAndKeeps worker turns kept last jobs jobs'))
 Visits i worker jobs jobs' Busy old new = new.moved ≡ old.moved
 Visits i worker jobs jobs' (Nothing left) old new = (pending n : ℕ) × FoundFree old.found new.found pending n × HasMoved i old.moved new.moved (Visited i (RunsNone pending))
 

@@ -16,8 +16,8 @@ use swift_word::{Begun, WordSeat};
 /// it knows.
 ///
 /// It has an allowance, how many jobs may still be sent by it: all those of an executor together began as 2^60. In a clause a
-/// desk is its executor, the jobs that were sent by it, the oldest first, how many turns were run by it, its allowance, what its
-/// steps found on the executor's word, and each state that it took out of the word or gave back to it.
+/// desk is its executor, the jobs that were sent by it, the oldest first, how many turns were run by it for which no job was kept, its
+/// allowance, what its steps found on the executor's word, and each state that it took out of the word or gave back to it.
 /// No job comes out of the inbox through a desk: the right to take is one value, which lies in the executor's state. A desk that
 /// is dropped takes its allowance with it.
 pub struct Desk {

@@ -11,8 +11,9 @@
 ghost use Rattle.std.specs.Prelude.{◌≡◌, ◌<◌, ◌≤◌, ◌+◌, true, false, IfOk, IfErr, OnOk, OnErr, IfSome, IfNone, Some, vec_len, vec_capacity};
 ghost use Rattle.crossbeam_queue.specs.Passes.{view, IsPassOf as IsRawPassOf};
 ghost use Rattle.swift_executor.specs.Inbox.{IsPassOf, IsTakerOf, new_pass, new_taker, has_pushed, has_taken, IsDrained};
-ghost use Rattle.swift_executor.specs.Rule.{blank, unused};
-ghost use Rattle.swift_executor.specs.Site.{CanRunAt};
+ghost use Rattle.swift_executor.specs.Rule.{blank, unused, with_taken};
+ghost use Rattle.swift_executor.specs.Site.{CanRunAt, SiteView};
+ghost use Rattle.swift_history.specs.Jobs.{job_facts};
 
 // What holds between any two steps of an inbox.
 pub mod laws;
@@ -33,7 +34,7 @@ mod taker;
 mod view;
 
 use crate::inbox::pass::RawPass;
-use crate::inbox::rule::{InboxRule, NamesSite, Puts, SetsSite, Takes};
+use crate::inbox::rule::{InboxRule, NamesJob, NamesSite, Passes, Puts, SetsSite, Takes};
 use crate::inbox::view::PassKnown;
 use crossbeam_queue::RuledArrayQueue;
 pub use pass::Pass;
@@ -102,6 +103,17 @@ fn make_placed<K: NamesSite>(
     queue.another::<SetsSite<K>>(first)
 }
 
+// Notes that this job went past the queue, to the pass that takes.
+fn note_passed<K: NamesJob>(queue: &InboxQueue, taker: &mut RawPass, job: &TicketedJob)
+    requires taker { IsRawPassOf queue.now taker.old × ((view taker.old).takes ≡ true) }
+    requires site { (site : SiteView) × ((view taker.old).site ≡ Some site) }
+    requires job { K.job ≡ Some (job_facts job.now.job) }
+    ensures taker { IsRawPassOf queue.now taker.new × (view taker.new ≡ with_taken (view taker.old) job.now.job) }
+{
+    let _ = job;
+    queue.another::<Passes<K>>(taker);
+}
+
 impl Inbox {
     /// An empty inbox for the jobs of this site, with room for `room` of them, at least 1, its first pass and its taker. The only call
     /// that takes memory: a place for each job and 8 bytes beside it, and each place is marked as empty. An `Err` says that a
@@ -161,6 +173,16 @@ impl Inbox {
         ensures none { IfNone result (taker.new ≡ taker.old) }
     {
         self.queue.pop_as::<Takes, R>(rt, &mut taker.raw)
+    }
+
+    /// A job that can run at the inbox's executor goes past the queue, to whoever has the taker: in the account it was put in, by a pass of its
+    /// own, and taken out, at one moment. It takes constant time, and it never waits.
+    pub fn pass_by(&self, taker: &mut Taker, job: &TicketedJob)
+        requires taker { IsTakerOf self.now taker.old }
+        requires job { CanRunAt self.now.site job.now }
+        ensures { taker.new ≡ has_taken taker.old job.now.job }
+    {
+        note_passed::<Brand>(&self.queue, &mut taker.raw, job);
     }
 
     /// Whether the inbox was empty at one moment of the call: two loads, and it never waits. A thread that finds it empty need

@@ -17,6 +17,7 @@ impl ExecState {
     /// Adds a job to those that are ready, as the newest. It is one of this executor: its body is of an equal script and has not
     /// ended, and its frame is of an actor that runs here. There is room, and no job is chosen. Where a job of its task is
     /// ready already, it comes after that one. It takes no memory.
+    #[inline(always)]
     pub fn accept(&mut self, job: Job<Body>)
         requires belongs { BelongsTo self.old.script self.old.executor job }
         requires room { HasRoom self.old.ready 0 }

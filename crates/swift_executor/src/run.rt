@@ -1,6 +1,6 @@
 //! A visit of a worker to an executor.
 
-ghost use Rattle.std.specs.Prelude.{◌≡◌, ◌<◌, ◌≤◌, ◌/◌, ◌↔◌, ◌⊎◌, None, Some, Err, false, map, IfOk, IfErr, IfSome, IfNone, IsSome, IsSomeAnd, OnOk, OnErr};
+ghost use Rattle.std.specs.Prelude.{◌≡◌, ◌<◌, ◌≤◌, ◌-◌, ◌/◌, ◌↔◌, ◌⊎◌, None, Some, Err, false, map, IfOk, IfErr, IfSome, IfNone, IsFalse, IsSome, IsSomeAnd, IsTrue, OnOk, OnErr};
 ghost use Rattle.std.specs.List.{AllByRecursion};
 ghost use Rattle.futures.specs.Task.{Keeps};
 ghost use Rattle.swift_script.specs.Scripts.{executor_kind};
@@ -13,6 +13,7 @@ ghost use Rattle.swift_word.specs.Seat.{ended, last_found, left};
 ghost use Rattle.swift_executor.specs.PlayedAheadInside.{Afresh};
 ghost use Rattle.swift_executor.specs.Exec.{HasFound, HasLeft, HasTried, IfNoTurn, IfTurns, IsAt, IsAtMost, IsBookOf, IsDeskOf, IsRunFault, IsSeatAt, after_run, has_found, image_of, may_run, seat_after};
 ghost use Rattle.swift_executor.specs.Held.{HasOpened, IsOfBook, IsStateAt, KeepsJobs};
+ghost use Rattle.swift_executor.specs.KeepsInside.{IsFirstOwn, KeepsFirst};
 ghost use Rattle.swift_executor.specs.Refusals.{IsRefusal};
 ghost use Rattle.swift_executor.specs.Seats.{HaveSeen, IsSeatFor, KeepsOrder, records_in};
 ghost use Rattle.swift_executor.specs.State.{Chooses, ExecStateView, HasChosen, HasNone, IsBegun, LacksTask, PutsBack, refusal_to_begin};
@@ -239,6 +240,88 @@ where
     Ok(Some(task))
 }
 
+// Whether the first of these jobs is of this executor.
+fn is_own(state: &ExecState, jobs: &TicketedJobs) -> bool
+    requires bodies { AllByRecursion (IsJobOf state.now.script) jobs.now.jobs }
+    ensures { IsTrue result → IsFirstOwn state.now jobs.now.jobs }
+{
+    match jobs.first() {
+        Some(job) => {
+            state.home.script().actor_executor(job.body().actor()) == state.home.executor()
+        }
+        None => false,
+    }
+}
+
+// Takes the first of these jobs, where it is of this executor and there is room for it; the seat takes its ticket.
+fn keep_one(inbox: &Inbox, held: &mut TakenState, book: &BookLock, jobs: &mut TicketedJobs) -> bool
+    requires at { IsAt inbox.now held.old.taker held.old.seat held.old.state }
+    requires book { IsOfBook book.now held.old }
+    requires free { held.old.state.chosen ≡ None }
+    requires jobs { jobs.old.book ≡ book.now.id }
+    requires bodies { AllByRecursion (IsJobOf held.old.state.script) jobs.old.jobs }
+    ensures at { IsAt inbox.now held.new.taker held.new.seat held.new.state }
+    ensures one { IsTrue result → KeepsFirst 1 jobs.old jobs.new held.old held.new }
+    ensures none { IsFalse result → KeepsFirst 0 jobs.old jobs.new held.old held.new }
+{
+    if !is_own(&held.state, jobs) || !held.state.has_room() {
+        return false;
+    }
+    match jobs.take_first(book) {
+        Some(sent) => {
+            inbox.pass_by(&mut held.taker, &sent);
+            let job = book.accept(&mut held.seat, sent);
+            held.state.accept(job);
+            true
+        }
+        None => false,
+    }
+}
+
+// Takes the first of these jobs, as long as they are of this executor and there is room for them, `most` at most. How many they are.
+fn keep_first(inbox: &Inbox, held: &mut TakenState, book: &BookLock, jobs: &mut TicketedJobs, most: u64) -> u64
+    requires at { IsAt inbox.now held.old.taker held.old.seat held.old.state }
+    requires book { IsOfBook book.now held.old }
+    requires free { held.old.state.chosen ≡ None }
+    requires jobs { jobs.old.book ≡ book.now.id }
+    requires bodies { AllByRecursion (IsJobOf held.old.state.script) jobs.old.jobs }
+    ensures at { IsAt inbox.now held.new.taker held.new.seat held.new.state }
+    ensures keeps { KeepsFirst result jobs.old jobs.new held.old held.new }
+    ensures most { result ≤ most }
+{
+    for kept in 0..most {
+        if !keep_one(inbox, held, book, jobs) {
+            return kept;
+        }
+    }
+    most
+}
+
+// Takes jobs that the turns of a visit have made: the first of them, where no others wait before them, in the list or in the inbox.
+fn keep_own(
+    inbox: &Inbox,
+    held: &mut TakenState,
+    book: &BookLock,
+    jobs: &mut TicketedJobs,
+    is_fresh: bool,
+    most: u64,
+) -> u64
+    requires at { IsAt inbox.now held.old.taker held.old.seat held.old.state }
+    requires book { IsOfBook book.now held.old }
+    requires free { held.old.state.chosen ≡ None }
+    requires jobs { jobs.old.book ≡ book.now.id }
+    requires fresh { IsTrue is_fresh → AllByRecursion (IsJobOf held.old.state.script) jobs.old.jobs }
+    ensures at { IsAt inbox.now held.new.taker held.new.seat held.new.state }
+    ensures keeps { KeepsFirst result jobs.old jobs.new held.old held.new }
+    ensures most { result ≤ most }
+{
+    if is_fresh && inbox.is_empty_now(&mut held.taker) {
+        keep_first(inbox, held, book, jobs, most)
+    } else {
+        0
+    }
+}
+
 impl Exec {
     // Gives the state back after so many turns.
     fn end_turns(
@@ -269,6 +352,30 @@ impl Exec {
         ensures left { (result ≡ PendingLeft.More) ↔ (0 < last_found seat.new / 2) }
     {
         self.word.leave(seat, Resting::new(held))
+    }
+
+    // Gives the state back after so many turns, for as many of which the jobs that were kept are pending now.
+    fn give_back(
+        &self,
+        seat: &mut WordSeat<Resting>,
+        held: Box<TakenState>,
+        turns: u64,
+        kept: u64,
+    ) -> PendingLeft
+        requires seat { IsSeatAt self.now seat.old }
+        requires found { IsSomeAnd seat.old.holding (λ found. IsAtMost found turns) }
+        requires kept { kept ≤ turns }
+        requires at { IsStateAt self.now.inbox held.value }
+        requires free { held.value.state.chosen ≡ None }
+        ensures seat { seat.new ≡ ended (turns - kept) (last_found seat.new) (image_of held.value) seat.old }
+        ensures given { IsFree self.now.inbox held.value }
+        ensures left { (result ≡ PendingLeft.More) ↔ (turns - kept < last_found seat.new / 2) }
+    {
+        if kept < turns {
+            self.end_turns(seat, held, turns - kept)
+        } else {
+            self.leave(seat, held)
+        }
     }
 
     // Runs turns where `found` jobs are pending, as many at most, and gives the state back.
@@ -311,13 +418,15 @@ impl Exec {
         if found == 0 {
             return Ok(VisitOutcome::Nothing(self.leave(seat, held)));
         }
+        let is_fresh = jobs.is_empty();
         let executor = self.inbox.site().executor();
         let most = if most < found { most } else { found };
         match turns_ahead(rt, &mut held, executor, worker, most, book, cx, jobs, gate) {
             Ok(Some(ran)) => {
                 let (last, turns) = ran;
-                let left = self.end_turns(seat, held, turns);
-                Ok(VisitOutcome::Turns(last, turns, left))
+                let kept = keep_own(&self.inbox, &mut held, book, jobs, is_fresh, turns);
+                let left = self.give_back(seat, held, turns, kept);
+                Ok(VisitOutcome::Turns(last, turns, kept, left))
             }
             Ok(None) => Ok(VisitOutcome::Nothing(self.leave(seat, held))),
             Err(fault) => {
@@ -333,6 +442,10 @@ impl Exec {
     /// is journalled, and not while it is played. A turn is played before it begins, as one that begins as expected, where it can be;
     /// where it begins so, the book is locked once. The jobs that the turns make come behind those that `jobs` has, with their tickets;
     /// they are of an equal script and their bodies have not ended. `Busy` where another worker holds the executor.
+    ///
+    /// Where `jobs` had none, and nothing is in the inbox when the turns are over, the first of the jobs that they made do not come there, as
+    /// long as they are of this executor and there is room for them, and no more than turns were run: the executor keeps them, and they are
+    /// ready. That is as if they had been sent and accepted, but that each stands in the word in place of one that was run, and is not counted.
     ///
     /// The book is the executor's own: it is of the same script, so no scripts are compared, and the seat in the state knows the turns
     /// that it has taken from this executor. `jobs` are of that book.

@@ -1,4 +1,5 @@
 pub mod Prelude
+pub mod Oldest
 pub mod Shapes
 pub mod RuleKept
 pub mod Committing

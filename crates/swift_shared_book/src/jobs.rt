@@ -1,7 +1,9 @@
 //! Jobs with their tickets.
 
-ghost use Rattle.std.specs.Prelude.{◌≡◌, ◌↔◌, Some, [], ◌∷◌, IfNone, IfSome, IsTrue, length};
+ghost use Rattle.std.specs.Prelude.{◌≡◌, ◌↔◌, Some, List, [], ◌∷◌, IfNone, IfSome, IsTrue, length};
+ghost use Rattle.swift_job.specs.Job.{JobView};
 ghost use Rattle.swift_shared_book.specs.SharedInside.{HasTicketsOf, oldest_first};
+ghost use Rattle.swift_turn.specs.Body.{BodyView};
 
 use crate::TicketedJob;
 use crate::seat::BookSeat;
@@ -87,8 +89,24 @@ impl TicketedJobs {
         self.jobs.len()
     }
 
+    /// The oldest job; none where there are no jobs.
+    pub fn first(&self) -> Option<&Job<Body>>
+        ensures none { IfNone result (self.now.jobs ≡ []) }
+        ensures some { IfSome result (λ j. (rest : List (JobView BodyView)) × (self.now.jobs ≡ j.now ∷ rest)) }
+    {
+        if self.jobs.is_empty() {
+            return None;
+        }
+        if self.is_reversed {
+            Some(&self.jobs[self.jobs.len() - 1])
+        } else {
+            Some(&self.jobs[0])
+        }
+    }
+
     /// Takes the oldest job out, with its ticket; nothing where there are no jobs. Constant time, amortized: where jobs were put in
     /// since the last call, the list is turned once.
+    #[inline(always)]
     pub fn take_first(&mut self, book: &BookLock) -> Option<TicketedJob>
         requires { self.old.book ≡ book.now.id }
         ensures none { IfNone result ((self.old.jobs ≡ []) × (self.new ≡ self.old)) }

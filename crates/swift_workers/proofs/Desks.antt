@@ -40,7 +40,7 @@ desk_sent e old new n j is same = subst (λ (d : DeskView). IsDeskOf e d) (sym s
 
 -- a desk after a visit is of the same executor
 pub desk_ran : (e : ExecView) (old new : DeskView) (found : List ℕ) (moved : List StateImage) (ran : VisitOutcome) → IsDeskOf e old → new ≡ has_found found moved (after_run ran old) → IsDeskOf e new
-desk_ran e old new found moved (Turns task turns left) is same = subst (λ (d : DeskView). IsDeskOf e d) (sym same) is
+desk_ran e old new found moved (Turns task turns kept left) is same = subst (λ (d : DeskView). IsDeskOf e d) (sym same) is
 desk_ran e old new found moved Busy is same = subst (λ (d : DeskView). IsDeskOf e d) (sym same) is
 desk_ran e old new found moved (Nothing left) is same = subst (λ (d : DeskView). IsDeskOf e d) (sym same) is
 

@@ -53,6 +53,6 @@ pub record HasEnded (old : Pool) (tokens : List ExecId) (done : Result (Unit {0}
 -- Whether the token of an executor goes back after this visit: as the visit said. Where another worker holds the executor, that one
 -- says so when it ends.
 abbrev pub left_after : VisitOutcome → PendingLeft
-left_after (ran.Turns task turns left) = left
+left_after (ran.Turns task turns kept left) = left
 left_after (ran.Nothing left) = left
 left_after ran.Busy = Idle

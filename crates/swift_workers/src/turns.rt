@@ -29,7 +29,7 @@ fn left_of(ran: VisitOutcome) -> PendingLeft
     ensures { result ≡ left_after ran }
 {
     match ran {
-        VisitOutcome::Turns(_, _, left) | VisitOutcome::Nothing(left) => left,
+        VisitOutcome::Turns(_, _, _, left) | VisitOutcome::Nothing(left) => left,
         VisitOutcome::Busy => PendingLeft::Idle,
     }
 }

@@ -83,3 +83,30 @@ impl<K: NamesSite> Split<PassKnown> for SetsSite<K> {
 
     ghost right = { λ v. unused false K.site };
 }
+
+/// Names a job, in proofs alone.
+pub trait NamesJob {
+    ghost use Rattle.std.specs.Prelude.{Option};
+    ghost use Rattle.swift_history.specs.TurnEnds.{JobFacts};
+
+    ghost job: { Option JobFacts };
+}
+
+impl NamesJob for Brand {
+    ghost use Rattle.std.specs.Prelude.{None};
+
+    ghost job = { None };
+}
+
+/// A job goes past the queue: a pass of its own puts it in, and the pass that takes has it at once.
+pub struct Passes<K> {
+    of: PhantomData<K>,
+}
+
+impl<K: NamesJob> Split<PassKnown> for Passes<K> {
+    ghost use Rattle.swift_executor.specs.Rule.{having_put, having_taken};
+
+    ghost left = { λ v. having_taken v K.job };
+
+    ghost right = { λ v. having_put v K.job };
+}

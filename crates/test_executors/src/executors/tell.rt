@@ -49,7 +49,7 @@ pub fn tell_visit<K: BookOf>(
 // What came of a visit.
 fn tell_ran(ran: Result<VisitOutcome, ExecFault>, out: &mut Said) -> Result<(), CaseFault> {
     match ran {
-        Ok(VisitOutcome::Turns(task, _, left)) => {
+        Ok(VisitOutcome::Turns(task, _, _, left)) => {
             out.number("turn of t", i64::from(task.0));
             out.debug(", left ", &left)
         }
