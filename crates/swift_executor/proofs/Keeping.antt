@@ -1,12 +1,14 @@
 -- How jobs that turns have made are kept.
-use Rattle.swift_executor.proofs.Prelude.{◌≡◌, ℕ, ◌+◌, ◌-◌, ◌≤◌, List, [], ◌∷◌, ◌++◌, Some, None, length, map, refl, ap, sym, subst, ◌∙◌, add-zero, append-nil, append_assoc, length-append, map-append, AddsAll, Adds, Afresh, AllByRecursion, BelongsTo, BodyView, BookLockView, BookSeatView, CanRunAt, ExecStateView, FrameView, GoesTogether, HasFirst, HasFrames, HasRun, IfRunning, InboxView, IsAt, IsFree, IsJobOf, IsOfBook, JobFacts, JobView, KeepsFirst, Leaves, ReadyJobsView, RunsAndKeeps, RunsTurns, ScriptView, SiteView, StateName, TakenView, TakerView, TakesOn, TaskId, actor_executor, has_taken, image_of, job_facts, knowing, method_actor, seat_after, site_of, taken_of, with_ticket}
+use Rattle.swift_executor.proofs.Prelude.{◌≡◌, ℕ, ◌+◌, ◌-◌, ◌≤◌, List, [], ◌∷◌, ◌++◌, Some, None, length, map, refl, ap, sym, subst, ◌∙◌, add-zero, append-nil, append_assoc, length-append, map-append, AddsAll, Adds, Afresh, AllByRecursion, BelongsTo, BodyView, BookLockView, BookSeatView, CanRunAt, EndsVisit, ExecStateView, FrameView, GoesTogether, HasFirst, HasFrames, HasLeft, HasRun, IfRunning, IfTurns, InboxView, IsAt, IsFree, IsJobOf, IsOfBook, IsStateAt, JobFacts, JobView, KeepsFirst, Leaves, ReadyJobsView, RunsAndKeeps, RunsTurns, ScriptView, SiteView, StateName, TakenView, TakerView, TakesOn, TaskId, actor_executor, has_taken, image_of, job_facts, knowing, method_actor, seat_after, site_of, taken_of, with_ticket}
 use Rattle.atomic_table.specs.Seated.{TableId}
 use Rattle.swift_shared_book.specs.Shared.{TicketedJobsView}
 use Rattle.swift_shared_book.specs.Tickets.{TicketedJobView}
 use Rattle.swift_word.specs.Seat.{WordSeatView, ended, last_found, left}
-use Rattle.swift_word.specs.declared.word.PendingLeft.{PendingLeft}
-use Rattle.swift_executor.specs.declared.ran.VisitOutcome.TheVariants.{Turns}
+use Rattle.swift_executor.specs.declared.ran.VisitOutcome.{VisitOutcome}
 use Rattle.swift_executor.specs.declared.state_name.StateImage.{StateImage}
+use Rattle.swift_executor.specs.Exec.{IfNoTurn}
+use Rattle.swift_executor.specs.Held.{KeepsJobs}
+use Rattle.swift_executor.specs.Inbox.{IsTakerOf}
 use Rattle.swift_executor.proofs.VisitSteps.{Accepts, Done, accepts_one, book_stays, script_stays, stays_both, stays_so}
 
 -- a job of the script whose frame is of an actor that runs here is one of the executor
@@ -28,6 +30,13 @@ can_run_here site s lock t is b book =
         → HasFrames frames × IfRunning frames (λ p. actor_executor s.script (method_actor s.script p.method) ≡ s.executor)
     by [] top = absurd top
     by (p ∷ callers) top = (tt, top)
+
+-- the state of this executor, which goes together with what lies beside it
+pub at_by : (i : InboxView) (r : TakenView) → IsStateAt i r → GoesTogether r → IsAt i r.taker r.seat r.state
+at_by i r name t = (ap (λ (n : StateName). n.inbox.inbox) name, ap (λ (n : StateName). n.site) name, t.is_of)
+
+pub taker_by : (i : InboxView) (r : TakenView) → IsStateAt i r → GoesTogether r → IsTakerOf i r.taker
+taker_by i r name t = (ap (λ (n : StateName). n.inbox.inbox) name, t.is_of.0 ∙ ap (λ (n : StateName). Some n.site) name)
 
 -- none are kept
 pub keeps_none : (jobs : TicketedJobsView) (r : TakenView) → r.state.chosen ≡ None → KeepsFirst 0 jobs jobs r r
@@ -111,12 +120,28 @@ runs_and_keeps worker turns kept last jobs a b old ran new runs k most = record 
 }
 
 -- and then the state was given back
-pub leaves_kept : (i : InboxView) (worker found turns kept : ℕ) (last : TaskId) (rest : PendingLeft) (jobs : List JobFacts) (a b : TicketedJobsView) (old ran new : TakenView) (s s' : WordSeatView StateName StateImage) → old.state.chosen ≡ None
-    → RunsTurns worker turns last jobs (map job_facts a.jobs) old ran → KeepsFirst kept a b ran new → kept ≤ turns → s' ≡ ended (turns - kept) (last_found s') (image_of new) s → IsFree i new
-    → Leaves i (Afresh (HasRun worker found jobs (map job_facts b.jobs) (Turns last turns kept rest)) old) (seat_after (Turns last turns kept rest)) s s'
-leaves_kept i worker found turns kept last rest jobs a b old ran new s s' free runs k most seat given = record {
-  gave = new;
-  seat = seat;
-  given = given;
-  holds = record { ready = old; whole = record { stays = stays_so old free; is_of = λ x. x }; does = runs_and_keeps worker turns kept last jobs a b old ran new runs k most };
-}
+module _ (i : InboxView) (last : TaskId) (turns : ℕ) (a b : TicketedJobsView) (ran : TakenView) (s s' : WordSeatView StateName StateImage) (outcome : VisitOutcome) (e : EndsVisit i last turns a b ran s s' outcome) where
+  pub leaves_kept : (worker found : ℕ) (jobs : List JobFacts) (old : TakenView) → old.state.chosen ≡ None → RunsTurns worker turns last jobs (map job_facts a.jobs) old ran
+      → Leaves i (Afresh (HasRun worker found jobs (map job_facts b.jobs) outcome) old) (seat_after outcome) s s'
+  leaves_kept worker found jobs old free runs =
+      subst (λ (o : VisitOutcome). Leaves i (Afresh (HasRun worker found jobs (map job_facts b.jobs) o) old) (seat_after o) s s') (sym e.is) (record {
+        gave = e.new;
+        seat = e.seat;
+        given = e.given;
+        holds = record { ready = old; whole = record { stays = stays_so old free; is_of = λ x. x }; does = runs_and_keeps worker turns e.kept last jobs a b old ran e.new runs e.keeps e.most };
+      })
+
+  pub left_kept : HasLeft outcome (last_found s')
+  left_kept = subst (λ (o : VisitOutcome). HasLeft o (last_found s')) (sym e.is) e.has_left
+
+  pub turns_kept : (P : ℕ → Type 0) → P turns → IfTurns P outcome
+  turns_kept P p = subst (IfTurns P) (sym e.is) p
+
+  pub ran_kept : (P : Type 0) → IfNoTurn P outcome
+  ran_kept P = subst (IfNoTurn P) (sym e.is) tt
+
+  pub seat_kept : (s'.name ≡ s.name) × (s'.holding ≡ None)
+  seat_kept = (ap (λ (x : WordSeatView StateName StateImage). x.name) e.seat, ap (λ (x : WordSeatView StateName StateImage). x.holding) e.seat)
+
+  pub jobs_kept : (script : ScriptView) (jobs : TicketedJobsView) → KeepsJobs script jobs a → KeepsJobs script jobs b
+  jobs_kept script jobs k = (e.keeps.lock ∙ k.0, λ all. all_left (IsJobOf script) e.keeps.own b.jobs (subst (AllByRecursion (IsJobOf script)) e.keeps.out (k.1 all)))

@@ -26,7 +26,7 @@ pub use Rattle.swift_executor.specs.Exec.{DeskView, ExecView, FoundFree, HasFoun
 pub use Rattle.swift_executor.specs.FieldsInside.{FieldsAre}
 pub use Rattle.swift_executor.specs.Held.{GoesOn, GoesTogether, HasOpened, IsOfBook, IsResting, IsStateAt, order_at, order_of}
 pub use Rattle.swift_executor.specs.Inbox.{InboxView, TakerView, has_taken}
-pub use Rattle.swift_executor.specs.KeepsInside.{IsFirstOwn, KeepsFirst}
+pub use Rattle.swift_executor.specs.KeepsInside.{EndsVisit, IsFirstOwn, KeepsFirst}
 pub use Rattle.swift_executor.specs.Looks.{FreeAreSeen, IsSeen}
 pub use Rattle.swift_executor.specs.Picks.{IsOlder, PicksFirst, raised}
 pub use Rattle.swift_executor.specs.PlayingInside.{Applied, CanGoBack, HasFoldRoom, JobTurned, JobUnturned, MaySpare, Settles, StageIsBegun, StageIsPlayed, WritesRecord, refusal_of_left}

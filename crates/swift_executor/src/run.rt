@@ -13,7 +13,7 @@ ghost use Rattle.swift_word.specs.Seat.{ended, last_found, left};
 ghost use Rattle.swift_executor.specs.PlayedAheadInside.{Afresh};
 ghost use Rattle.swift_executor.specs.Exec.{HasFound, HasLeft, HasTried, IfNoTurn, IfTurns, IsAt, IsAtMost, IsBookOf, IsDeskOf, IsRunFault, IsSeatAt, after_run, has_found, image_of, may_run, seat_after};
 ghost use Rattle.swift_executor.specs.Held.{HasOpened, IsOfBook, IsStateAt, KeepsJobs};
-ghost use Rattle.swift_executor.specs.KeepsInside.{IsFirstOwn, KeepsFirst};
+ghost use Rattle.swift_executor.specs.KeepsInside.{EndsVisit, IsFirstOwn, KeepsFirst};
 ghost use Rattle.swift_executor.specs.Refusals.{IsRefusal};
 ghost use Rattle.swift_executor.specs.Seats.{HaveSeen, IsSeatFor, KeepsOrder, records_in};
 ghost use Rattle.swift_executor.specs.State.{Chooses, ExecStateView, HasChosen, HasNone, IsBegun, LacksTask, PutsBack, refusal_to_begin};
@@ -255,12 +255,11 @@ fn is_own(state: &ExecState, jobs: &TicketedJobs) -> bool
 
 // Takes the first of these jobs, where it is of this executor and there is room for it; the seat takes its ticket.
 fn keep_one(inbox: &Inbox, held: &mut TakenState, book: &BookLock, jobs: &mut TicketedJobs) -> bool
-    requires at { IsAt inbox.now held.old.taker held.old.seat held.old.state }
+    requires at { IsStateAt inbox.now held.old }
     requires book { IsOfBook book.now held.old }
     requires free { held.old.state.chosen ≡ None }
     requires jobs { jobs.old.book ≡ book.now.id }
     requires bodies { AllByRecursion (IsJobOf held.old.state.script) jobs.old.jobs }
-    ensures at { IsAt inbox.now held.new.taker held.new.seat held.new.state }
     ensures one { IsTrue result → KeepsFirst 1 jobs.old jobs.new held.old held.new }
     ensures none { IsFalse result → KeepsFirst 0 jobs.old jobs.new held.old held.new }
 {
@@ -280,12 +279,11 @@ fn keep_one(inbox: &Inbox, held: &mut TakenState, book: &BookLock, jobs: &mut Ti
 
 // Takes the first of these jobs, as long as they are of this executor and there is room for them, `most` at most. How many they are.
 fn keep_first(inbox: &Inbox, held: &mut TakenState, book: &BookLock, jobs: &mut TicketedJobs, most: u64) -> u64
-    requires at { IsAt inbox.now held.old.taker held.old.seat held.old.state }
+    requires at { IsStateAt inbox.now held.old }
     requires book { IsOfBook book.now held.old }
     requires free { held.old.state.chosen ≡ None }
     requires jobs { jobs.old.book ≡ book.now.id }
     requires bodies { AllByRecursion (IsJobOf held.old.state.script) jobs.old.jobs }
-    ensures at { IsAt inbox.now held.new.taker held.new.seat held.new.state }
     ensures keeps { KeepsFirst result jobs.old jobs.new held.old held.new }
     ensures most { result ≤ most }
 {
@@ -306,12 +304,11 @@ fn keep_own(
     is_fresh: bool,
     most: u64,
 ) -> u64
-    requires at { IsAt inbox.now held.old.taker held.old.seat held.old.state }
+    requires at { IsStateAt inbox.now held.old }
     requires book { IsOfBook book.now held.old }
     requires free { held.old.state.chosen ≡ None }
     requires jobs { jobs.old.book ≡ book.now.id }
     requires fresh { IsTrue is_fresh → AllByRecursion (IsJobOf held.old.state.script) jobs.old.jobs }
-    ensures at { IsAt inbox.now held.new.taker held.new.seat held.new.state }
     ensures keeps { KeepsFirst result jobs.old jobs.new held.old held.new }
     ensures most { result ≤ most }
 {
@@ -378,6 +375,31 @@ impl Exec {
         }
     }
 
+    // Ends a visit that has run so many turns, the last of this task: jobs that they made are kept, and the state is given back.
+    fn end_visit(
+        &self,
+        seat: &mut WordSeat<Resting>,
+        mut held: Box<TakenState>,
+        last: TaskId,
+        turns: u64,
+        book: &BookLock,
+        jobs: &mut TicketedJobs,
+        is_fresh: bool,
+    ) -> VisitOutcome
+        requires seat { IsSeatAt self.now seat.old }
+        requires found { IsSomeAnd seat.old.holding (λ found. IsAtMost found turns) }
+        requires at { IsStateAt self.now.inbox held.value }
+        requires free { held.value.state.chosen ≡ None }
+        requires book { IsOfBook book.now held.value }
+        requires jobs { jobs.old.book ≡ book.now.id }
+        requires fresh { IsTrue is_fresh → AllByRecursion (IsJobOf held.value.state.script) jobs.old.jobs }
+        ensures { EndsVisit self.now.inbox last turns jobs.old jobs.new held.value seat.old seat.new result }
+    {
+        let kept = keep_own(&self.inbox, &mut held, book, jobs, is_fresh, turns);
+        let left = self.give_back(seat, held, turns, kept);
+        VisitOutcome::Turns(last, turns, kept, left)
+    }
+
     // Runs turns where `found` jobs are pending, as many at most, and gives the state back.
     fn run_held<R, G>(
         &self,
@@ -424,9 +446,7 @@ impl Exec {
         match turns_ahead(rt, &mut held, executor, worker, most, book, cx, jobs, gate) {
             Ok(Some(ran)) => {
                 let (last, turns) = ran;
-                let kept = keep_own(&self.inbox, &mut held, book, jobs, is_fresh, turns);
-                let left = self.give_back(seat, held, turns, kept);
-                Ok(VisitOutcome::Turns(last, turns, kept, left))
+                Ok(self.end_visit(seat, held, last, turns, book, jobs, is_fresh))
             }
             Ok(None) => Ok(VisitOutcome::Nothing(self.leave(seat, held))),
             Err(fault) => {

@@ -18,7 +18,7 @@ loop-kept-preserved c =
     let one = c.keep_one.ensures.one c.if-not-keep_one.false in
     let on = goes_on_with c.args.book.now c.loop-kept.jobs c.keep_one.new.jobs c.loop-kept.held c.keep_one.new.held 1 one i.book i.bodies in
     record {
-      at = c.keep_one.ensures.at;
+      at = one.takes.stays.goes_on.0 ∙ i.at;
       book = on.0;
       free = one.takes.stays.goes_on.1;
       lock = one.lock ∙ i.lock;
