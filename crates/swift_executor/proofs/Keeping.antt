@@ -98,17 +98,17 @@ all_left P [] rest all = all
 all_left P (j ∷ js) rest all = all_left P js rest all.1
 
 -- when jobs were kept, the state is of the same book, and the jobs that are left are of the same script
-pub goes_on_with : (b : BookLockView) (jobs jobs' : TicketedJobsView) (old new : TakenView) (n : ℕ) → KeepsFirst n jobs jobs' old new → IsOfBook b old → AllByRecursion (IsJobOf old.state.script) jobs.jobs
-    → IsOfBook b new × AllByRecursion (IsJobOf new.state.script) jobs'.jobs
-goes_on_with b jobs jobs' old new n k of all =
+pub goes_on_with : (b : BookLockView) (jobs jobs' : TicketedJobsView) (old gave : TakenView) (n : ℕ) → KeepsFirst n jobs jobs' old gave → IsOfBook b old → AllByRecursion (IsJobOf old.state.script) jobs.jobs
+    → IsOfBook b gave × AllByRecursion (IsJobOf gave.state.script) jobs'.jobs
+goes_on_with b jobs jobs' old gave n k of all =
     let name = k.takes.stays.goes_on.0 in
     let left = all_left (IsJobOf old.state.script) k.own jobs'.jobs (subst (AllByRecursion (IsJobOf old.state.script)) k.out all) in
-    (book_stays b old new name of, subst (λ (p : ScriptView). AllByRecursion (IsJobOf p) jobs'.jobs) (sym (script_stays old new name)) left)
+    (book_stays b old gave name of, subst (λ (p : ScriptView). AllByRecursion (IsJobOf p) jobs'.jobs) (sym (script_stays old gave name)) left)
 
 -- turns were run, and jobs were kept
-runs_and_keeps : (worker turns kept : ℕ) (last : TaskId) (jobs : List JobFacts) (a b : TicketedJobsView) (old ran new : TakenView) → RunsTurns worker turns last jobs (map job_facts a.jobs) old ran → KeepsFirst kept a b ran new → kept ≤ turns
-    → RunsAndKeeps worker turns kept last jobs (map job_facts b.jobs) old new
-runs_and_keeps worker turns kept last jobs a b old ran new runs k most = record {
+runs_and_keeps : (worker turns kept : ℕ) (last : TaskId) (jobs : List JobFacts) (a b : TicketedJobsView) (old ran gave : TakenView) → RunsTurns worker turns last jobs (map job_facts a.jobs) old ran → KeepsFirst kept a b ran gave → kept ≤ turns
+    → RunsAndKeeps worker turns kept last jobs (map job_facts b.jobs) old gave
+runs_and_keeps worker turns kept last jobs a b old ran gave runs k most = record {
   made = map job_facts a.jobs;
   own = k.own;
   ran = ran;

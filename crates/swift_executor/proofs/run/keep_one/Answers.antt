@@ -2,8 +2,8 @@ use Rattle.swift_executor.proofs.Prelude.{ap, refl, sym, subst, ◌∙◌, IsSta
 use Rattle.swift_executor.proofs.Keeping.{accepts, at_by, keeps_one, taker_by}
 use Rattle.swift_executor.proofs.run.keep_one.Goals as goal
 
-pub invariant_of-held-in-Some : goal.invariant_of-held-in-Some
-invariant_of-held-in-Some g c =
+pub invariant_of-held : goal.invariant_of-held
+invariant_of-held c =
     let x = c.held.inside in
     let r = taken_of x.state x.taker x.seat x.is_orderly in
     let here = at_by c.args.inbox.now r (subst (IsStateAt c.args.inbox.now) (sym c.held.view_is) c.requires.at) c.held.invariant in
@@ -11,7 +11,7 @@ invariant_of-held-in-Some g c =
     (accepts c.args.inbox.now r c.held.invariant free here c.in-Some.sent.job _ _ _ _ c.pass_by.ensures c.accept-job.ensures.job c.accept-job.ensures.seat c.accept.ensures.ready c.accept.ensures.rest).together
 
 pub returns-in-Some-clause-one : goal.returns-in-Some-clause-one
-returns-in-Some-clause-one g c = λ _.
+returns-in-Some-clause-one c =
     let x = c.held.inside in
     let r = taken_of x.state x.taker x.seat x.is_orderly in
     let here = at_by c.args.inbox.now r (subst (IsStateAt c.args.inbox.now) (sym c.held.view_is) c.requires.at) c.held.invariant in
@@ -20,7 +20,7 @@ returns-in-Some-clause-one g c = λ _.
     c.args.jobs.now c.take_first.new.self c.in-Some.ensures.some.0 c.take_first.ensures.lock)
 
 pub pass_by-requires-clause-taker : goal.pass_by-requires-clause-taker
-pass_by-requires-clause-taker g c =
+pass_by-requires-clause-taker c =
     let x = c.held.inside in
     let r = taken_of x.state x.taker x.seat x.is_orderly in
     taker_by c.args.inbox.now r (subst (IsStateAt c.args.inbox.now) (sym c.held.view_is) c.requires.at) c.held.invariant

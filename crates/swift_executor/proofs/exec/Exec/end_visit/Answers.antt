@@ -2,7 +2,7 @@ use Rattle.swift_executor.proofs.Prelude.{refl, subst, TakenView, KeepsFirst}
 use Rattle.swift_executor.proofs.exec.Exec.end_visit.Goals as goal
 
 pub returns : goal.returns
-returns g c = record {
+returns c = record {
   kept = c.keep_own-kept.result;
   left = c.give_back-left.result;
   new = c.keep_own-kept.new.held;
