@@ -11,7 +11,7 @@ invariant_of-held c =
     (accepts c.args.inbox.now r c.held.invariant free here c.in-Some.sent.job _ _ _ _ c.pass_by.ensures c.accept-job.ensures.job c.accept-job.ensures.seat c.accept.ensures.ready c.accept.ensures.rest).together
 
 pub returns-in-Some-clause-one : goal.returns-in-Some-clause-one
-returns-in-Some-clause-one c =
+returns-in-Some-clause-one c = λ _.
     let x = c.held.inside in
     let r = taken_of x.state x.taker x.seat x.is_orderly in
     let here = at_by c.args.inbox.now r (subst (IsStateAt c.args.inbox.now) (sym c.held.view_is) c.requires.at) c.held.invariant in
