@@ -88,7 +88,7 @@ impl Exploration {
     {
         let mut search = Search::new(alloc, script, limit)?;
         let first = SearchedHistory::new(alloc, script)?;
-        search.keep(first, 0, Vec::new(alloc))?;
+        search.keep(first, 0, Vec::new(alloc), &mut Vec::new(alloc))?;
         Ok(Exploration { search, next: 0 })
     }
 

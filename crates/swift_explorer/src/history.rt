@@ -4,6 +4,8 @@ ghost use Rattle.std.specs.Prelude.{◌≡◌, ◌<◌, ℕ, List, [], IfOk, IfS
 ghost use Rattle.std.specs.Arc.{arc_value};
 ghost use Rattle.script_code.specs.Seen.{rows_of};
 ghost use Rattle.swift_events.specs.declared.life.JobStage.TheVariants.{Begun};
+ghost use Rattle.swift_events.specs.declared.event.Event.{Event as Noted};
+ghost use Rattle.swift_events.specs.Events.{tasks_of};
 ghost use Rattle.swift_events.specs.Lives.{life_of};
 ghost use Rattle.swift_history.specs.Histories.{Block};
 ghost use Rattle.swift_history.specs.Checks.{is_begun};
@@ -133,15 +135,48 @@ impl SearchedHistory {
     pub fn copy(&self) -> Result<SearchedHistory, AllocError>
         ensures { IfOk result (IsCopy self.now) }
     {
-        let used = Vec::from_slice(self.steps.alloc, &self.used)?;
-        let digest = self.digest.copy(self.steps.alloc)?;
-        let steps = self.steps.copy()?;
-        Ok(SearchedHistory {
-            steps,
-            used,
-            journals: Vec::new(self.steps.alloc),
-            digest,
-        })
+        self.copy_over(SearchedHistory::new(self.steps.alloc, &self.steps.script)?)
+    }
+
+    /// The same, in the memory of another history, which is given up.
+    pub fn copy_over(&self, spare: SearchedHistory) -> Result<SearchedHistory, AllocError>
+        ensures { IfOk result (IsCopy self.now) }
+    {
+        let SearchedHistory {
+            steps: others,
+            used: flags,
+            journals: _,
+            digest: cards,
+        } = spare;
+        let steps = self.steps.copy_over(others)?;
+        match self.read_over(flags, cards) {
+            Ok((used, digest)) => Ok(SearchedHistory {
+                steps,
+                used,
+                journals: Vec::new(self.steps.alloc),
+                digest,
+            }),
+            Err(fault) => {
+                steps.close();
+                Err(fault)
+            }
+        }
+    }
+
+    // What a copy has beside its steps, in the memory of other lists.
+    fn read_over(
+        &self,
+        flags: Vec<bool>,
+        cards: LogDigest,
+    ) -> Result<(Vec<bool>, LogDigest), AllocError>
+        ensures used { IfOk result (λ r. r.0.items ≡ self.now.used.items) }
+        ensures digest { IfOk result (λ r. (log : List Noted) → IsRead self.now.digest log → IsRead r.1 log) }
+    {
+        let mut used = flags;
+        used.clear();
+        used.extend_from_slice(&self.used)?;
+        let digest = self.digest.copy_over(self.steps.alloc, cards)?;
+        Ok((used, digest))
     }
 
     /// Reads for the key what has happened since that was read last. Linear in that, whatever was before.
@@ -349,6 +384,21 @@ impl SearchedHistory {
         let origin = self.steps.book.origin(task)?;
         let ending = self.steps.book.ending(task)?;
         Some((origin, ending))
+    }
+
+    // Whether some task has not ended. False, too, where there are more tasks than numbers for them.
+    pub(crate) fn some_goes_on(&self) -> bool
+        ensures { IsTrue result → SomeGoesOn self.now.steps.book.log (tasks_of (root_count self.now.steps.book.script) self.now.steps.book.log) }
+    {
+        let Ok(tasks) = u32::try_from(self.steps.book.tasks()) else {
+            return false;
+        };
+        for place in 0..tasks {
+            if self.ended(TaskId(place)).is_none() {
+                return true;
+            }
+        }
+        false
     }
 
     // The same of each of the first tasks, if all have ended.

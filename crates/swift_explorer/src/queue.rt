@@ -12,6 +12,9 @@ use std::collections::HashMap;
 // So many are kept.
 const HISTORIES: usize = 2_048;
 
+// So many spare ones are kept.
+const SPARES: usize = 128;
+
 /// A history that is given up when it is dropped.
 pub struct KeptHistory {
     /// The history.
@@ -35,16 +38,25 @@ impl KeptHistory {
     }
 }
 
-/// Puts a history to the others, where there is room for one more. Out of memory, what was there means nothing.
+/// Puts a history that is done with to those whose memory others may take, where there is room for one more.
+pub fn put_spare(spares: &mut Vec<KeptHistory>, kept: KeptHistory) -> Result<(), AllocError> {
+    if spares.len() < SPARES {
+        spares.push(kept)?;
+    }
+    Ok(())
+}
+
+/// Puts a history to the others, where there is room for one more; else to the spare ones. Out of memory, what was there means nothing.
 pub fn put_history(
     histories: &mut HashMap<usize, KeptHistory>,
     place: usize,
     kept: KeptHistory,
+    spares: &mut Vec<KeptHistory>,
 ) -> Result<(), AllocError>
     ensures { OnOk result ((q : ℕ) (k : KeptHistory) → get nat_eq histories.new q ≡ Some k → WasThere (get nat_eq histories.old) place kept q k) }
 {
     if histories.len() >= HISTORIES {
-        return Ok(());
+        return put_spare(spares, kept);
     }
     histories.insert(place, kept)?;
     Ok(())

@@ -5,14 +5,14 @@ ghost use Rattle.std.specs.Arc.{arc_value};
 ghost use Rattle.swift_history.specs.Histories.{Block, ReportView};
 ghost use Rattle.swift_explorer.specs.Outcomes.{EachOnce, IfReached, IsBrokenAfter, IsOutcomeOf, RunsShort, Tells};
 ghost use Rattle.swift_explorer.specs.declared.outcome.RunOutcome.{RunOutcome};
-ghost use Rattle.swift_explorer.specs.HistoryInside.{IsPath, IsSomeHistory, WasDone};
+ghost use Rattle.swift_explorer.specs.HistoryInside.{IsCopy, IsHistory, IsPath, IsSomeHistory, WasDone};
 ghost use Rattle.swift_explorer.specs.EndsInside.{HasEnd, IsKnownEnd};
 ghost use Rattle.swift_explorer.specs.AheadInside.{IsAsBefore, StartsHold};
 ghost use Rattle.swift_explorer.specs.LogDigestsInside.{IsRead};
 ghost use Rattle.swift_explorer.specs.FusedInside.{first_half};
 ghost use Rattle.swift_explorer.specs.MarksInside.{AreTold, HaveSilentMarks};
 ghost use Rattle.swift_explorer.specs.KeysInside.{IsNumbered, outcome_bytes, end_numbers};
-ghost use Rattle.swift_explorer.specs.SearchInside.{AreKeyed, GoOn, GoesFrom, HasGoneOn, HasGrown, IsAhead, IsExpandedAt, IsFollowedAhead, IsFollowedBy, IsNoted, IsSound, Keeps, MayGoOn, StepWasTried, WasTriedLast, path_after, paths_of};
+ghost use Rattle.swift_explorer.specs.SearchInside.{AreKeyed, GoOn, GoesFrom, HasGoneOn, HasGrown, IsAhead, IsExpandedAt, IsFollowedAhead, IsFollowedBy, IsHistoryAt, IsNoted, IsSound, Keeps, MayGoOn, StepWasTried, WasTriedLast, path_after, paths_of};
 ghost use Rattle.swift_explorer.specs.Numbers.{list_numbers};
 ghost use Rattle.swift_explorer.specs.PartsInside.{Grows, IsCode};
 
@@ -25,7 +25,7 @@ use crate::marks::{AwayMarks, MarkKind, away_marks, methods_marks};
 use crate::moves::Move;
 use crate::outcome::{End, RunOutcome};
 use crate::parts::{KeyCode, KeyParts};
-use crate::queue::{KeptHistory, put_history, take_history};
+use crate::queue::{KeptHistory, put_history, put_spare, take_history};
 use std::alloc::{AllocError, Global};
 use std::collections::{HashMap, HashSet};
 use std::sync::Arc;
@@ -129,50 +129,41 @@ pub(crate) fn follow(history: &mut SearchedHistory, path: &[Move]) -> Result<Fol
     Ok(Followed::Yes)
 }
 
-// Follows one more step than these, which were followed.
-fn follow_one(
-    history: &mut SearchedHistory,
-    path: &[Move],
-    step: Move,
-) -> Result<Followed, AllocError>
-    requires { IsPath (arc_value history.old.steps.script) path.now history.old }
-    ensures broken { IfOk result (λ f. f ≡ Followed.Broken → IsBrokenAfter (arc_value history.old.steps.script) (path.now ++ step ∷ [])) }
-    ensures path { IfOk result (λ f. WasDone f → IsPath (arc_value history.old.steps.script) (path.now ++ step ∷ []) history.new) }
-    ensures last { IfOk result (λ f. WasDone f → IsFollowedBy (arc_value history.old.steps.script) path.now step history.new f) }
+// Follows one more step. The steps before it are in no list: they are named by the proof alone, as are those of the functions below.
+fn follow_one(history: &mut SearchedHistory, step: Move) -> Result<Followed, AllocError>
+    ghost path: { List Move }
+    requires { IsPath (arc_value history.old.steps.script) path history.old }
+    ensures broken { IfOk result (λ f. f ≡ Followed.Broken → IsBrokenAfter (arc_value history.old.steps.script) (path ++ step ∷ [])) }
+    ensures path { IfOk result (λ f. WasDone f → IsPath (arc_value history.old.steps.script) (path ++ step ∷ []) history.new) }
+    ensures last { IfOk result (λ f. WasDone f → IsFollowedBy (arc_value history.old.steps.script) path step history.new f) }
 {
-    let _ = path;
     history.step(step)
 }
 
-// The same of what a step of a search does last, after what it does before that. These steps are in no list, which would be a copy of the
-// path for each step.
+// The same of what a step of a search does last, after what it does before that.
 fn follow_last(
     history: &mut SearchedHistory,
-    path: &[Move],
     step: Step,
     last: Move,
 ) -> Result<Followed, AllocError>
-    requires { IsPath (arc_value history.old.steps.script) (path.now ++ first_half step) history.old }
-    ensures broken { IfOk result (λ f. f ≡ Followed.Broken → IsBrokenAfter (arc_value history.old.steps.script) ((path.now ++ first_half step) ++ last ∷ [])) }
-    ensures path { IfOk result (λ f. WasDone f → IsPath (arc_value history.old.steps.script) ((path.now ++ first_half step) ++ last ∷ []) history.new) }
-    ensures last { IfOk result (λ f. WasDone f → IsFollowedBy (arc_value history.old.steps.script) (path.now ++ first_half step) last history.new f) }
+    ghost path: { List Move }
+    requires { IsPath (arc_value history.old.steps.script) (path ++ first_half step) history.old }
+    ensures broken { IfOk result (λ f. f ≡ Followed.Broken → IsBrokenAfter (arc_value history.old.steps.script) ((path ++ first_half step) ++ last ∷ [])) }
+    ensures path { IfOk result (λ f. WasDone f → IsPath (arc_value history.old.steps.script) ((path ++ first_half step) ++ last ∷ []) history.new) }
+    ensures last { IfOk result (λ f. WasDone f → IsFollowedBy (arc_value history.old.steps.script) (path ++ first_half step) last history.new f) }
 {
-    let _ = path;
     let _ = step;
     history.step(last)
 }
 
 // A history to which these steps have led, once the next turn of a task has begun. Nothing where it may not.
-fn begun(
-    history: SearchedHistory,
-    path: &[Move],
-    task: TaskId,
-) -> Result<Option<SearchedHistory>, AllocError>
-    requires { IsPath (arc_value history.steps.script) path.now history }
-    ensures { IfOk result (λ o. IfSome o (IsPath (arc_value history.steps.script) (path.now ++ Move.Begin task ∷ []))) }
+fn begun(history: SearchedHistory, task: TaskId) -> Result<Option<SearchedHistory>, AllocError>
+    ghost path: { List Move }
+    requires { IsPath (arc_value history.steps.script) path history }
+    ensures { IfOk result (λ o. IfSome o (IsPath (arc_value history.steps.script) (path ++ Move.Begin task ∷ []))) }
 {
     let mut next = history;
-    match follow_one(&mut next, path, Move::Begin(task)) {
+    match follow_one(&mut next, Move::Begin(task)) {
         Err(fault) => {
             next.close();
             Err(fault)
@@ -189,15 +180,15 @@ fn begun(
 // A history to which these steps have led, after the first half of a step. Nothing where that may not follow.
 fn first_followed(
     history: SearchedHistory,
-    path: &[Move],
     step: Step,
 ) -> Result<Option<SearchedHistory>, AllocError>
-    requires { IsPath (arc_value history.steps.script) path.now history }
-    ensures { IfOk result (λ o. IfSome o (IsPath (arc_value history.steps.script) (path.now ++ first_half step))) }
+    ghost path: { List Move }
+    requires { IsPath (arc_value history.steps.script) path history }
+    ensures { IfOk result (λ o. IfSome o (IsPath (arc_value history.steps.script) (path ++ first_half step))) }
 {
     match step {
         Step::One(_) => Ok(Some(history)),
-        Step::Turn(task) => begun(history, path, task),
+        Step::Turn(task) => begun(history, task),
     }
 }
 
@@ -229,19 +220,19 @@ fn follow_ahead(
     history: &mut SearchedHistory,
     away: &AwayMarks,
     marks: &[Vec<bool>],
-    path: &[Move],
     step: Step,
     last: Move,
     moves: &mut Vec<Move>,
 ) -> Result<Followed, AllocError>
-    requires path { IsPath (arc_value history.old.steps.script) (path.now ++ first_half step) history.old }
+    ghost path: { List Move }
+    requires path { IsPath (arc_value history.old.steps.script) (path ++ first_half step) history.old }
     requires told { AreTold (arc_value history.old.steps.script) away.now }
     requires marked { HaveSilentMarks (arc_value history.old.steps.script) marks.now }
     requires hold { StartsHold (arc_value history.old.steps.script) }
-    ensures broken { IfOk result (λ f. f ≡ Followed.Broken → IsBrokenAfter (arc_value history.old.steps.script) ((path.now ++ first_half step) ++ last ∷ [])) }
-    ensures ahead { IfOk result (λ f. WasDone f → IsFollowedAhead (arc_value history.old.steps.script) (path.now ++ first_half step) last history.new f moves.old.items moves.new.items) }
+    ensures broken { IfOk result (λ f. f ≡ Followed.Broken → IsBrokenAfter (arc_value history.old.steps.script) ((path ++ first_half step) ++ last ∷ [])) }
+    ensures ahead { IfOk result (λ f. WasDone f → IsFollowedAhead (arc_value history.old.steps.script) (path ++ first_half step) last history.new f moves.old.items moves.new.items) }
 {
-    let done = follow_last(history, path, step, last)?;
+    let done = follow_last(history, step, last)?;
     if let Followed::No = done {
         return Ok(Followed::No);
     }
@@ -249,6 +240,19 @@ fn follow_ahead(
         return Ok(Followed::No);
     }
     Ok(done)
+}
+
+// A copy of a history, in the memory of a spare one, where there is one.
+fn copy_of(
+    history: &SearchedHistory,
+    spares: &mut Vec<KeptHistory>,
+) -> Result<SearchedHistory, AllocError>
+    ensures { IfOk result (IsCopy history.now) }
+{
+    match spares.pop() {
+        Some(spare) => history.copy_over(spare.into_history()),
+        None => history.copy(),
+    }
 }
 
 // What comes after a history.
@@ -262,20 +266,40 @@ struct Ahead {
     has_room: bool,
 }
 
-// What comes after these steps, which were followed. Nothing where that is not known.
+// What is known of the end of the history at this place. The steps to it are written where each task has ended.
+fn end_at(history: &SearchedHistory, nodes: &Nodes, place: usize) -> Result<End, AllocError>
+    ghost path: { List Move }
+    requires path { IsPath (arc_value history.now.steps.script) path history.now }
+    requires at { slice_get (paths_of nodes.now) place ≡ Some path }
+    requires on { GoOn nodes.now }
+    ensures reached { IfOk result (IfReached (IsOutcomeOf (arc_value history.now.steps.script))) }
+    ensures known { IfOk result (λ known. (blocks : List Block) → IsHistory (arc_value history.now.steps.script) blocks history.now → IsKnownEnd (arc_value history.now.steps.script) blocks known) }
+{
+    if history.some_goes_on() {
+        return Ok(End::NotYet);
+    }
+    let path = path_to(history.steps.alloc, nodes, place)?;
+    history.outcome(&path)
+}
+
+// What comes after the history at this place. Nothing where that is not known.
 fn look_ahead(
     history: &SearchedHistory,
     away: &AwayMarks,
-    path: &[Move],
+    nodes: &Nodes,
+    place: usize,
 ) -> Result<Option<Ahead>, AllocError>
-    requires path { IsPath (arc_value history.now.steps.script) path.now history.now }
+    ghost path: { List Move }
+    requires path { IsPath (arc_value history.now.steps.script) path history.now }
     requires told { AreTold (arc_value history.now.steps.script) away.now }
-    ensures { IfOk result (λ o. IfSome o (λ ahead. IsAhead (arc_value history.now.steps.script) path.now ahead)) }
+    requires at { slice_get (paths_of nodes.now) place ≡ Some path }
+    requires on { GoOn nodes.now }
+    ensures { IfOk result (λ o. IfSome o (λ ahead. IsAhead (arc_value history.now.steps.script) path ahead)) }
 {
     let Some(steps) = history.next_fused(away)? else {
         return Ok(None);
     };
-    let end = history.outcome(path)?;
+    let end = end_at(history, nodes, place)?;
     let has_room = history.has_room();
     Ok(Some(Ahead {
         steps,
@@ -331,12 +355,13 @@ impl Search {
         self.parts.code(&self.key, &self.cuts)
     }
 
-    // Keeps a history, where none is kept that goes on alike.
+    // Keeps a history, where none is kept that goes on alike. One that is not kept is put to the spare ones.
     pub(crate) fn keep(
         &mut self,
         history: SearchedHistory,
         before: usize,
         moves: Vec<Move>,
+        spares: &mut Vec<KeptHistory>,
     ) -> Result<(), AllocError>
         requires before { MayGoOn (paths_of self.old.nodes) before }
         requires path { IsPath (arc_value self.old.script) (path_after (paths_of self.old.nodes) before moves.items) history }
@@ -347,7 +372,7 @@ impl Search {
         kept.history.read_on()?;
         let code = self.code_of(&kept.history)?;
         if self.keys.contains(&code) {
-            return Ok(());
+            return put_spare(spares, kept);
         }
         if self.nodes.len() >= self.limit {
             self.is_complete = false;
@@ -357,19 +382,23 @@ impl Search {
         self.keys.insert(code)?;
         let place = self.nodes.len();
         self.nodes.push(before, &moves)?;
-        put_history(&mut self.histories, place, kept)
+        put_history(&mut self.histories, place, kept, spares)
     }
 
-    // Writes the first turn that breaks an invariant: what a step does last after these.
-    fn note_broken(&mut self, path: &[Move], step: Step, last: Move) -> Result<(), AllocError>
-        requires broken { IsBrokenAfter (arc_value self.old.script) ((path.now ++ first_half step) ++ last ∷ []) }
+    // Writes the first turn that breaks an invariant: what a step does last after the history at this place.
+    fn note_broken(&mut self, place: usize, step: Step, last: Move) -> Result<(), AllocError>
+        ghost path: { List Move }
+        requires broken { IsBrokenAfter (arc_value self.old.script) ((path ++ first_half step) ++ last ∷ []) }
         requires before { IfSome self.old.broken (λ schedule. IsBrokenAfter (arc_value self.old.script) schedule.items) }
+        requires at { slice_get (paths_of self.old.nodes) place ≡ Some path }
+        requires on { GoOn self.old.nodes }
         ensures rest { self.new ≡ record self.old { broken = self.new.broken } }
         ensures noted { OnOk result (is_some self.new.broken ≡ true) }
         ensures broken { OnOk result (IfSome self.new.broken (λ schedule. IsBrokenAfter (arc_value self.old.script) schedule.items)) }
     {
         if self.broken.is_none() {
-            self.broken = Some(with_step(self.alloc, path, step, last)?);
+            let path = path_to(self.alloc, &self.nodes, place)?;
+            self.broken = Some(with_step(self.alloc, &path, step, last)?);
         }
         Ok(())
     }
@@ -379,29 +408,23 @@ impl Search {
     fn try_last(
         &mut self,
         history: SearchedHistory,
-        path: &[Move],
         step: Step,
         last: Move,
         before: usize,
         mut moves: Vec<Move>,
+        spares: &mut Vec<KeptHistory>,
     ) -> Result<(), AllocError>
+        ghost path: { List Move }
         requires sound { IsSound (arc_value self.old.script) self.old }
-        requires followed { IsPath (arc_value self.old.script) (path.now ++ first_half step) history }
-        requires path { GoesFrom (paths_of self.old.nodes) before moves.items ((path.now ++ first_half step) ++ last ∷ []) }
+        requires followed { IsPath (arc_value self.old.script) (path ++ first_half step) history }
+        requires path { GoesFrom (paths_of self.old.nodes) before moves.items ((path ++ first_half step) ++ last ∷ []) }
+        requires at { slice_get (paths_of self.old.nodes) before ≡ Some path }
         ensures grown { OnOk result (HasGrown self.old self.new) }
         ensures sound { OnOk result (IsSound (arc_value self.old.script) self.new) }
-        ensures tried { OnOk result (IsTrue self.new.is_complete → WasTriedLast (arc_value self.old.script) self.new (path.now ++ first_half step) last) }
+        ensures tried { OnOk result (IsTrue self.new.is_complete → WasTriedLast (arc_value self.old.script) self.new (path ++ first_half step) last) }
     {
         let mut next = history;
-        match follow_ahead(
-            &mut next,
-            &self.away,
-            &self.marks,
-            path,
-            step,
-            last,
-            &mut moves,
-        ) {
+        match follow_ahead(&mut next, &self.away, &self.marks, step, last, &mut moves) {
             Err(fault) => {
                 next.close();
                 Err(fault)
@@ -411,10 +434,10 @@ impl Search {
                 self.is_complete = false;
                 Ok(())
             }
-            Ok(Followed::Yes) => self.keep(next, before, moves),
+            Ok(Followed::Yes) => self.keep(next, before, moves, spares),
             Ok(Followed::Broken) => {
-                self.keep(next, before, moves)?;
-                self.note_broken(path, step, last)
+                self.keep(next, before, moves, spares)?;
+                self.note_broken(before, step, last)
             }
         }
     }
@@ -423,26 +446,27 @@ impl Search {
     fn try_step(
         &mut self,
         history: KeptHistory,
-        path: &[Move],
         before: usize,
         step: Step,
+        spares: &mut Vec<KeptHistory>,
     ) -> Result<(), AllocError>
+        ghost path: { List Move }
         requires sound { IsSound (arc_value self.old.script) self.old }
-        requires followed { IsPath (arc_value self.old.script) path.now history.history }
-        requires path { slice_get (paths_of self.old.nodes) before ≡ Some path.now }
+        requires followed { IsPath (arc_value self.old.script) path history.history }
+        requires path { slice_get (paths_of self.old.nodes) before ≡ Some path }
         ensures grown { OnOk result (HasGrown self.old self.new) }
         ensures sound { OnOk result (IsSound (arc_value self.old.script) self.new) }
-        ensures tried { OnOk result (IsTrue self.new.is_complete → StepWasTried (arc_value self.old.script) self.new path.now step) }
+        ensures tried { OnOk result (IsTrue self.new.is_complete → StepWasTried (arc_value self.old.script) self.new path step) }
     {
         let last = step.last();
         let mut moves = Vec::new(self.alloc);
         step.put_first(&mut moves)?;
         moves.push(last)?;
-        let Some(next) = first_followed(history.into_history(), path, step)? else {
+        let Some(next) = first_followed(history.into_history(), step)? else {
             self.is_complete = false;
             return Ok(());
         };
-        self.try_last(next, path, step, last, before, moves)
+        self.try_last(next, step, last, before, moves, spares)
     }
 
     // Writes an outcome, where it is a new one.
@@ -492,20 +516,21 @@ impl Search {
     fn try_each(
         &mut self,
         history: &SearchedHistory,
-        path: &[Move],
         place: usize,
         steps: &[Step],
+        spares: &mut Vec<KeptHistory>,
     ) -> Result<(), AllocError>
+        ghost path: { List Move }
         requires sound { IsSound (arc_value self.old.script) self.old }
-        requires followed { IsPath (arc_value self.old.script) path.now history.now }
-        requires path { slice_get (paths_of self.old.nodes) place ≡ Some path.now }
+        requires followed { IsPath (arc_value self.old.script) path history.now }
+        requires path { slice_get (paths_of self.old.nodes) place ≡ Some path }
         ensures grown { OnOk result (HasGrown self.old self.new) }
         ensures sound { OnOk result (IsSound (arc_value self.old.script) self.new) }
-        ensures tried { OnOk result (IsTrue self.new.is_complete → All (StepWasTried (arc_value self.old.script) self.new path.now) steps.now) }
+        ensures tried { OnOk result (IsTrue self.new.is_complete → All (StepWasTried (arc_value self.old.script) self.new path) steps.now) }
     {
         for step in steps {
-            let again = history.copy()?;
-            self.try_step(KeptHistory { history: again }, path, place, *step)?;
+            let again = copy_of(history, spares)?;
+            self.try_step(KeptHistory { history: again }, place, *step, spares)?;
         }
         Ok(())
     }
@@ -514,23 +539,24 @@ impl Search {
     fn try_all(
         &mut self,
         history: KeptHistory,
-        path: &[Move],
         place: usize,
         steps: &[Step],
+        spares: &mut Vec<KeptHistory>,
     ) -> Result<(), AllocError>
+        ghost path: { List Move }
         requires sound { IsSound (arc_value self.old.script) self.old }
-        requires followed { IsPath (arc_value self.old.script) path.now history.history }
-        requires path { slice_get (paths_of self.old.nodes) place ≡ Some path.now }
+        requires followed { IsPath (arc_value self.old.script) path history.history }
+        requires path { slice_get (paths_of self.old.nodes) place ≡ Some path }
         ensures grown { OnOk result (HasGrown self.old self.new) }
         ensures sound { OnOk result (IsSound (arc_value self.old.script) self.new) }
-        ensures tried { OnOk result (IsTrue self.new.is_complete → All (StepWasTried (arc_value self.old.script) self.new path.now) steps.now) }
+        ensures tried { OnOk result (IsTrue self.new.is_complete → All (StepWasTried (arc_value self.old.script) self.new path) steps.now) }
     {
         let Some(parts) = steps.split_last() else {
             return Ok(());
         };
         let (last, front) = parts;
-        self.try_each(&history.history, path, place, front)?;
-        self.try_step(history, path, place, *last)?;
+        self.try_each(&history.history, place, front, spares)?;
+        self.try_step(history, place, *last, spares)?;
         Ok(())
     }
 
@@ -552,14 +578,15 @@ impl Search {
     fn go_on(
         &mut self,
         history: KeptHistory,
-        path: &[Move],
         place: usize,
         ahead: Ahead,
+        spares: &mut Vec<KeptHistory>,
     ) -> Result<(), AllocError>
+        ghost path: { List Move }
         requires sound { IsSound (arc_value self.old.script) self.old }
-        requires followed { IsPath (arc_value self.old.script) path.now history.history }
-        requires path { slice_get (paths_of self.old.nodes) place ≡ Some path.now }
-        requires ahead { IsAhead (arc_value self.old.script) path.now ahead }
+        requires followed { IsPath (arc_value self.old.script) path history.history }
+        requires path { slice_get (paths_of self.old.nodes) place ≡ Some path }
+        requires ahead { IsAhead (arc_value self.old.script) path ahead }
         ensures grown { OnOk result (HasGrown self.old self.new) }
         ensures sound { OnOk result (IsSound (arc_value self.old.script) self.new) }
         ensures expanded { OnOk result (IsTrue self.new.is_complete → IsExpandedAt (arc_value self.old.script) self.new place) }
@@ -571,24 +598,23 @@ impl Search {
         } = ahead;
         self.note_room(has_room);
         self.note(end)?;
-        self.try_all(history, path, place, &steps)
+        self.try_all(history, place, &steps, spares)
     }
 
-    // The history to which these steps lead: the one that was kept at this place, or else one that follows them.
-    pub(crate) fn history_at(
-        &mut self,
-        place: usize,
-        path: &[Move],
-    ) -> Result<Option<SearchedHistory>, AllocError>
+    // The history at a place: the one that was kept there, or else one that follows the steps to it.
+    pub(crate) fn history_at(&mut self, place: usize) -> Result<Option<SearchedHistory>, AllocError>
         requires sound { IsSound (arc_value self.old.script) self.old }
-        requires path { slice_get (paths_of self.old.nodes) place ≡ Some path.now }
+        requires there { place < length self.old.nodes }
         ensures rest { self.new ≡ record self.old { histories = self.new.histories } }
         ensures sound { IsSound (arc_value self.old.script) self.new }
-        ensures history { IfOk result (λ o. IfSome o (IsPath (arc_value self.old.script) path.now)) }
+        ensures history { IfOk result (λ o. IfSome o (IsHistoryAt (arc_value self.old.script) (paths_of self.old.nodes) place)) }
     {
         match take_history(&mut self.histories, place) {
             Some(history) => Ok(Some(history)),
-            None => followed(self.alloc, &self.script, path),
+            None => {
+                let path = path_to(self.alloc, &self.nodes, place)?;
+                followed(self.alloc, &self.script, &path)
+            }
         }
     }
 
@@ -596,18 +622,19 @@ impl Search {
     fn go_on_from(
         &mut self,
         history: KeptHistory,
-        path: &[Move],
         place: usize,
+        spares: &mut Vec<KeptHistory>,
     ) -> Result<(), AllocError>
+        ghost path: { List Move }
         requires sound { IsSound (arc_value self.old.script) self.old }
-        requires followed { IsPath (arc_value self.old.script) path.now history.history }
-        requires path { slice_get (paths_of self.old.nodes) place ≡ Some path.now }
+        requires followed { IsPath (arc_value self.old.script) path history.history }
+        requires path { slice_get (paths_of self.old.nodes) place ≡ Some path }
         ensures grown { OnOk result (HasGrown self.old self.new) }
         ensures sound { OnOk result (IsSound (arc_value self.old.script) self.new) }
         ensures expanded { OnOk result (IsTrue self.new.is_complete → IsExpandedAt (arc_value self.old.script) self.new place) }
     {
-        match look_ahead(&history.history, &self.away, path)? {
-            Some(ahead) => self.go_on(history, path, place, ahead),
+        match look_ahead(&history.history, &self.away, &self.nodes, place)? {
+            Some(ahead) => self.go_on(history, place, ahead, spares),
             None => {
                 self.is_complete = false;
                 Ok(())
@@ -616,19 +643,18 @@ impl Search {
     }
 
     // Goes on from a history that is kept.
-    fn expand(&mut self, place: usize) -> Result<(), AllocError>
+    fn expand(&mut self, place: usize, spares: &mut Vec<KeptHistory>) -> Result<(), AllocError>
         requires sound { IsSound (arc_value self.old.script) self.old }
         requires there { place < length self.old.nodes }
         ensures grown { OnOk result (HasGrown self.old self.new) }
         ensures sound { OnOk result (IsSound (arc_value self.old.script) self.new) }
         ensures expanded { OnOk result (IsTrue self.new.is_complete → IsExpandedAt (arc_value self.old.script) self.new place) }
     {
-        let path = path_to(self.alloc, &self.nodes, place)?;
-        let Some(history) = self.history_at(place, &path)? else {
+        let Some(history) = self.history_at(place)? else {
             self.is_complete = false;
             return Ok(());
         };
-        self.go_on_from(KeptHistory { history }, &path, place)
+        self.go_on_from(KeptHistory { history }, place, spares)
     }
 
     // Goes on from the history at a place and from those after it, from `more` at most, up to one from which a history is left out since as
@@ -642,6 +668,7 @@ impl Search {
         ensures left { IfOk result (λ next. IsTrue self.new.met_limit → self.old.met_limit ≡ false → next < length self.new.nodes) }
     {
         let mut next = from;
+        let mut spares = Vec::new(self.alloc);
         for _ in 0..more {
             if self.met_limit {
                 return Ok(next);
@@ -649,7 +676,7 @@ impl Search {
             if next >= self.nodes.len() {
                 return Ok(next);
             }
-            self.expand(next)?;
+            self.expand(next, &mut spares)?;
             if self.met_limit {
                 return Ok(next);
             }

@@ -16,6 +16,7 @@ ghost use Rattle.swift_explorer.specs.Numbers.{each_numbers, link_numbers, some_
 use crate::keys::values::{
     put_ending, put_flag, put_life, put_link, put_task, put_value, put_wide,
 };
+use crate::parts::end_part;
 use std::alloc::{AllocError, Global};
 use swift_escalation::PriorityEvent as Link;
 use swift_events::{Event, JobStage, Life};
@@ -429,16 +430,34 @@ impl KeyGroup {
     }
 }
 
+// The same numbers again, in the memory of others.
+fn numbers_over(spare: Vec<i64>, numbers: &[i64]) -> Result<Vec<i64>, AllocError>
+    ensures { IfOk result (λ copy. copy.items ≡ numbers.now) }
+{
+    let mut copy = spare;
+    copy.clear();
+    copy.extend_from_slice(numbers)?;
+    Ok(copy)
+}
+
 impl KeyCard {
-    // The same again.
-    pub(crate) fn copy(&self, alloc: Global) -> Result<KeyCard, AllocError>
+    // The same again, in the memory of another.
+    fn copy_over(&self, spare: KeyCard) -> Result<KeyCard, AllocError>
         ensures { IfOk result (IsSameCard self.now) }
     {
+        let KeyCard {
+            life: _,
+            links,
+            own,
+            waiters,
+            named: _,
+            opened: _,
+        } = spare;
         Ok(KeyCard {
             life: self.life,
-            links: Vec::from_slice(alloc, &self.links)?,
-            own: Vec::from_slice(alloc, &self.own)?,
-            waiters: Vec::from_slice(alloc, &self.waiters)?,
+            links: numbers_over(links, &self.links)?,
+            own: numbers_over(own, &self.own)?,
+            waiters: numbers_over(waiters, &self.waiters)?,
             named: self.named,
             opened: self.opened,
         })
@@ -530,16 +549,32 @@ pub(crate) fn note_all(cards: &mut Vec<KeyCard>, event: Event) -> Result<(), All
     Ok(())
 }
 
-// The same cards again.
-pub(crate) fn copy_cards(alloc: Global, cards: &[KeyCard]) -> Result<Vec<KeyCard>, AllocError>
+// The same cards again, in the memory of others.
+pub(crate) fn copy_cards(
+    alloc: Global,
+    cards: &[KeyCard],
+    spare: Vec<KeyCard>,
+) -> Result<Vec<KeyCard>, AllocError>
     ensures { IfOk result (λ copy. AllZip IsSameCard cards.now copy.items) }
 {
+    let mut left = spare;
+    left.reverse();
     let mut copy = Vec::with_capacity(alloc, cards.len())?;
     for card in cards {
-        let same = card.copy(alloc)?;
+        let same = card_over(alloc, card, left.pop())?;
         copy.push(same)?;
     }
     Ok(copy)
+}
+
+// The same card again, in the memory of another, where there is one.
+fn card_over(alloc: Global, card: &KeyCard, spare: Option<KeyCard>) -> Result<KeyCard, AllocError>
+    ensures { IfOk result (IsSameCard card.now) }
+{
+    match spare {
+        Some(spare) => card.copy_over(spare),
+        None => card.copy_over(blank_card(alloc)),
+    }
 }
 
 // These numbers, and a 0 after them.
@@ -587,7 +622,7 @@ pub(crate) fn put_head(
     put_wide(key, made)
 }
 
-/// Appends these cards. A part of the key ends after each.
+/// Appends these cards. A part of the key may end after each.
 pub(crate) fn put_cards(
     key: &mut Vec<i64>,
     cuts: &mut Vec<usize>,
@@ -597,7 +632,7 @@ pub(crate) fn put_cards(
 {
     for card in cards {
         put_card(key, card)?;
-        cuts.push(key.len())?;
+        end_part(cuts, key.len())?;
     }
     Ok(())
 }

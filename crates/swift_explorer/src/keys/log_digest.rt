@@ -13,6 +13,7 @@ use crate::keys::digest::{
     KeyCard, KeyGroup, blank_group, copy_cards, counted, cover, group_end, note_all, other_of,
     put_cards, put_group, put_head,
 };
+use crate::parts::end_part;
 use std::alloc::{AllocError, Global};
 use swift_events::Event;
 use swift_log::EventLog;
@@ -194,7 +195,7 @@ fn put_groups_of(
     Ok(())
 }
 
-// The same of the first tasks. A part of the key ends after each.
+// The same of the first tasks. A part of the key may end after each.
 fn put_groups(
     alloc: Global,
     key: &mut Vec<i64>,
@@ -209,7 +210,7 @@ fn put_groups(
 {
     for place in 0..tasks {
         put_groups_of(alloc, key, groups, TaskId(place as u32), bound)?;
-        cuts.push(key.len())?;
+        end_part(cuts, key.len())?;
     }
     Ok(())
 }
@@ -228,11 +229,18 @@ impl LogDigest {
         }
     }
 
-    /// The same again. It takes memory as the cards do.
-    pub fn copy(&self, alloc: Global) -> Result<LogDigest, AllocError>
+    /// The same again, in the memory of another.
+    pub fn copy_over(&self, alloc: Global, spare: LogDigest) -> Result<LogDigest, AllocError>
         ensures { IfOk result (λ copy. (log : List Noted) → IsRead self.now log → IsRead copy log) }
     {
-        let cards = copy_cards(alloc, &self.cards)?;
+        let LogDigest {
+            events: _,
+            made: _,
+            bound: _,
+            cards: others,
+            groups: _,
+        } = spare;
+        let cards = copy_cards(alloc, &self.cards, others)?;
         let groups = copy_groups(alloc, &self.groups)?;
         Ok(LogDigest {
             events: self.events,
@@ -271,7 +279,7 @@ impl LogDigest {
         Ok(())
     }
 
-    /// Appends the digest of what was read: all of it that decides what may come next. Parts of the key end after each card.
+    /// Appends the digest of what was read: all of it that decides what may come next. Parts of the key may end after each card.
     pub fn put_digest(
         &self,
         alloc: Global,

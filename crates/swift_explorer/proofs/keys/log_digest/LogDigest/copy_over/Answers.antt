@@ -1,6 +1,6 @@
 use Rattle.swift_explorer.proofs.Prelude.{List, refl, subst, AllZip, IsSameCard, IsSameGroup, KeyCard, NamedGroup}
 use Rattle.swift_explorer.proofs.LogsRead.{read_same}
-use Rattle.swift_explorer.proofs.keys.log_digest.LogDigest.copy.Goals as goal
+use Rattle.swift_explorer.proofs.keys.log_digest.LogDigest.copy_over.Goals as goal
 
 pub returns : goal.returns
 returns c = λ log is.
