@@ -56,7 +56,8 @@ pub fn put_history(
     ensures { OnOk result ((q : ℕ) (k : KeptHistory) → get nat_eq histories.new q ≡ Some k → WasThere (get nat_eq histories.old) place kept q k) }
 {
     if histories.len() >= HISTORIES {
-        return put_spare(spares, kept);
+        put_spare(spares, kept)?;
+        return Ok(());
     }
     histories.insert(place, kept)?;
     Ok(())

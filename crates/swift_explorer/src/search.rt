@@ -372,7 +372,8 @@ impl Search {
         kept.history.read_on()?;
         let code = self.code_of(&kept.history)?;
         if self.keys.contains(&code) {
-            return put_spare(spares, kept);
+            put_spare(spares, kept)?;
+            return Ok(());
         }
         if self.nodes.len() >= self.limit {
             self.is_complete = false;
