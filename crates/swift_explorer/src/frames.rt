@@ -9,7 +9,7 @@ ghost use Rattle.swift_explorer.specs.FrameNumbers.{frame_numbers};
 ghost use Rattle.swift_explorer.specs.KeysInside.{body_numbers, frames_left, job_left, job_numbers, ready_numbers, ready_view, task_left, with_counts};
 
 use crate::keys::{put_bindings, put_frame, put_frame_as, put_number, put_resume};
-use crate::parts::short;
+use crate::parts::{end_part, short};
 use std::alloc::AllocError;
 use swift_interpreter::Frame;
 use swift_steps::NextTurn;
@@ -69,7 +69,7 @@ fn put_one_if(key: &mut Vec<i64>, ready: &Option<NextTurn>) -> Result<(), AllocE
     }
 }
 
-/// What each task goes on with: the number of its next turn, what that begins with, and its frames. A part of the key ends after each.
+/// What each task goes on with: the number of its next turn, what that begins with, and its frames. A part of the key may end after each.
 pub fn put_ready(
     key: &mut Vec<i64>,
     cuts: &mut Vec<usize>,
@@ -80,7 +80,7 @@ pub fn put_ready(
     for task in tasks {
         key.push(1)?;
         put_one_if(key, task)?;
-        cuts.push(key.len())?;
+        end_part(cuts, key.len())?;
     }
     key.push(0)?;
     Ok(())
@@ -101,7 +101,7 @@ fn put_waiting(
     key.push(1)?;
     put_number(key, task.0)?;
     put_turn(key, number, Resume::Go, body)?;
-    cuts.push(key.len())?;
+    end_part(cuts, key.len())?;
     Ok(())
 }
 

@@ -36,6 +36,21 @@ pub(crate) struct KeyParts {
     groups: IndexSet<Vec<u32>>,
 }
 
+// So many numbers a part has at least, so that a key has few parts.
+const SHORTEST: usize = 16;
+
+/// A part of a key ends here, unless it is short: then it goes on.
+pub(crate) fn end_part(cuts: &mut Vec<usize>, end: usize) -> Result<(), AllocError> {
+    let from = match cuts.last() {
+        Some(cut) => *cut,
+        None => 0,
+    };
+    if end.saturating_sub(from) >= SHORTEST {
+        cuts.push(end)?;
+    }
+    Ok(())
+}
+
 /// The same number. Out of memory, too, where it takes more than 32 bits: so much is never kept.
 pub(crate) fn short(number: usize) -> Result<u32, AllocError>
     ensures { IfOk result (λ n. n ≡ number) }

@@ -16,6 +16,7 @@ ghost use Rattle.swift_explorer.specs.Numbers.{each_numbers, link_numbers, some_
 use crate::keys::values::{
     put_ending, put_flag, put_life, put_link, put_task, put_value, put_wide,
 };
+use crate::parts::end_part;
 use std::alloc::{AllocError, Global};
 use swift_escalation::PriorityEvent as Link;
 use swift_events::{Event, JobStage, Life};
@@ -587,7 +588,7 @@ pub(crate) fn put_head(
     put_wide(key, made)
 }
 
-/// Appends these cards. A part of the key ends after each.
+/// Appends these cards. A part of the key may end after each.
 pub(crate) fn put_cards(
     key: &mut Vec<i64>,
     cuts: &mut Vec<usize>,
@@ -597,7 +598,7 @@ pub(crate) fn put_cards(
 {
     for card in cards {
         put_card(key, card)?;
-        cuts.push(key.len())?;
+        end_part(cuts, key.len())?;
     }
     Ok(())
 }

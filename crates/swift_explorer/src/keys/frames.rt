@@ -7,6 +7,7 @@ ghost use Rattle.swift_explorer.specs.FrameNumbers.{binding_numbers, bindings_nu
 ghost use Rattle.swift_explorer.specs.Numbers.{fault_numbers, flag_numbers, list_numbers, option_numbers};
 
 use crate::keys::values::{put_fault, put_flag, put_number, put_value, put_wide};
+use crate::parts::end_part;
 use script_code::Binding;
 use std::alloc::AllocError;
 use swift_interpreter::Frame;
@@ -137,7 +138,7 @@ fn put_rows(key: &mut Vec<i64>, rows: &[Vec<i64>]) -> Result<(), AllocError>
     Ok(())
 }
 
-/// The fields of all executors. A part of the key ends after each.
+/// The fields of all executors. A part of the key may end after each.
 pub fn put_fields(
     key: &mut Vec<i64>,
     cuts: &mut Vec<usize>,
@@ -148,7 +149,7 @@ pub fn put_fields(
     for rows in fields {
         key.push(1)?;
         put_rows(key, rows)?;
-        cuts.push(key.len())?;
+        end_part(cuts, key.len())?;
     }
     key.push(0)?;
     Ok(())

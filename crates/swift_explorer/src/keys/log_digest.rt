@@ -13,6 +13,7 @@ use crate::keys::digest::{
     KeyCard, KeyGroup, blank_group, copy_cards, counted, cover, group_end, note_all, other_of,
     put_cards, put_group, put_head,
 };
+use crate::parts::end_part;
 use std::alloc::{AllocError, Global};
 use swift_events::Event;
 use swift_log::EventLog;
@@ -194,7 +195,7 @@ fn put_groups_of(
     Ok(())
 }
 
-// The same of the first tasks. A part of the key ends after each.
+// The same of the first tasks. A part of the key may end after each.
 fn put_groups(
     alloc: Global,
     key: &mut Vec<i64>,
@@ -209,7 +210,7 @@ fn put_groups(
 {
     for place in 0..tasks {
         put_groups_of(alloc, key, groups, TaskId(place as u32), bound)?;
-        cuts.push(key.len())?;
+        end_part(cuts, key.len())?;
     }
     Ok(())
 }
@@ -271,7 +272,7 @@ impl LogDigest {
         Ok(())
     }
 
-    /// Appends the digest of what was read: all of it that decides what may come next. Parts of the key end after each card.
+    /// Appends the digest of what was read: all of it that decides what may come next. Parts of the key may end after each card.
     pub fn put_digest(
         &self,
         alloc: Global,

@@ -18,4 +18,4 @@ loop-rows-preserved c =
 pub returns : goal.returns
 returns c =
     let len = length-map c.args.fields.now rows_in in
-    some_all rows_numbers (map rows_in c.args.fields.now) c.loop-rows.rows-index _ _ _ (omega (arith, len, c.loop-rows-test.false)) c.loop-rows.invariant c.in_ok-push-3.ensures.items
+    some_all rows_numbers (map rows_in c.args.fields.now) c.loop-rows.rows-index _ _ _ (omega (arith, len, c.loop-rows-test.false)) c.loop-rows.invariant c.in_ok-push-2.ensures.items
