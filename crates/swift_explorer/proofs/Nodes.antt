@@ -32,6 +32,13 @@ path_there ns i lt =
     let many = paths_length ns in
     (get_or (paths_of ns) i [], slice_get-get_or (paths_of ns) i [] (omega (arith, lt, many)))
 
+-- where there is a path there is a node
+pub path_inside : (ns : List NodeView) (i : ℕ) (path : List Move) → slice_get (paths_of ns) i ≡ Some path → i < length ns
+path_inside ns i path at =
+    let many = paths_length ns in
+    let lt = slice_get_within (paths_of ns) i path at in
+    omega (arith, many, lt)
+
 -- the paths stay where a node is put to the others
 pub paths_grow : (ns : List NodeView) (n : NodeView) (i : ℕ) (path : List Move) → slice_get (paths_of ns) i ≡ Some path → slice_get (paths_of (ns ++ n ∷ [])) i ≡ Some path
 paths_grow ns n i path at = subst (λ (ps : List (List Move)). slice_get ps i ≡ Some path) (sym (paths_push ns n [])) (at_front (paths_of ns) _ i path at)

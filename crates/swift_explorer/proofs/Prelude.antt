@@ -57,7 +57,7 @@ pub use Rattle.swift_explorer.specs.NodesInside.{AreWithin, NodeView, node_view}
 pub use Rattle.swift_explorer.specs.Numbers.{each_numbers, ending_numbers, env_numbers, fault_numbers, flag_numbers, given_numbers, life_numbers, link_numbers, list_numbers, number_numbers, option_numbers, origin_numbers, pair_numbers, priority_numbers, resume_numbers, some_numbers, stage_numbers, task_numbers, value_numbers, wide_numbers}
 pub use Rattle.swift_explorer.specs.Outcomes.{Differ, EachOnce, HasEachOutcome, IfReached, IsBrokenAfter, IsLogOf, IsOutcomeOf, NeverBreaks, Tells}
 pub use Rattle.swift_explorer.specs.PartsInside.{AreParts, Grows, IsCode, IsGroup, IsHalf, IsPair, IsPart}
-pub use Rattle.swift_explorer.specs.SearchInside.{AreKeyed, GoOn, GoesFrom, HasGoneOn, HasGrown, HasLike, HasLikeAhead, HasSeen, IsAhead, IsExpanded, IsExpandedAt, IsFollowedAhead, IsFollowedBy, IsKept, IsNoted, IsSound, Keeps, LeadsTo, MayFollow, MayGoOn, StepWasTried, TurnWasTried, WasTried, WasTriedLast, path_after, paths_from, paths_of}
+pub use Rattle.swift_explorer.specs.SearchInside.{AreKeyed, GoOn, GoesFrom, HasGoneOn, HasGrown, HasLike, HasLikeAhead, HasSeen, IsAhead, IsExpanded, IsExpandedAt, IsFollowedAhead, IsFollowedBy, IsHistoryAt, IsKept, IsNoted, IsSound, Keeps, LeadsTo, MayFollow, MayGoOn, StepWasTried, TurnWasTried, WasTried, WasTriedLast, path_after, paths_from, paths_of}
 pub use Rattle.swift_explorer.specs.Steps.{AreSteps, BreaksInvariant, IsBroken, IsStep, roots_after, roots_over}
 pub use Rattle.swift_explorer.specs.declared.fused.Step.{Step}
 pub use Rattle.swift_explorer.specs.declared.fused.Step.TheVariants.{One, Turn}

@@ -219,6 +219,10 @@ pub record IsFollowedAhead (script : ScriptView) (path : List Move) (step : Move
   pub is : IsHistory script (after_turns (blocks ++ last ∷ []) turns) x
   pub quiet : AllWhole turns
 
+-- a history is one to which the steps to the node at this place lead
+abbrev pub IsHistoryAt : ScriptView → List (List Move) → ℕ → SearchedHistory → Type 0
+IsHistoryAt script paths place x = (path : List Move) → slice_get paths place ≡ Some path → IsPath script path x
+
 -- the steps to a node, and these after it, are those
 abbrev pub GoesFrom : List (List Move) → ℕ → List Move → List Move → Type 0
 GoesFrom paths before moves steps = (base : List Move) × (slice_get paths before ≡ Some base) × (base ++ moves ≡ steps)

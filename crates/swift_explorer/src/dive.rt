@@ -149,7 +149,7 @@ impl Search {
         ensures { OnOk result (HasSeen self.old self.new) }
     {
         let mut path = path_to(self.alloc, &self.nodes, place)?;
-        let Some(history) = self.history_at(place, &path)? else {
+        let Some(history) = self.history_at(place)? else {
             return Ok(path.len());
         };
         let mut kept = KeptHistory { history };

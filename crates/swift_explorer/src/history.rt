@@ -4,6 +4,7 @@ ghost use Rattle.std.specs.Prelude.{◌≡◌, ◌<◌, ℕ, List, [], IfOk, IfS
 ghost use Rattle.std.specs.Arc.{arc_value};
 ghost use Rattle.script_code.specs.Seen.{rows_of};
 ghost use Rattle.swift_events.specs.declared.life.JobStage.TheVariants.{Begun};
+ghost use Rattle.swift_events.specs.Events.{tasks_of};
 ghost use Rattle.swift_events.specs.Lives.{life_of};
 ghost use Rattle.swift_history.specs.Histories.{Block};
 ghost use Rattle.swift_history.specs.Checks.{is_begun};
@@ -349,6 +350,21 @@ impl SearchedHistory {
         let origin = self.steps.book.origin(task)?;
         let ending = self.steps.book.ending(task)?;
         Some((origin, ending))
+    }
+
+    // Whether some task has not ended. False, too, where there are more tasks than numbers for them.
+    pub(crate) fn some_goes_on(&self) -> bool
+        ensures { IsTrue result → SomeGoesOn self.now.steps.book.log (tasks_of (root_count self.now.steps.book.script) self.now.steps.book.log) }
+    {
+        let Ok(tasks) = u32::try_from(self.steps.book.tasks()) else {
+            return false;
+        };
+        for place in 0..tasks {
+            if self.ended(TaskId(place)).is_none() {
+                return true;
+            }
+        }
+        false
     }
 
     // The same of each of the first tasks, if all have ended.

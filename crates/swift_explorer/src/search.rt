@@ -5,14 +5,14 @@ ghost use Rattle.std.specs.Arc.{arc_value};
 ghost use Rattle.swift_history.specs.Histories.{Block, ReportView};
 ghost use Rattle.swift_explorer.specs.Outcomes.{EachOnce, IfReached, IsBrokenAfter, IsOutcomeOf, RunsShort, Tells};
 ghost use Rattle.swift_explorer.specs.declared.outcome.RunOutcome.{RunOutcome};
-ghost use Rattle.swift_explorer.specs.HistoryInside.{IsPath, IsSomeHistory, WasDone};
+ghost use Rattle.swift_explorer.specs.HistoryInside.{IsHistory, IsPath, IsSomeHistory, WasDone};
 ghost use Rattle.swift_explorer.specs.EndsInside.{HasEnd, IsKnownEnd};
 ghost use Rattle.swift_explorer.specs.AheadInside.{IsAsBefore, StartsHold};
 ghost use Rattle.swift_explorer.specs.LogDigestsInside.{IsRead};
 ghost use Rattle.swift_explorer.specs.FusedInside.{first_half};
 ghost use Rattle.swift_explorer.specs.MarksInside.{AreTold, HaveSilentMarks};
 ghost use Rattle.swift_explorer.specs.KeysInside.{IsNumbered, outcome_bytes, end_numbers};
-ghost use Rattle.swift_explorer.specs.SearchInside.{AreKeyed, GoOn, GoesFrom, HasGoneOn, HasGrown, IsAhead, IsExpandedAt, IsFollowedAhead, IsFollowedBy, IsNoted, IsSound, Keeps, MayGoOn, StepWasTried, WasTriedLast, path_after, paths_of};
+ghost use Rattle.swift_explorer.specs.SearchInside.{AreKeyed, GoOn, GoesFrom, HasGoneOn, HasGrown, IsAhead, IsExpandedAt, IsFollowedAhead, IsFollowedBy, IsHistoryAt, IsNoted, IsSound, Keeps, MayGoOn, StepWasTried, WasTriedLast, path_after, paths_of};
 ghost use Rattle.swift_explorer.specs.Numbers.{list_numbers};
 ghost use Rattle.swift_explorer.specs.PartsInside.{Grows, IsCode};
 
@@ -129,35 +129,32 @@ pub(crate) fn follow(history: &mut SearchedHistory, path: &[Move]) -> Result<Fol
     Ok(Followed::Yes)
 }
 
-// Follows one more step than these, which were followed.
+// Follows one more step. The steps before it are in no list: they are named by the proof alone, as are those of the functions below.
 fn follow_one(
     history: &mut SearchedHistory,
-    path: &[Move],
     step: Move,
 ) -> Result<Followed, AllocError>
-    requires { IsPath (arc_value history.old.steps.script) path.now history.old }
-    ensures broken { IfOk result (λ f. f ≡ Followed.Broken → IsBrokenAfter (arc_value history.old.steps.script) (path.now ++ step ∷ [])) }
-    ensures path { IfOk result (λ f. WasDone f → IsPath (arc_value history.old.steps.script) (path.now ++ step ∷ []) history.new) }
-    ensures last { IfOk result (λ f. WasDone f → IsFollowedBy (arc_value history.old.steps.script) path.now step history.new f) }
+    ghost path: { List Move }
+    requires { IsPath (arc_value history.old.steps.script) path history.old }
+    ensures broken { IfOk result (λ f. f ≡ Followed.Broken → IsBrokenAfter (arc_value history.old.steps.script) (path ++ step ∷ [])) }
+    ensures path { IfOk result (λ f. WasDone f → IsPath (arc_value history.old.steps.script) (path ++ step ∷ []) history.new) }
+    ensures last { IfOk result (λ f. WasDone f → IsFollowedBy (arc_value history.old.steps.script) path step history.new f) }
 {
-    let _ = path;
     history.step(step)
 }
 
-// The same of what a step of a search does last, after what it does before that. These steps are in no list, which would be a copy of the
-// path for each step.
+// The same of what a step of a search does last, after what it does before that.
 fn follow_last(
     history: &mut SearchedHistory,
-    path: &[Move],
     step: Step,
     last: Move,
 ) -> Result<Followed, AllocError>
-    requires { IsPath (arc_value history.old.steps.script) (path.now ++ first_half step) history.old }
-    ensures broken { IfOk result (λ f. f ≡ Followed.Broken → IsBrokenAfter (arc_value history.old.steps.script) ((path.now ++ first_half step) ++ last ∷ [])) }
-    ensures path { IfOk result (λ f. WasDone f → IsPath (arc_value history.old.steps.script) ((path.now ++ first_half step) ++ last ∷ []) history.new) }
-    ensures last { IfOk result (λ f. WasDone f → IsFollowedBy (arc_value history.old.steps.script) (path.now ++ first_half step) last history.new f) }
+    ghost path: { List Move }
+    requires { IsPath (arc_value history.old.steps.script) (path ++ first_half step) history.old }
+    ensures broken { IfOk result (λ f. f ≡ Followed.Broken → IsBrokenAfter (arc_value history.old.steps.script) ((path ++ first_half step) ++ last ∷ [])) }
+    ensures path { IfOk result (λ f. WasDone f → IsPath (arc_value history.old.steps.script) ((path ++ first_half step) ++ last ∷ []) history.new) }
+    ensures last { IfOk result (λ f. WasDone f → IsFollowedBy (arc_value history.old.steps.script) (path ++ first_half step) last history.new f) }
 {
-    let _ = path;
     let _ = step;
     history.step(last)
 }
@@ -165,14 +162,14 @@ fn follow_last(
 // A history to which these steps have led, once the next turn of a task has begun. Nothing where it may not.
 fn begun(
     history: SearchedHistory,
-    path: &[Move],
     task: TaskId,
 ) -> Result<Option<SearchedHistory>, AllocError>
-    requires { IsPath (arc_value history.steps.script) path.now history }
-    ensures { IfOk result (λ o. IfSome o (IsPath (arc_value history.steps.script) (path.now ++ Move.Begin task ∷ []))) }
+    ghost path: { List Move }
+    requires { IsPath (arc_value history.steps.script) path history }
+    ensures { IfOk result (λ o. IfSome o (IsPath (arc_value history.steps.script) (path ++ Move.Begin task ∷ []))) }
 {
     let mut next = history;
-    match follow_one(&mut next, path, Move::Begin(task)) {
+    match follow_one(&mut next, Move::Begin(task)) {
         Err(fault) => {
             next.close();
             Err(fault)
@@ -189,15 +186,15 @@ fn begun(
 // A history to which these steps have led, after the first half of a step. Nothing where that may not follow.
 fn first_followed(
     history: SearchedHistory,
-    path: &[Move],
     step: Step,
 ) -> Result<Option<SearchedHistory>, AllocError>
-    requires { IsPath (arc_value history.steps.script) path.now history }
-    ensures { IfOk result (λ o. IfSome o (IsPath (arc_value history.steps.script) (path.now ++ first_half step))) }
+    ghost path: { List Move }
+    requires { IsPath (arc_value history.steps.script) path history }
+    ensures { IfOk result (λ o. IfSome o (IsPath (arc_value history.steps.script) (path ++ first_half step))) }
 {
     match step {
         Step::One(_) => Ok(Some(history)),
-        Step::Turn(task) => begun(history, path, task),
+        Step::Turn(task) => begun(history, task),
     }
 }
 
@@ -229,19 +226,19 @@ fn follow_ahead(
     history: &mut SearchedHistory,
     away: &AwayMarks,
     marks: &[Vec<bool>],
-    path: &[Move],
     step: Step,
     last: Move,
     moves: &mut Vec<Move>,
 ) -> Result<Followed, AllocError>
-    requires path { IsPath (arc_value history.old.steps.script) (path.now ++ first_half step) history.old }
+    ghost path: { List Move }
+    requires path { IsPath (arc_value history.old.steps.script) (path ++ first_half step) history.old }
     requires told { AreTold (arc_value history.old.steps.script) away.now }
     requires marked { HaveSilentMarks (arc_value history.old.steps.script) marks.now }
     requires hold { StartsHold (arc_value history.old.steps.script) }
-    ensures broken { IfOk result (λ f. f ≡ Followed.Broken → IsBrokenAfter (arc_value history.old.steps.script) ((path.now ++ first_half step) ++ last ∷ [])) }
-    ensures ahead { IfOk result (λ f. WasDone f → IsFollowedAhead (arc_value history.old.steps.script) (path.now ++ first_half step) last history.new f moves.old.items moves.new.items) }
+    ensures broken { IfOk result (λ f. f ≡ Followed.Broken → IsBrokenAfter (arc_value history.old.steps.script) ((path ++ first_half step) ++ last ∷ [])) }
+    ensures ahead { IfOk result (λ f. WasDone f → IsFollowedAhead (arc_value history.old.steps.script) (path ++ first_half step) last history.new f moves.old.items moves.new.items) }
 {
-    let done = follow_last(history, path, step, last)?;
+    let done = follow_last(history, step, last)?;
     if let Followed::No = done {
         return Ok(Followed::No);
     }
@@ -262,20 +259,40 @@ struct Ahead {
     has_room: bool,
 }
 
-// What comes after these steps, which were followed. Nothing where that is not known.
+// What is known of the end of the history at this place. The steps to it are written where each task has ended.
+fn end_at(history: &SearchedHistory, nodes: &Nodes, place: usize) -> Result<End, AllocError>
+    ghost path: { List Move }
+    requires path { IsPath (arc_value history.now.steps.script) path history.now }
+    requires at { slice_get (paths_of nodes.now) place ≡ Some path }
+    requires on { GoOn nodes.now }
+    ensures reached { IfOk result (IfReached (IsOutcomeOf (arc_value history.now.steps.script))) }
+    ensures known { IfOk result (λ known. (blocks : List Block) → IsHistory (arc_value history.now.steps.script) blocks history.now → IsKnownEnd (arc_value history.now.steps.script) blocks known) }
+{
+    if history.some_goes_on() {
+        return Ok(End::NotYet);
+    }
+    let path = path_to(history.steps.alloc, nodes, place)?;
+    history.outcome(&path)
+}
+
+// What comes after the history at this place. Nothing where that is not known.
 fn look_ahead(
     history: &SearchedHistory,
     away: &AwayMarks,
-    path: &[Move],
+    nodes: &Nodes,
+    place: usize,
 ) -> Result<Option<Ahead>, AllocError>
-    requires path { IsPath (arc_value history.now.steps.script) path.now history.now }
+    ghost path: { List Move }
+    requires path { IsPath (arc_value history.now.steps.script) path history.now }
     requires told { AreTold (arc_value history.now.steps.script) away.now }
-    ensures { IfOk result (λ o. IfSome o (λ ahead. IsAhead (arc_value history.now.steps.script) path.now ahead)) }
+    requires at { slice_get (paths_of nodes.now) place ≡ Some path }
+    requires on { GoOn nodes.now }
+    ensures { IfOk result (λ o. IfSome o (λ ahead. IsAhead (arc_value history.now.steps.script) path ahead)) }
 {
     let Some(steps) = history.next_fused(away)? else {
         return Ok(None);
     };
-    let end = history.outcome(path)?;
+    let end = end_at(history, nodes, place)?;
     let has_room = history.has_room();
     Ok(Some(Ahead {
         steps,
@@ -360,16 +377,20 @@ impl Search {
         put_history(&mut self.histories, place, kept)
     }
 
-    // Writes the first turn that breaks an invariant: what a step does last after these.
-    fn note_broken(&mut self, path: &[Move], step: Step, last: Move) -> Result<(), AllocError>
-        requires broken { IsBrokenAfter (arc_value self.old.script) ((path.now ++ first_half step) ++ last ∷ []) }
+    // Writes the first turn that breaks an invariant: what a step does last after the history at this place.
+    fn note_broken(&mut self, place: usize, step: Step, last: Move) -> Result<(), AllocError>
+        ghost path: { List Move }
+        requires broken { IsBrokenAfter (arc_value self.old.script) ((path ++ first_half step) ++ last ∷ []) }
         requires before { IfSome self.old.broken (λ schedule. IsBrokenAfter (arc_value self.old.script) schedule.items) }
+        requires at { slice_get (paths_of self.old.nodes) place ≡ Some path }
+        requires on { GoOn self.old.nodes }
         ensures rest { self.new ≡ record self.old { broken = self.new.broken } }
         ensures noted { OnOk result (is_some self.new.broken ≡ true) }
         ensures broken { OnOk result (IfSome self.new.broken (λ schedule. IsBrokenAfter (arc_value self.old.script) schedule.items)) }
     {
         if self.broken.is_none() {
-            self.broken = Some(with_step(self.alloc, path, step, last)?);
+            let path = path_to(self.alloc, &self.nodes, place)?;
+            self.broken = Some(with_step(self.alloc, &path, step, last)?);
         }
         Ok(())
     }
@@ -379,25 +400,25 @@ impl Search {
     fn try_last(
         &mut self,
         history: SearchedHistory,
-        path: &[Move],
         step: Step,
         last: Move,
         before: usize,
         mut moves: Vec<Move>,
     ) -> Result<(), AllocError>
+        ghost path: { List Move }
         requires sound { IsSound (arc_value self.old.script) self.old }
-        requires followed { IsPath (arc_value self.old.script) (path.now ++ first_half step) history }
-        requires path { GoesFrom (paths_of self.old.nodes) before moves.items ((path.now ++ first_half step) ++ last ∷ []) }
+        requires followed { IsPath (arc_value self.old.script) (path ++ first_half step) history }
+        requires path { GoesFrom (paths_of self.old.nodes) before moves.items ((path ++ first_half step) ++ last ∷ []) }
+        requires at { slice_get (paths_of self.old.nodes) before ≡ Some path }
         ensures grown { OnOk result (HasGrown self.old self.new) }
         ensures sound { OnOk result (IsSound (arc_value self.old.script) self.new) }
-        ensures tried { OnOk result (IsTrue self.new.is_complete → WasTriedLast (arc_value self.old.script) self.new (path.now ++ first_half step) last) }
+        ensures tried { OnOk result (IsTrue self.new.is_complete → WasTriedLast (arc_value self.old.script) self.new (path ++ first_half step) last) }
     {
         let mut next = history;
         match follow_ahead(
             &mut next,
             &self.away,
             &self.marks,
-            path,
             step,
             last,
             &mut moves,
@@ -414,7 +435,7 @@ impl Search {
             Ok(Followed::Yes) => self.keep(next, before, moves),
             Ok(Followed::Broken) => {
                 self.keep(next, before, moves)?;
-                self.note_broken(path, step, last)
+                self.note_broken(before, step, last)
             }
         }
     }
@@ -423,26 +444,26 @@ impl Search {
     fn try_step(
         &mut self,
         history: KeptHistory,
-        path: &[Move],
         before: usize,
         step: Step,
     ) -> Result<(), AllocError>
+        ghost path: { List Move }
         requires sound { IsSound (arc_value self.old.script) self.old }
-        requires followed { IsPath (arc_value self.old.script) path.now history.history }
-        requires path { slice_get (paths_of self.old.nodes) before ≡ Some path.now }
+        requires followed { IsPath (arc_value self.old.script) path history.history }
+        requires path { slice_get (paths_of self.old.nodes) before ≡ Some path }
         ensures grown { OnOk result (HasGrown self.old self.new) }
         ensures sound { OnOk result (IsSound (arc_value self.old.script) self.new) }
-        ensures tried { OnOk result (IsTrue self.new.is_complete → StepWasTried (arc_value self.old.script) self.new path.now step) }
+        ensures tried { OnOk result (IsTrue self.new.is_complete → StepWasTried (arc_value self.old.script) self.new path step) }
     {
         let last = step.last();
         let mut moves = Vec::new(self.alloc);
         step.put_first(&mut moves)?;
         moves.push(last)?;
-        let Some(next) = first_followed(history.into_history(), path, step)? else {
+        let Some(next) = first_followed(history.into_history(), step)? else {
             self.is_complete = false;
             return Ok(());
         };
-        self.try_last(next, path, step, last, before, moves)
+        self.try_last(next, step, last, before, moves)
     }
 
     // Writes an outcome, where it is a new one.
@@ -492,20 +513,20 @@ impl Search {
     fn try_each(
         &mut self,
         history: &SearchedHistory,
-        path: &[Move],
         place: usize,
         steps: &[Step],
     ) -> Result<(), AllocError>
+        ghost path: { List Move }
         requires sound { IsSound (arc_value self.old.script) self.old }
-        requires followed { IsPath (arc_value self.old.script) path.now history.now }
-        requires path { slice_get (paths_of self.old.nodes) place ≡ Some path.now }
+        requires followed { IsPath (arc_value self.old.script) path history.now }
+        requires path { slice_get (paths_of self.old.nodes) place ≡ Some path }
         ensures grown { OnOk result (HasGrown self.old self.new) }
         ensures sound { OnOk result (IsSound (arc_value self.old.script) self.new) }
-        ensures tried { OnOk result (IsTrue self.new.is_complete → All (StepWasTried (arc_value self.old.script) self.new path.now) steps.now) }
+        ensures tried { OnOk result (IsTrue self.new.is_complete → All (StepWasTried (arc_value self.old.script) self.new path) steps.now) }
     {
         for step in steps {
             let again = history.copy()?;
-            self.try_step(KeptHistory { history: again }, path, place, *step)?;
+            self.try_step(KeptHistory { history: again }, place, *step)?;
         }
         Ok(())
     }
@@ -514,23 +535,23 @@ impl Search {
     fn try_all(
         &mut self,
         history: KeptHistory,
-        path: &[Move],
         place: usize,
         steps: &[Step],
     ) -> Result<(), AllocError>
+        ghost path: { List Move }
         requires sound { IsSound (arc_value self.old.script) self.old }
-        requires followed { IsPath (arc_value self.old.script) path.now history.history }
-        requires path { slice_get (paths_of self.old.nodes) place ≡ Some path.now }
+        requires followed { IsPath (arc_value self.old.script) path history.history }
+        requires path { slice_get (paths_of self.old.nodes) place ≡ Some path }
         ensures grown { OnOk result (HasGrown self.old self.new) }
         ensures sound { OnOk result (IsSound (arc_value self.old.script) self.new) }
-        ensures tried { OnOk result (IsTrue self.new.is_complete → All (StepWasTried (arc_value self.old.script) self.new path.now) steps.now) }
+        ensures tried { OnOk result (IsTrue self.new.is_complete → All (StepWasTried (arc_value self.old.script) self.new path) steps.now) }
     {
         let Some(parts) = steps.split_last() else {
             return Ok(());
         };
         let (last, front) = parts;
-        self.try_each(&history.history, path, place, front)?;
-        self.try_step(history, path, place, *last)?;
+        self.try_each(&history.history, place, front)?;
+        self.try_step(history, place, *last)?;
         Ok(())
     }
 
@@ -552,14 +573,14 @@ impl Search {
     fn go_on(
         &mut self,
         history: KeptHistory,
-        path: &[Move],
         place: usize,
         ahead: Ahead,
     ) -> Result<(), AllocError>
+        ghost path: { List Move }
         requires sound { IsSound (arc_value self.old.script) self.old }
-        requires followed { IsPath (arc_value self.old.script) path.now history.history }
-        requires path { slice_get (paths_of self.old.nodes) place ≡ Some path.now }
-        requires ahead { IsAhead (arc_value self.old.script) path.now ahead }
+        requires followed { IsPath (arc_value self.old.script) path history.history }
+        requires path { slice_get (paths_of self.old.nodes) place ≡ Some path }
+        requires ahead { IsAhead (arc_value self.old.script) path ahead }
         ensures grown { OnOk result (HasGrown self.old self.new) }
         ensures sound { OnOk result (IsSound (arc_value self.old.script) self.new) }
         ensures expanded { OnOk result (IsTrue self.new.is_complete → IsExpandedAt (arc_value self.old.script) self.new place) }
@@ -571,24 +592,23 @@ impl Search {
         } = ahead;
         self.note_room(has_room);
         self.note(end)?;
-        self.try_all(history, path, place, &steps)
+        self.try_all(history, place, &steps)
     }
 
-    // The history to which these steps lead: the one that was kept at this place, or else one that follows them.
-    pub(crate) fn history_at(
-        &mut self,
-        place: usize,
-        path: &[Move],
-    ) -> Result<Option<SearchedHistory>, AllocError>
+    // The history at a place: the one that was kept there, or else one that follows the steps to it.
+    pub(crate) fn history_at(&mut self, place: usize) -> Result<Option<SearchedHistory>, AllocError>
         requires sound { IsSound (arc_value self.old.script) self.old }
-        requires path { slice_get (paths_of self.old.nodes) place ≡ Some path.now }
+        requires there { place < length self.old.nodes }
         ensures rest { self.new ≡ record self.old { histories = self.new.histories } }
         ensures sound { IsSound (arc_value self.old.script) self.new }
-        ensures history { IfOk result (λ o. IfSome o (IsPath (arc_value self.old.script) path.now)) }
+        ensures history { IfOk result (λ o. IfSome o (IsHistoryAt (arc_value self.old.script) (paths_of self.old.nodes) place)) }
     {
         match take_history(&mut self.histories, place) {
             Some(history) => Ok(Some(history)),
-            None => followed(self.alloc, &self.script, path),
+            None => {
+                let path = path_to(self.alloc, &self.nodes, place)?;
+                followed(self.alloc, &self.script, &path)
+            }
         }
     }
 
@@ -596,18 +616,18 @@ impl Search {
     fn go_on_from(
         &mut self,
         history: KeptHistory,
-        path: &[Move],
         place: usize,
     ) -> Result<(), AllocError>
+        ghost path: { List Move }
         requires sound { IsSound (arc_value self.old.script) self.old }
-        requires followed { IsPath (arc_value self.old.script) path.now history.history }
-        requires path { slice_get (paths_of self.old.nodes) place ≡ Some path.now }
+        requires followed { IsPath (arc_value self.old.script) path history.history }
+        requires path { slice_get (paths_of self.old.nodes) place ≡ Some path }
         ensures grown { OnOk result (HasGrown self.old self.new) }
         ensures sound { OnOk result (IsSound (arc_value self.old.script) self.new) }
         ensures expanded { OnOk result (IsTrue self.new.is_complete → IsExpandedAt (arc_value self.old.script) self.new place) }
     {
-        match look_ahead(&history.history, &self.away, path)? {
-            Some(ahead) => self.go_on(history, path, place, ahead),
+        match look_ahead(&history.history, &self.away, &self.nodes, place)? {
+            Some(ahead) => self.go_on(history, place, ahead),
             None => {
                 self.is_complete = false;
                 Ok(())
@@ -623,12 +643,11 @@ impl Search {
         ensures sound { OnOk result (IsSound (arc_value self.old.script) self.new) }
         ensures expanded { OnOk result (IsTrue self.new.is_complete → IsExpandedAt (arc_value self.old.script) self.new place) }
     {
-        let path = path_to(self.alloc, &self.nodes, place)?;
-        let Some(history) = self.history_at(place, &path)? else {
+        let Some(history) = self.history_at(place)? else {
             self.is_complete = false;
             return Ok(());
         };
-        self.go_on_from(KeptHistory { history }, &path, place)
+        self.go_on_from(KeptHistory { history }, place)
     }
 
     // Goes on from the history at a place and from those after it, from `more` at most, up to one from which a history is left out since as

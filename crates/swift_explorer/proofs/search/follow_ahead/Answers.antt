@@ -4,7 +4,7 @@ use Rattle.swift_explorer.proofs.RunningAhead.{followed_ahead}
 use Rattle.swift_explorer.proofs.search.follow_ahead.Goals as goal
 
 pub run_ahead-requires : goal.run_ahead-requires
-run_ahead-requires c =
+run_ahead-requires g c =
     let y = c.follow_last.new.history in
     let script = arc_value c.args.history.now.steps.script in
     let done = was_done c.in_ok-done.done c.in_default.not-No in
@@ -13,13 +13,13 @@ run_ahead-requires c =
     let own : script ≡ arc_value y.steps.script = sym f.is.followed.script_is in
     record {
       history = path_some script _ y f.is.followed.script_is p;
-      told = subst (λ (s : ScriptView). AreTold s c.args.away.now) own c.requires.told;
-      marked = subst (λ (s : ScriptView). HaveSilentMarks s c.args.marks.now) own c.requires.marked;
-      hold = subst StartsHold own c.requires.hold;
+      told = subst (λ (s : ScriptView). AreTold s c.args.away.now) own c.requires.1;
+      marked = subst (λ (s : ScriptView). HaveSilentMarks s c.args.marks.now) own c.requires.2;
+      hold = subst StartsHold own c.requires.3;
     }
 
 pub returns : goal.returns
-returns c =
+returns g c =
     let script = arc_value c.args.history.now.steps.script in
     let y = c.follow_last.new.history in
     let z = c.run_ahead.new.self in
@@ -28,5 +28,5 @@ returns c =
     let more = was_done c.in_ok-run_ahead.field-0 c.in_default-2.not-No in
     record {
       broken = c.in_ok-done.ensures.broken;
-      ahead = λ _. followed_ahead script (c.args.path.now ++ first_half c.args.step) c.args.last y z f c.args.moves.now.items c.run_ahead.new.moves.items (c.in_ok-done.ensures.last done) (c.in_ok-done.ensures.path done) (c.in_ok-run_ahead.ensures more);
+      ahead = λ _. followed_ahead script (g.path ++ first_half c.args.step) c.args.last y z f c.args.moves.now.items c.run_ahead.new.moves.items (c.in_ok-done.ensures.last done) (c.in_ok-done.ensures.path done) (c.in_ok-run_ahead.ensures more);
     }

@@ -5,9 +5,9 @@ use Rattle.swift_explorer.proofs.Trying.{followed_by}
 use Rattle.swift_explorer.proofs.search.follow_last.Goals as goal
 
 pub returns : goal.returns
-returns c =
+returns g c =
     let script = arc_value c.args.history.now.steps.script in
-    let path = c.args.path.now ++ first_half c.args.step in
+    let path = g.path ++ first_half c.args.step in
     let m = c.args.last in
     let x = c.args.history.now in
     let y = c.step.new.self in
@@ -19,4 +19,4 @@ returns c =
     }
 
 pub step-requires : goal.step-requires
-step-requires c = path_some (arc_value c.args.history.now.steps.script) (c.args.path.now ++ first_half c.args.step) c.args.history.now refl c.requires
+step-requires g c = path_some (arc_value c.args.history.now.steps.script) (g.path ++ first_half c.args.step) c.args.history.now refl c.requires

@@ -3,23 +3,23 @@ use Rattle.swift_explorer.proofs.Growing.{grown_on, step_grown}
 use Rattle.swift_explorer.proofs.search.Search.try_all.Goals as goal
 
 pub try_step-requires : goal.try_step-requires
-try_step-requires c =
+try_step-requires g c =
     let x = c.args.self.now in
     let y = c.try_each.new.self in
     let each = c.in_ok-try_each.ensures in
     let own = sym (ap arc_value each.grown.script) in
     record {
       sound = subst (λ (sc : ScriptView). IsSound sc y) own each.sound;
-      followed = subst (λ (sc : ScriptView). IsPath sc c.args.path.now c.args.history.history) own c.requires.followed;
-      path = each.grown.paths c.args.place c.args.path.now c.requires.path;
+      followed = subst (λ (sc : ScriptView). IsPath sc g.path c.args.history.history) own c.requires.1;
+      path = each.grown.paths c.args.place g.path c.requires.2;
     }
 
 pub returns : goal.returns
-returns c =
+returns g c =
     let x = c.args.self.now in
     let y = c.try_each.new.self in
     let z = c.try_step.new.self in
-    let path = c.args.path.now in
+    let path = g.path in
     let script = arc_value x.script in
     let each = c.in_ok-try_each.ensures in
     let made = c.in_ok-try_step.ensures in

@@ -4,28 +4,28 @@ use Rattle.swift_explorer.proofs.Growing.{grown_none, grown_on, step_grown}
 use Rattle.swift_explorer.proofs.search.Search.try_each.Goals as goal
 
 pub loop-step-init : goal.loop-step-init
-loop-step-init c =
+loop-step-init g c =
     let x = c.args.self.now in
-    record { grown = grown_none x; sound = c.requires.sound; tried = λ _. All-nil (StepWasTried (arc_value x.script) x c.args.path.now) }
+    record { grown = grown_none x; sound = c.requires.0; tried = λ _. All-nil (StepWasTried (arc_value x.script) x g.path) }
 
 pub try_step-requires : goal.try_step-requires
-try_step-requires c =
+try_step-requires g c =
     let x = c.args.self.now in
     let s = c.loop-step.self in
     let old = c.loop-step.invariant in
     let own = sym (ap arc_value old.grown.script) in
     record {
       sound = subst (λ (sc : ScriptView). IsSound sc s) own old.sound;
-      followed = subst (λ (sc : ScriptView). IsPath sc c.args.path.now c.in_ok-again.again) own (path_copied (arc_value x.script) c.args.path.now c.args.history.now c.in_ok-again.again c.in_ok-again.ensures c.requires.followed);
-      path = old.grown.paths c.args.place c.args.path.now c.requires.path;
+      followed = subst (λ (sc : ScriptView). IsPath sc g.path c.in_ok-again.again) own (path_copied (arc_value x.script) g.path c.args.history.now c.in_ok-again.again c.in_ok-again.ensures c.requires.1);
+      path = old.grown.paths c.args.place g.path c.requires.2;
     }
 
 pub loop-step-preserved : goal.loop-step-preserved
-loop-step-preserved c =
+loop-step-preserved g c =
     let x = c.args.self.now in
     let s = c.loop-step.self in
     let z = c.try_step.new.self in
-    let path = c.args.path.now in
+    let path = g.path in
     let steps = c.args.steps.now in
     let k = c.loop-step.step-index in
     let m = slice_index_or steps k (One Add) in
@@ -43,10 +43,10 @@ loop-step-preserved c =
     }
 
 pub returns : goal.returns
-returns c =
+returns g c =
     let old = c.loop-step.invariant in
     record {
       grown = old.grown;
       sound = old.sound;
-      tried = λ is. subst (All (StepWasTried (arc_value c.args.self.now.script) c.loop-step.self c.args.path.now)) (take_all c.loop-step.step-index c.args.steps.now (omega (arith, c.loop-step-test.false))) (old.tried is);
+      tried = λ is. subst (All (StepWasTried (arc_value c.args.self.now.script) c.loop-step.self g.path)) (take_all c.loop-step.step-index c.args.steps.now (omega (arith, c.loop-step-test.false))) (old.tried is);
     }
