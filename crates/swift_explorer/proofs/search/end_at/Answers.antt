@@ -11,4 +11,4 @@ returns-then-some_goes_on-clause-known g c = λ blocks h report of.
     not_yet (arc_value x.steps.script) blocks log h.followed.led.log_is report of (subst (λ (s : ScriptView). SomeGoesOn log (tasks_of (root_count s) log)) h.followed.book_is goes))
 
 pub path_to-requires-clause-there : goal.path_to-requires-clause-there
-path_to-requires-clause-there g c = path_inside c.args.nodes.now c.args.place g.path c.requires.1
+path_to-requires-clause-there g c = path_inside c.args.nodes.now c.args.place g.path c.requires.1.0

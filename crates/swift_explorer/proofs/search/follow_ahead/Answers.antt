@@ -13,9 +13,9 @@ run_ahead-requires g c =
     let own : script ≡ arc_value y.steps.script = sym f.is.followed.script_is in
     record {
       history = path_some script _ y f.is.followed.script_is p;
-      told = subst (λ (s : ScriptView). AreTold s c.args.away.now) own c.requires.1;
-      marked = subst (λ (s : ScriptView). HaveSilentMarks s c.args.marks.now) own c.requires.2;
-      hold = subst StartsHold own c.requires.3;
+      told = subst (λ (s : ScriptView). AreTold s c.args.away.now) own c.requires.1.0;
+      marked = subst (λ (s : ScriptView). HaveSilentMarks s c.args.marks.now) own c.requires.1.1.0;
+      hold = subst StartsHold own c.requires.1.1.1;
     }
 
 pub returns : goal.returns

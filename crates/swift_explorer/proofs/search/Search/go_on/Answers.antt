@@ -5,14 +5,14 @@ use Rattle.swift_explorer.proofs.Trying.{expanded}
 use Rattle.swift_explorer.proofs.search.Search.go_on.Goals as goal
 
 pub note_room-requires : goal.note_room-requires
-note_room-requires g c = record { sound = c.requires.0; short = c.requires.3.short }
+note_room-requires g c = record { sound = c.requires.0; short = c.requires.1.1.1.short }
 
 pub note-requires : goal.note-requires
 note-requires g c =
     let y = c.note_room.new.self in
     let room = c.note_room.ensures in
     let own = sym (ap arc_value room.grown.script) in
-    record { end = subst (λ (s : ScriptView). IfReached (IsOutcomeOf s) c.args.ahead.end) own c.requires.3.outcome; sound = subst (λ (s : ScriptView). IsSound s y) own room.sound }
+    record { end = subst (λ (s : ScriptView). IfReached (IsOutcomeOf s) c.args.ahead.end) own c.requires.1.1.1.outcome; sound = subst (λ (s : ScriptView). IsSound s y) own room.sound }
 
 pub try_all-requires : goal.try_all-requires
 try_all-requires g c =
@@ -22,8 +22,8 @@ try_all-requires g c =
     let own : arc_value y.script ≡ arc_value c.args.self.now.script = ap arc_value note.grown.script ∙ ap arc_value room.grown.script in
     record {
       sound = subst (λ (s : ScriptView). IsSound s y) (sym (ap arc_value note.grown.script)) note.sound;
-      followed = subst (λ (s : ScriptView). IsPath s g.path c.args.history.history) (sym own) c.requires.1;
-      path = note.grown.paths c.args.place g.path (room.grown.paths c.args.place g.path c.requires.2);
+      followed = subst (λ (s : ScriptView). IsPath s g.path c.args.history.history) (sym own) c.requires.1.0;
+      path = note.grown.paths c.args.place g.path (room.grown.paths c.args.place g.path c.requires.1.1.0);
     }
 
 pub returns : goal.returns
@@ -46,8 +46,8 @@ returns g c =
       sound = on_ok_weaker c.try_all.result (λ sound. subst (λ (s : ScriptView). IsSound s z) own sound) made.sound;
       expanded = on_ok_both c.try_all.result (λ grown tried is. (
         path,
-        grown.paths c.args.place path (both.paths c.args.place path c.requires.2),
-        expanded script z path ahead c.requires.3 (subst (λ (s : ScriptView). All (StepWasTried s z path) ahead.steps.items) own (subst (All (StepWasTried (arc_value y.script) z path)) c.deref.ensures.value (tried is))) (λ blocks known report of.
+        grown.paths c.args.place path (both.paths c.args.place path c.requires.1.1.0),
+        expanded script z path ahead c.requires.1.1.1 (subst (λ (s : ScriptView). All (StepWasTried s z path) ahead.steps.items) own (subst (All (StepWasTried (arc_value y.script) z path)) c.deref.ensures.value (tried is))) (λ blocks known report of.
             (let o = note.noted (grown.complete is) blocks (subst (λ (s : ScriptView). IsKnownEnd s blocks ahead.end) (sym first) known) report (subst (λ (s : ScriptView). IsReportAfter s blocks report) (sym first) of) in (o.0, grown.outcomes o.0 o.1, o.2)))
             (room.room (note.grown.complete (grown.complete is))),
       )) made.grown made.tried;

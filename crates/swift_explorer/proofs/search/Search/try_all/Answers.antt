@@ -10,8 +10,8 @@ try_step-requires g c =
     let own = sym (ap arc_value each.grown.script) in
     record {
       sound = subst (λ (sc : ScriptView). IsSound sc y) own each.sound;
-      followed = subst (λ (sc : ScriptView). IsPath sc g.path c.args.history.history) own c.requires.1;
-      path = each.grown.paths c.args.place g.path c.requires.2;
+      followed = subst (λ (sc : ScriptView). IsPath sc g.path c.args.history.history) own c.requires.1.0;
+      path = each.grown.paths c.args.place g.path c.requires.1.1;
     }
 
 pub returns : goal.returns

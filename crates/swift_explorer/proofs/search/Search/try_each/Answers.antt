@@ -16,8 +16,8 @@ try_step-requires g c =
     let own = sym (ap arc_value old.grown.script) in
     record {
       sound = subst (λ (sc : ScriptView). IsSound sc s) own old.sound;
-      followed = subst (λ (sc : ScriptView). IsPath sc g.path c.in_ok-again.again) own (path_copied (arc_value x.script) g.path c.args.history.now c.in_ok-again.again c.in_ok-again.ensures c.requires.1);
-      path = old.grown.paths c.args.place g.path c.requires.2;
+      followed = subst (λ (sc : ScriptView). IsPath sc g.path c.in_ok-again.again) own (path_copied (arc_value x.script) g.path c.args.history.now c.in_ok-again.again c.in_ok-again.ensures c.requires.1.0);
+      path = old.grown.paths c.args.place g.path c.requires.1.1;
     }
 
 pub loop-step-preserved : goal.loop-step-preserved

@@ -13,8 +13,8 @@ keep-requires-in-Ok-Broken-clause-path g c =
     let script = arc_value x.script in
     let f = c.in-Ok-Broken.field-0 in
     let done : WasDone f = subst WasDone (sym c.in-Ok-Broken.field-0-is) tt in
-    let by = subst (λ (s : ScriptView). IsFollowedAhead s (g.path ++ first_half c.args.step) c.args.last h f c.args.moves.items c.follow_ahead.new.moves.items) c.requires.1.is.followed.script_is (c.in-Ok-Broken.ensures.ahead done) in
-    kept_path script x h (g.path ++ first_half c.args.step) c.args.last c.args.before c.args.moves.items c.follow_ahead.new.moves.items f c.requires.2 by
+    let by = subst (λ (s : ScriptView). IsFollowedAhead s (g.path ++ first_half c.args.step) c.args.last h f c.args.moves.items c.follow_ahead.new.moves.items) c.requires.1.0.is.followed.script_is (c.in-Ok-Broken.ensures.ahead done) in
+    kept_path script x h (g.path ++ first_half c.args.step) c.args.last c.args.before c.args.moves.items c.follow_ahead.new.moves.items f c.requires.1.1.0 by
 
 pub keep-requires-clause-path : goal.keep-requires-clause-path
 keep-requires-clause-path g c =
@@ -23,14 +23,14 @@ keep-requires-clause-path g c =
     let script = arc_value x.script in
     let f = c.in-Ok-Yes.field-0 in
     let done : WasDone f = subst WasDone (sym c.in-Ok-Yes.field-0-is) tt in
-    let by = subst (λ (s : ScriptView). IsFollowedAhead s (g.path ++ first_half c.args.step) c.args.last h f c.args.moves.items c.follow_ahead.new.moves.items) c.requires.1.is.followed.script_is (c.in-Ok-Yes.ensures.ahead done) in
-    kept_path script x h (g.path ++ first_half c.args.step) c.args.last c.args.before c.args.moves.items c.follow_ahead.new.moves.items f c.requires.2 by
+    let by = subst (λ (s : ScriptView). IsFollowedAhead s (g.path ++ first_half c.args.step) c.args.last h f c.args.moves.items c.follow_ahead.new.moves.items) c.requires.1.0.is.followed.script_is (c.in-Ok-Yes.ensures.ahead done) in
+    kept_path script x h (g.path ++ first_half c.args.step) c.args.last c.args.before c.args.moves.items c.follow_ahead.new.moves.items f c.requires.1.1.0 by
 
 pub keep-requires-clause-before : goal.keep-requires-clause-before
-keep-requires-clause-before g c = may_on (paths_of c.args.self.now.nodes) c.args.before c.requires.2.0 c.requires.2.1
+keep-requires-clause-before g c = may_on (paths_of c.args.self.now.nodes) c.args.before c.requires.1.1.0.0 c.requires.1.1.0.1
 
 pub keep-requires-in-Ok-Broken-clause-before : goal.keep-requires-in-Ok-Broken-clause-before
-keep-requires-in-Ok-Broken-clause-before g c = may_on (paths_of c.args.self.now.nodes) c.args.before c.requires.2.0 c.requires.2.1
+keep-requires-in-Ok-Broken-clause-before g c = may_on (paths_of c.args.self.now.nodes) c.args.before c.requires.1.1.0.0 c.requires.1.1.0.1
 
 pub returns-in-Ok-No-clause-grown : goal.returns-in-Ok-No-clause-grown
 returns-in-Ok-No-clause-grown g c = (keeps_none c.args.self.now c.follow_ahead.new.history c.requires.0).grown
@@ -53,7 +53,7 @@ returns-in-Ok-Yes-clause-tried g c =
     let path = g.path ++ first_half c.args.step in
     let f = c.in-Ok-Yes.field-0 in
     let done : WasDone f = subst WasDone (sym c.in-Ok-Yes.field-0-is) tt in
-    let by = subst (λ (s : ScriptView). IsFollowedAhead s path c.args.last h f c.args.moves.items c.follow_ahead.new.moves.items) c.requires.1.is.followed.script_is (c.in-Ok-Yes.ensures.ahead done) in
+    let by = subst (λ (s : ScriptView). IsFollowedAhead s path c.args.last h f c.args.moves.items c.follow_ahead.new.moves.items) c.requires.1.0.is.followed.script_is (c.in-Ok-Yes.ensures.ahead done) in
     on_ok_weaker c.keep.result (λ keeps is. step_tried script z path c.args.last h f c.args.moves.items c.follow_ahead.new.moves.items by (keeps.kept is) (λ _. c.in-Ok-Yes.field-0-is)) c.keep.ensures.keeps
 
 pub returns-in_ok-keep-in-Ok-Broken-clause-grown : goal.returns-in_ok-keep-in-Ok-Broken-clause-grown
@@ -86,7 +86,7 @@ returns-in_ok-keep-in-Ok-Broken-clause-tried g c =
     let path = g.path ++ first_half c.args.step in
     let f = c.in-Ok-Broken.field-0 in
     let done : WasDone f = subst WasDone (sym c.in-Ok-Broken.field-0-is) tt in
-    let by = subst (λ (sc : ScriptView). IsFollowedAhead sc path c.args.last h f c.args.moves.items c.follow_ahead.new.moves.items) c.requires.1.is.followed.script_is (c.in-Ok-Broken.ensures.ahead done) in
+    let by = subst (λ (sc : ScriptView). IsFollowedAhead sc path c.args.last h f c.args.moves.items c.follow_ahead.new.moves.items) c.requires.1.0.is.followed.script_is (c.in-Ok-Broken.ensures.ahead done) in
     let keeps = c.in_ok-keep-in-Ok-Broken.ensures.keeps in
     on_ok_weaker c.note_broken.result (λ some is.
     (let grown = subst (HasGrown s) (sym c.note_broken.ensures.rest) (grown_breaks s z.broken some) in
@@ -97,7 +97,7 @@ pub note_broken-requires-clause-broken : goal.note_broken-requires-clause-broken
 note_broken-requires-clause-broken g c =
     let steps = (g.path ++ first_half c.args.step) ++ c.args.last ∷ [] in
     let own : arc_value c.keep-in-Ok-Broken.new.self.script ≡ arc_value c.args.self.now.script = ap arc_value c.in_ok-keep-in-Ok-Broken.ensures.keeps.grown.script in
-    subst (λ (s : ScriptView). IsBrokenAfter s steps) (sym own) (subst (λ (s : ScriptView). IsBrokenAfter s steps) c.requires.1.is.followed.script_is (c.in-Ok-Broken.ensures.broken c.in-Ok-Broken.field-0-is))
+    subst (λ (s : ScriptView). IsBrokenAfter s steps) (sym own) (subst (λ (s : ScriptView). IsBrokenAfter s steps) c.requires.1.0.is.followed.script_is (c.in-Ok-Broken.ensures.broken c.in-Ok-Broken.field-0-is))
 
 pub note_broken-requires-clause-before : goal.note_broken-requires-clause-before
 note_broken-requires-clause-before g c =
@@ -110,10 +110,10 @@ pub follow_ahead-requires : goal.follow_ahead-requires
 follow_ahead-requires g c =
     let x = c.args.self.now in
     let script = arc_value c.args.history.steps.script in
-    let own = sym c.requires.1.is.followed.script_is in
+    let own = sym c.requires.1.0.is.followed.script_is in
     let sound = c.requires.0 in
     record {
-      path = subst (λ (s : ScriptView). IsPath s (g.path ++ first_half c.args.step) c.args.history) own c.requires.1;
+      path = subst (λ (s : ScriptView). IsPath s (g.path ++ first_half c.args.step) c.args.history) own c.requires.1.0;
       told = subst (λ (s : ScriptView). AreTold s x.away) own sound.told;
       marked = subst (HaveSilentMarks script) (sym c.deref.ensures.value) (subst (λ (s : ScriptView). HaveSilentMarks s x.marks.items) own sound.marked);
       hold = subst StartsHold own sound.hold;

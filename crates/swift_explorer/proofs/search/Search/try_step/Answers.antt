@@ -10,14 +10,14 @@ try_last-requires g c =
     let led : IsPath (arc_value c.args.history.history.steps.script) (path ++ first) c.in-Some.next = subst (λ (h : SearchedHistory). IsPath (arc_value h.steps.script) (path ++ first) c.in-Some.next) c.into_history.ensures (search rules) in
     record {
       sound = c.requires.0;
-      followed = subst (λ (s : ScriptView). IsPath s (path ++ first) c.in-Some.next) c.requires.1.is.followed.script_is led;
-      path = (path, c.requires.2, ap (λ (ms : List Move). path ++ ms) moves ∙ sym (append_assoc path first (last ∷ [])));
+      followed = subst (λ (s : ScriptView). IsPath s (path ++ first) c.in-Some.next) c.requires.1.0.is.followed.script_is led;
+      path = (path, c.requires.1.1, ap (λ (ms : List Move). path ++ ms) moves ∙ sym (append_assoc path first (last ∷ [])));
     }
 
 pub first_followed-requires : goal.first_followed-requires
 first_followed-requires g c =
     let h = c.args.history.history in
-    subst (λ (x : SearchedHistory). IsPath (arc_value x.steps.script) g.path x) (sym c.into_history.ensures) (subst (λ (s : ScriptView). IsPath s g.path h) (sym c.requires.1.is.followed.script_is) c.requires.1)
+    subst (λ (x : SearchedHistory). IsPath (arc_value x.steps.script) g.path x) (sym c.into_history.ensures) (subst (λ (s : ScriptView). IsPath s g.path h) (sym c.requires.1.0.is.followed.script_is) c.requires.1.0)
 
 pub returns-clause-tried : goal.returns-clause-tried
 returns-clause-tried g c =
