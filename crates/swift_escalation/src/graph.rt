@@ -124,6 +124,16 @@ fn link(
     newest[from] = Some(place);
 }
 
+/// The same again, in the memory of another list.
+pub(crate) fn copy_over<T: Copy>(spare: Vec<T>, items: &[T]) -> Result<Vec<T>, AllocError>
+    ensures { IfOk result (λ copy. copy.items ≡ items.now) }
+{
+    let mut copy = spare;
+    copy.clear();
+    copy.extend_from_slice(items)?;
+    Ok(copy)
+}
+
 /// Tasks by place, each with its level, and edges between them that all lead up. In a clause it is the list of the
 /// levels, the list of the edges, and how many more calls find room.
 ///
@@ -166,17 +176,27 @@ impl Graph {
         }
     }
 
-    /// The same tasks and edges again, with room for no call.
-    pub(crate) fn copy(&self, alloc: Global) -> Result<Graph, AllocError>
+    /// The same tasks and edges again, in the memory of another graph, with room for no call.
+    pub(crate) fn copy_over(&self, spare: Graph) -> Result<Graph, AllocError>
         ensures { IfOk result (λ copy. copy ≡ record self.now { room = 0 }) }
     {
+        let Graph {
+            levels,
+            newest,
+            edges,
+            before,
+            mut raised,
+            room: _,
+        } = spare;
+        raised.clear();
+        raised.reserve(self.levels.len())?;
         let room = 0;
         Ok(Graph {
-            levels: Vec::from_slice(alloc, &self.levels)?,
-            newest: Vec::from_slice(alloc, &self.newest)?,
-            edges: Vec::from_slice(alloc, &self.edges)?,
-            before: Vec::from_slice(alloc, &self.before)?,
-            raised: Vec::with_capacity(alloc, self.levels.len())?,
+            levels: copy_over(levels, &self.levels)?,
+            newest: copy_over(newest, &self.newest)?,
+            edges: copy_over(edges, &self.edges)?,
+            before: copy_over(before, &self.before)?,
+            raised,
             room,
         })
     }

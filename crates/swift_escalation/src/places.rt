@@ -1,9 +1,11 @@
 //! The places of tasks, by the tasks' numbers.
 
 ghost use Rattle.std.specs.Prelude.{◌≡◌, ◌<◌, ℕ, ◌+◌, Some, IfOk, OnOk, nat_eq, if◌then◌else◌, vec_len};
+ghost use Rattle.std.specs.HashMap.{get};
 ghost use Rattle.swift_types.specs.declared.limits.TheConstants.{TASKS};
 ghost use Rattle.swift_escalation.specs.PlacesInside.{place_in, HasRoom};
 
+use crate::graph::copy_over;
 use std::alloc::{AllocError, Global};
 use std::collections::HashMap;
 use swift_types::limits::TASKS;
@@ -15,6 +17,21 @@ pub(crate) struct TaskPlaces {
     // As long as the greatest of these numbers that is known wants. Once room is made it has room for each of them.
     listed: Vec<Option<usize>>,
     mapped: HashMap<u32, usize>,
+}
+
+// The same places again, in the memory of others where there are none.
+fn copy_mapped(
+    spare: HashMap<u32, usize>,
+    mapped: &HashMap<u32, usize>,
+) -> Result<HashMap<u32, usize>, AllocError>
+    ensures { IfOk result (λ copy. (n : ℕ) → get nat_eq copy n ≡ get nat_eq mapped.now n) }
+{
+    if !mapped.is_empty() {
+        return mapped.clone();
+    }
+    let mut copy = spare;
+    copy.clear();
+    Ok(copy)
 }
 
 impl TaskPlaces {
@@ -29,13 +46,14 @@ impl TaskPlaces {
         }
     }
 
-    /// The same places again, with room for no call.
-    pub(crate) fn copy(&self, alloc: Global) -> Result<TaskPlaces, AllocError>
+    /// The same places again, in the memory of others, with room for no call.
+    pub(crate) fn copy_over(&self, spare: TaskPlaces) -> Result<TaskPlaces, AllocError>
         ensures { IfOk result (λ copy. (n : ℕ) → place_in copy n ≡ place_in self.now n) }
     {
+        let TaskPlaces { listed, mapped } = spare;
         Ok(TaskPlaces {
-            listed: Vec::from_slice(alloc, &self.listed)?,
-            mapped: self.mapped.clone()?,
+            listed: copy_over(listed, &self.listed)?,
+            mapped: copy_mapped(mapped, &self.mapped)?,
         })
     }
 

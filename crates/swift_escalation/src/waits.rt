@@ -2,7 +2,7 @@
 
 ghost use Rattle.std.specs.Prelude.{◌≡◌, ◌≢◌, ◌+◌, ◌-◌, ◌<◌, ◌≤◌, ◌↔◌, [], ◌∷◌, ◌++◌, max, IfOk, OnOk, OnErr, Ok, Err, IsSome, IfSome, IfNone};
 
-use crate::graph::Graph;
+use crate::graph::{Graph, copy_over};
 use crate::places::TaskPlaces;
 use std::alloc::{AllocError, Global};
 use std::fmt::{self, Display, Formatter, Write};
@@ -118,10 +118,23 @@ impl Waits {
     pub fn copy(&self, alloc: Global) -> Result<Waits, AllocError>
         ensures { IfOk result (λ copy. copy ≡ record self.now { reserved = 0 }) }
     {
+        self.copy_over(Waits::new(alloc))
+    }
+
+    /// The same events again, in the memory of others, with room for no call beside them (our own). Linear in the tasks and the events: a
+    /// copy of memory.
+    pub fn copy_over(&self, spare: Waits) -> Result<Waits, AllocError>
+        ensures { IfOk result (λ copy. copy ≡ record self.now { reserved = 0 }) }
+    {
+        let Waits {
+            events,
+            places,
+            graph,
+        } = spare;
         Ok(Waits {
-            events: Vec::from_slice(alloc, &self.events)?,
-            places: self.places.copy(alloc)?,
-            graph: self.graph.copy(alloc)?,
+            events: copy_over(events, &self.events)?,
+            places: self.places.copy_over(places)?,
+            graph: self.graph.copy_over(graph)?,
         })
     }
 

@@ -9,7 +9,7 @@ use crate::group::{
     mark_in, open_group,
 };
 use crate::queue::enqueue;
-use crate::room::{copy_marks, make_room_for_children, make_room_for_endings};
+use crate::room::{copy_marks, copy_over, make_room_for_children, make_room_for_endings};
 use std::alloc::{AllocError, Global};
 use std::collections::HashMap;
 use std::marker::Model;
@@ -90,14 +90,29 @@ impl Groups {
     pub fn copy(&self, alloc: Global) -> Result<Groups, AllocError>
         ensures { IfOk result (λ copy. copy ≡ record self.now { reserved = 0 }) }
     {
+        self.copy_over(Groups::new(alloc))
+    }
+
+    /// The same, in the memory of other groups (our own).
+    pub fn copy_over(&self, spare: Groups) -> Result<Groups, AllocError>
+        ensures { IfOk result (λ copy. copy ≡ record self.now { reserved = 0 }) }
+    {
+        let Groups {
+            groups,
+            children,
+            marks,
+            endings,
+            after,
+            room: _,
+        } = spare;
         let room = 0;
-        let mut endings = Vec::from_slice(alloc, &self.endings)?;
-        let mut after = Vec::from_slice(alloc, &self.after)?;
+        let mut endings = copy_over(endings, &self.endings)?;
+        let mut after = copy_over(after, &self.after)?;
         make_room_for_endings(self.children.len(), &mut endings, &mut after)?;
         Ok(Groups {
-            groups: Vec::from_slice(alloc, &self.groups)?,
-            children: Vec::from_slice(alloc, &self.children)?,
-            marks: copy_marks(&self.marks)?,
+            groups: copy_over(groups, &self.groups)?,
+            children: copy_over(children, &self.children)?,
+            marks: copy_marks(marks, &self.marks)?,
             endings,
             after,
             room,

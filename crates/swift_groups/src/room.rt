@@ -1,6 +1,6 @@
 //! Room for calls that are to find memory. What is kept stays as it was.
 
-ghost use Rattle.std.specs.Prelude.{◌≡◌, ℕ, ◌+◌, ◌-◌, ◌≤◌, vec_len, vec_capacity, IfOk, OnOk, ◌&&◌, nat_eq, ◌==◌};
+ghost use Rattle.std.specs.Prelude.{◌≡◌, ℕ, ◌+◌, ◌-◌, ◌≤◌, length, vec_len, vec_capacity, IfOk, OnOk, ◌&&◌, nat_eq, ◌==◌};
 ghost use Rattle.std.specs.HashMap.{get, spare};
 ghost use Rattle.swift_groups.specs.KeysInside.{same_key};
 
@@ -27,13 +27,30 @@ pub(crate) fn make_room_for_children(
     marks.reserve(calls)
 }
 
-/// The same marks again.
+/// The same again, in the memory of another list.
+pub(crate) fn copy_over<T: Copy>(spare: Vec<T>, items: &[T]) -> Result<Vec<T>, AllocError>
+    ensures items { IfOk result (λ copy. copy.items ≡ items.now) }
+    ensures len { IfOk result (λ copy. vec_len copy ≡ length items.now) }
+{
+    let mut copy = spare;
+    copy.clear();
+    copy.extend_from_slice(items)?;
+    Ok(copy)
+}
+
+/// The same marks again, in the memory of others where there are none.
 pub(crate) fn copy_marks(
+    spare: HashMap<(usize, TaskId), bool>,
     marks: &HashMap<(usize, TaskId), bool>,
 ) -> Result<HashMap<(usize, TaskId), bool>, AllocError>
     ensures { IfOk result (λ copy. (i : ℕ) (t : TaskId) → get same_key copy (i, t) ≡ get same_key marks.now (i, t)) }
 {
-    marks.clone()
+    if !marks.is_empty() {
+        return marks.clone();
+    }
+    let mut copy = spare;
+    copy.clear();
+    Ok(copy)
 }
 
 /// Makes room for this many endings in all, or refuses.

@@ -8,6 +8,16 @@ use std::alloc::{AllocError, Global};
 use swift_types::TaskId;
 use swift_types::limits::TASKS;
 
+/// The same again, in the memory of another list.
+pub(crate) fn copy_over<T: Copy>(spare: Vec<T>, items: &[T]) -> Result<Vec<T>, AllocError>
+    ensures { IfOk result (λ copy. copy.items ≡ items.now) }
+{
+    let mut copy = spare;
+    copy.clear();
+    copy.extend_from_slice(items)?;
+    Ok(copy)
+}
+
 /// A count for each task that a run may have, 0 until it is set.
 #[derive(Drop)]
 pub(crate) struct TaskCounts {
@@ -25,12 +35,13 @@ impl TaskCounts {
         }
     }
 
-    /// The same counts again, with room for no other place.
-    pub(crate) fn copy(&self, alloc: Global) -> Result<TaskCounts, AllocError>
+    /// The same counts again, in the memory of others.
+    pub(crate) fn copy_over(&self, spare: TaskCounts) -> Result<TaskCounts, AllocError>
         ensures { IfOk result (λ copy. (t : ℕ) → count_at copy t ≡ count_at self.now t) }
     {
+        let TaskCounts { counts } = spare;
         Ok(TaskCounts {
-            counts: Vec::from_slice(alloc, &self.counts)?,
+            counts: copy_over(counts, &self.counts)?,
         })
     }
 

@@ -10,6 +10,7 @@ ghost use Rattle.swift_ledger.specs.Ledgers.{CanNote};
 ghost use Rattle.swift_ledger.specs.WellFormedInside.{IsWellFormed};
 ghost use Rattle.swift_ledger.specs.FlagsInside.{AreFlags, HasSpare, HasNoChildren, is_named_in, is_new_cancel, is_born_cancelled, is_reached};
 
+use crate::counts::copy_over;
 use std::alloc::{AllocError, Global};
 use swift_events::{Event, Life, Origin};
 use swift_log::EventLog;
@@ -71,12 +72,13 @@ fn names_group(event: Event, owner: TaskId, group: u32) -> bool
 }
 
 impl Flags {
-    /// The same marks again.
-    pub(crate) fn copy(&self, alloc: Global) -> Result<Flags, AllocError>
+    /// The same marks again, in the memory of others.
+    pub(crate) fn copy_over(&self, spare: Flags) -> Result<Flags, AllocError>
         ensures { IfOk result (λ copy. (roots : ℕ) (log : List Event) → AreFlags self.now roots log → AreFlags copy roots log) }
     {
+        let Flags { flags } = spare;
         Ok(Flags {
-            flags: Vec::from_slice(alloc, &self.flags)?,
+            flags: copy_over(flags, &self.flags)?,
         })
     }
 

@@ -14,7 +14,7 @@ ghost use Rattle.swift_events.specs.Lives.{life_of};
 ghost use Rattle.swift_events.specs.Relations.{opened_by, is_open_group, is_named_group, children_of, group_of, parent_of};
 ghost use Rattle.swift_ledger.specs.GroupIndexesInside.{same_number, AreGroupsOf, FitsGroups, IsParentIn, CanEnd, has_any, place_in, ended_with};
 
-use crate::counts::TaskCounts;
+use crate::counts::{TaskCounts, copy_over};
 use std::alloc::{AllocError, Global};
 use std::collections::HashMap;
 use swift_events::Event;
@@ -69,15 +69,22 @@ impl GroupIndex {
         }
     }
 
-    /// The same groups again, with room for no event.
-    pub(crate) fn copy(&self, alloc: Global) -> Result<GroupIndex, AllocError>
+    /// The same groups again, in the memory of others, with room for no event.
+    pub(crate) fn copy_over(&self, spare: GroupIndex) -> Result<GroupIndex, AllocError>
         ensures { IfOk result (λ copy. (log : List Noted) → AreGroupsOf self.now log → AreGroupsOf copy log) }
     {
+        let GroupIndex {
+            groups,
+            places,
+            counts,
+            held,
+            spare: _,
+        } = spare;
         Ok(GroupIndex {
-            groups: self.groups.copy(alloc)?,
-            places: copy_places(&self.places)?,
-            counts: self.counts.copy(alloc)?,
-            held: Vec::from_slice(alloc, &self.held)?,
+            groups: self.groups.copy_over(groups)?,
+            places: copy_places(places, &self.places)?,
+            counts: self.counts.copy_over(counts)?,
+            held: copy_over(held, &self.held)?,
             spare: 0,
         })
     }
@@ -336,13 +343,19 @@ impl GroupIndex {
     }
 }
 
-/// The same places again.
+/// The same places again, in the memory of others where there are none.
 fn copy_places(
+    spare: HashMap<(TaskId, u32), usize>,
     places: &HashMap<(TaskId, u32), usize>,
 ) -> Result<HashMap<(TaskId, u32), usize>, AllocError>
     ensures { IfOk result (λ copy. (o : TaskId) (g : ℕ) → get same_number copy (o, g) ≡ get same_number places.now (o, g)) }
 {
-    places.clone()
+    if !places.is_empty() {
+        return places.clone();
+    }
+    let mut copy = spare;
+    copy.clear();
+    Ok(copy)
 }
 
 /// Records that a child ended in a group. A closed group is closed anew, since this may have been its last child; in

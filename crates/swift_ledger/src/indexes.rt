@@ -67,17 +67,25 @@ impl Indexes {
         })
     }
 
-    /// The same again, with room for no call of `note`.
-    pub(crate) fn copy(&self, alloc: Global) -> Result<Indexes, AllocError>
+    /// The same again, in the memory of others, with room for no call of `note`.
+    pub(crate) fn copy_over(&self, spare: Indexes) -> Result<Indexes, AllocError>
         ensures { IfOk result (λ copy. (roots : ℕ) (log : List Event) → AreIndexes self.now roots log → AreIndexes copy roots log) }
     {
+        let Indexes {
+            lives,
+            flags,
+            own,
+            waiters,
+            waits,
+            groups,
+        } = spare;
         Ok(Indexes {
-            lives: self.lives.copy(alloc)?,
-            flags: self.flags.copy(alloc)?,
-            own: self.own.copy(alloc)?,
-            waiters: self.waiters.copy(alloc)?,
-            waits: self.waits.copy(alloc)?,
-            groups: self.groups.copy(alloc)?,
+            lives: self.lives.copy_over(lives)?,
+            flags: self.flags.copy_over(flags)?,
+            own: self.own.copy_over(own)?,
+            waiters: self.waiters.copy_over(waiters)?,
+            waits: self.waits.copy_over(waits)?,
+            groups: self.groups.copy_over(groups)?,
         })
     }
 

@@ -89,11 +89,24 @@ impl Ledger {
     pub fn copy(&self, alloc: Global) -> Result<Ledger, AllocError>
         ensures { IfOk result (λ copy. copy ≡ record self.now { spare = 0 }) }
     {
+        self.copy_over(Ledger::new(alloc, self.roots)?)
+    }
+
+    /// The same, in the memory of another ledger (our own).
+    pub fn copy_over(&self, spare: Ledger) -> Result<Ledger, AllocError>
+        ensures { IfOk result (λ copy. copy ≡ record self.now { spare = 0 }) }
+    {
+        let Ledger {
+            roots: _,
+            log,
+            indexes,
+            levels,
+        } = spare;
         Ok(Ledger {
             roots: self.roots,
-            log: self.log.copy(alloc)?,
-            indexes: self.indexes.copy(alloc)?,
-            levels: self.levels.copy(alloc)?,
+            log: self.log.copy_over(log)?,
+            indexes: self.indexes.copy_over(indexes)?,
+            levels: self.levels.copy_over(levels)?,
         })
     }
 

@@ -39,12 +39,15 @@ impl Levels {
         })
     }
 
-    /// The same levels, to be filled anew, with room for each task that a run may have.
-    pub(crate) fn copy(&self, alloc: Global) -> Result<Levels, AllocError>
+    /// The same levels, to be filled anew, in the memory of others.
+    pub(crate) fn copy_over(&self, spare: Levels) -> Result<Levels, AllocError>
         ensures { IfOk result (λ copy. (log : List Event) → KeepsLevels self.now log → KeepsLevels copy log) }
     {
+        let mut levels = spare.levels;
+        levels.clear();
+        levels.reserve(TASKS)?;
         Ok(Levels {
-            levels: Vec::with_capacity(alloc, TASKS)?,
+            levels,
             changed: self.changed,
             stale: true,
         })

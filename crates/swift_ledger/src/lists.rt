@@ -1,15 +1,31 @@
 //! Lists of tasks, one for each task.
 
 ghost use Rattle.std.specs.Prelude.{◌≡◌, ℕ, ◌+◌, ◌^◌, ◌<◌, List, [], length, slice_get, IfOk, OnOk};
+ghost use Rattle.std.specs.HashMap.{get};
 ghost use Rattle.swift_types.specs.declared.id.TaskId.{TaskId};
 ghost use Rattle.swift_types.specs.declared.limits.TheConstants.{TASKS};
 ghost use Rattle.swift_ledger.specs.CountsInside.{count_at};
-ghost use Rattle.swift_ledger.specs.ListsInside.{AreLists, HasSpare, pushed};
+ghost use Rattle.swift_ledger.specs.ListsInside.{AreLists, HasSpare, pushed, same_place};
 
 use crate::counts::TaskCounts;
 use std::alloc::{AllocError, Global};
 use std::collections::HashMap;
 use swift_types::TaskId;
+
+// The same tasks again, in the memory of others where there are none.
+fn copy_tasks(
+    spare: HashMap<(TaskId, usize), TaskId>,
+    tasks: &HashMap<(TaskId, usize), TaskId>,
+) -> Result<HashMap<(TaskId, usize), TaskId>, AllocError>
+    ensures { IfOk result (λ copy. (t : TaskId) (n : ℕ) → get same_place copy (t, n) ≡ get same_place tasks.now (t, n)) }
+{
+    if !tasks.is_empty() {
+        return tasks.clone();
+    }
+    let mut copy = spare;
+    copy.clear();
+    Ok(copy)
+}
 
 /// For each task a list of tasks. An element is read by the list's task and its place, in constant time.
 #[derive(Drop)]
@@ -31,13 +47,14 @@ impl TaskLists {
         }
     }
 
-    /// The same lists again.
-    pub(crate) fn copy(&self, alloc: Global) -> Result<TaskLists, AllocError>
+    /// The same lists again, in the memory of others.
+    pub(crate) fn copy_over(&self, spare: TaskLists) -> Result<TaskLists, AllocError>
         ensures { IfOk result (λ copy. (lists : ℕ → List TaskId) → AreLists self.now lists → AreLists copy lists) }
     {
+        let TaskLists { counts, tasks } = spare;
         Ok(TaskLists {
-            counts: self.counts.copy(alloc)?,
-            tasks: self.tasks.clone()?,
+            counts: self.counts.copy_over(counts)?,
+            tasks: copy_tasks(tasks, &self.tasks)?,
         })
     }
 

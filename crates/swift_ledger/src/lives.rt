@@ -11,6 +11,7 @@ ghost use Rattle.swift_ledger.specs.Ledgers.{CanNote};
 ghost use Rattle.swift_ledger.specs.WellFormedInside.{IsWellFormed};
 ghost use Rattle.swift_ledger.specs.LivesInside.{AreLives, HasSpare};
 
+use crate::counts::copy_over;
 use std::alloc::{AllocError, Global};
 use swift_events::{Event, JobStage, LastJob, Life};
 use swift_log::EventLog;
@@ -46,12 +47,17 @@ impl Lives {
         })
     }
 
-    /// The same again.
-    pub(crate) fn copy(&self, alloc: Global) -> Result<Lives, AllocError>
+    /// The same again, in the memory of others.
+    pub(crate) fn copy_over(&self, spare: Lives) -> Result<Lives, AllocError>
         ensures { IfOk result (λ copy. (roots : ℕ) (log : List Event) → AreLives self.now roots log → AreLives copy roots log) }
     {
+        let Lives {
+            reserved: _,
+            open_tasks: _,
+            lives,
+        } = spare;
         Ok(Lives {
-            lives: Vec::from_slice(alloc, &self.lives)?,
+            lives: copy_over(lives, &self.lives)?,
             open_tasks: self.open_tasks,
             reserved: self.reserved,
         })

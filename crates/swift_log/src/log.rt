@@ -13,11 +13,6 @@ use std::marker::Model;
 use swift_events::Event;
 use swift_types::{Env, TaskId};
 
-// For how many more events a copy takes memory: for a quarter of those that there are, within these bounds.
-const FEW_MORE: usize = 16;
-
-const MANY_MORE: usize = 64;
-
 /// The events of a run, the oldest first (our own). An event takes 16 bytes, and 8 more where it says a number: the value of a task
 /// that has ended, or of what it threw. A turn whose begin and apply follow each other takes 16 bytes for both, and for the job of
 /// the next turn too, where that follows and goes on without an answer. In a clause it is the list of the events, and how many more
@@ -83,11 +78,12 @@ fn push_number(numbers: &mut Vec<i64>, event: Event)
     }
 }
 
-// The same again. It takes memory for so many more.
-fn roomy_copy<T: Copy>(alloc: Global, items: &[T], more: usize) -> Result<Vec<T>, AllocError>
+// The same again, in the memory of another list.
+fn copy_over<T: Copy>(spare: Vec<T>, items: &[T]) -> Result<Vec<T>, AllocError>
     ensures { IfOk result (λ copy. copy.items ≡ items.now) }
 {
-    let mut copy = Vec::with_capacity(alloc, items.len().saturating_add(more))?;
+    let mut copy = spare;
+    copy.clear();
     copy.extend_from_slice(items)?;
     Ok(copy)
 }
@@ -125,16 +121,22 @@ impl EventLog {
         }
     }
 
-    /// The same events again, with room for none beside them (our own). Linear in the events: a copy of memory. It takes memory for some
-    /// more, so that a `reserve` of as many need not copy again.
-    pub fn copy(&self, alloc: Global) -> Result<EventLog, AllocError>
+    /// The same events again, in the memory of another log, with room for none beside them (our own). Linear in the events: a copy of
+    /// memory.
+    pub fn copy_over(&self, spare: EventLog) -> Result<EventLog, AllocError>
         ensures { IfOk result (λ copy. copy ≡ record { events = self.now.events; room = 0 }) }
     {
-        let more = (self.len / 4).clamp(FEW_MORE, MANY_MORE);
+        let EventLog {
+            numbers,
+            marks,
+            entries,
+            len: _,
+            room: _,
+        } = spare;
         Ok(EventLog {
-            numbers: roomy_copy(alloc, &self.numbers, more)?,
-            marks: roomy_copy(alloc, &self.marks, 0)?,
-            entries: roomy_copy(alloc, &self.entries, more)?,
+            numbers: copy_over(numbers, &self.numbers)?,
+            marks: copy_over(marks, &self.marks)?,
+            entries: copy_over(entries, &self.entries)?,
             len: self.len,
             room: 0,
         })

@@ -1,17 +1,19 @@
 //! A history, led by a book.
 
-ghost use Rattle.std.specs.Prelude.{◌≡◌, ℕ, [], IfOk, IfSome, IsTrue, false};
+ghost use Rattle.std.specs.Prelude.{◌≡◌, ℕ, [], IfOk, IfSome, IsTrue, false, map};
 ghost use Rattle.std.specs.Arc.{arc_value};
+ghost use Rattle.std.specs.List.{AllZip};
+ghost use Rattle.script_code.specs.Seen.{rows_of};
 ghost use Rattle.swift_history.specs.Histories.{added, ran};
 ghost use Rattle.swift_interpreter.specs.Frames.{effect_views, frame_view};
 ghost use Rattle.swift_interpreter.specs.TurnStates.{exit_view};
 ghost use Rattle.swift_turn.specs.Body.{IfRunning, IsRunning};
 ghost use Rattle.swift_steps.specs.declared.next_turn.NextTurn.{NextTurn as Next};
 ghost use Rattle.swift_steps.specs.declared.history.OpenHistory.{OpenHistory as Open};
-ghost use Rattle.swift_steps.specs.NextTurns.{AreOf, given_at, seat_of};
+ghost use Rattle.swift_steps.specs.NextTurns.{AreOf, IsSameIf, given_at, seat_of};
 ghost use Rattle.swift_steps.specs.OpenHistories.{Applies, Begins, Follows, IsAtRest, IsCopyOf, IsFirst, Plays, RunsAt, record_of};
 
-use crate::fields::copy_all_fields;
+use crate::fields::all_fields_over;
 use crate::next_turn::{NextTurn, copy_all, put, put_all, take};
 use crate::played::PlayedTurn;
 use std::alloc::{AllocError, Global};
@@ -84,19 +86,56 @@ impl OpenHistory {
     pub fn copy(&self) -> Result<OpenHistory, AllocError>
         ensures { IfOk result (IsCopyOf self.now) }
     {
-        let tasks = copy_all(self.alloc, &self.tasks)?;
-        let fields = copy_all_fields(self.alloc, &self.fields)?;
+        self.copy_over(OpenHistory::new(self.alloc, &self.script, Vec::new(self.alloc))?)
+    }
+
+    /// The same, in the memory of another history, which is given up (our own).
+    pub fn copy_over(&self, spare: OpenHistory) -> Result<OpenHistory, AllocError>
+        ensures { IfOk result (IsCopyOf self.now) }
+    {
+        let OpenHistory {
+            alloc: _,
+            script: _,
+            book: other,
+            tasks: turns,
+            fields: rows,
+            roots: _,
+            jobs,
+        } = spare;
+        spend_all(jobs);
+        let book = self.book.copy_over(other)?;
+        match self.rest_over(turns, rows) {
+            Ok((script, tasks, fields)) => Ok(OpenHistory {
+                alloc: self.alloc,
+                script,
+                book,
+                tasks,
+                fields,
+                roots: self.roots,
+                jobs: Vec::new(self.alloc),
+            }),
+            Err(fault) => {
+                let (_log, waiting) = book.close();
+                spend_all(waiting);
+                Err(fault)
+            }
+        }
+    }
+
+    // What a copy has beside its book, in the memory of other lists.
+    fn rest_over(
+        &self,
+        turns: Vec<Option<NextTurn>>,
+        rows: Vec<Vec<Vec<i64>>>,
+    ) -> Result<(Arc<Script>, Vec<Option<NextTurn>>, Vec<Vec<Vec<i64>>>), AllocError>
+        ensures script { IfOk result (λ r. arc_value r.0 ≡ arc_value self.now.script) }
+        ensures tasks { IfOk result (λ r. AllZip IsSameIf self.now.tasks.items r.1.items) }
+        ensures fields { IfOk result (λ r. map (λ rows. rows_of rows.items) r.2.items ≡ map (λ rows. rows_of rows.items) self.now.fields.items) }
+    {
         let script = Arc::clone(&self.script)?;
-        let book = self.book.copy()?;
-        Ok(OpenHistory {
-            alloc: self.alloc,
-            script,
-            book,
-            tasks,
-            fields,
-            roots: self.roots,
-            jobs: Vec::new(self.alloc),
-        })
+        let tasks = copy_all(self.alloc, &self.tasks, turns)?;
+        let fields = all_fields_over(self.alloc, &self.fields, rows)?;
+        Ok((script, tasks, fields))
     }
 
     /// The next root is added.

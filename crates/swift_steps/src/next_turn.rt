@@ -6,6 +6,7 @@ ghost use Rattle.swift_history.specs.Histories.{with_jobs};
 ghost use Rattle.swift_history.specs.TurnEnds.{JobFacts};
 ghost use Rattle.swift_script.specs.Scripts.{ScriptView};
 ghost use Rattle.swift_tasks.specs.Books.{IsJobOf};
+ghost use Rattle.swift_turn.specs.Body.{idle};
 ghost use Rattle.swift_history.specs.Jobs.{job_facts};
 ghost use Rattle.swift_steps.specs.NextTurns.{AreGiven, AreOf, IsSame, IsSameIf, given_at, with_given};
 
@@ -39,17 +40,6 @@ impl NextTurn {
         Job::new(task, number, resume, body)
     }
 
-    /// The same again.
-    pub fn copy(&self) -> Result<NextTurn, AllocError>
-        ensures { IfOk result (IsSame self.now) }
-    {
-        Ok(NextTurn {
-            number: self.number,
-            resume: self.resume,
-            body: self.body.copy()?,
-        })
-    }
-
     /// A job's, and its task.
     pub fn from_job(job: Job<Body>) -> (TaskId, NextTurn)
         ensures task { result.0 ≡ job.task }
@@ -67,26 +57,58 @@ impl NextTurn {
     }
 }
 
-// The same again, where it is there.
-fn again(ready: &Option<NextTurn>) -> Result<Option<NextTurn>, AllocError>
+// Takes the last that is there.
+fn take_last(tasks: &mut Vec<Option<NextTurn>>) -> Option<NextTurn> {
+    for _ in 0..tasks.len() {
+        if let Some(Some(ready)) = tasks.pop() {
+            return Some(ready);
+        }
+    }
+    None
+}
+
+// The same body again, in the memory of another, where there is one.
+fn body_over(body: &Body, spare: Option<NextTurn>) -> Result<Body, AllocError>
+    ensures script { IfOk result (λ copy. copy.script ≡ body.now.script) }
+    ensures task { IfOk result (λ copy. copy.task ≡ body.now.task) }
+    ensures phase { IfOk result (λ copy. copy.phase ≡ idle) }
+{
+    match spare {
+        Some(spare) => body.copy_over(spare.body),
+        None => body.copy(),
+    }
+}
+
+// The same again, where it is there, in the memory of the last of others.
+fn again(
+    ready: &Option<NextTurn>,
+    spare: &mut Vec<Option<NextTurn>>,
+) -> Result<Option<NextTurn>, AllocError>
     ensures { IfOk result (IsSameIf ready.now) }
 {
     match ready {
         None => Ok(None),
-        Some(ready) => Ok(Some(ready.copy()?)),
+        Some(ready) => Ok(Some(NextTurn {
+            number: ready.number,
+            resume: ready.resume,
+            body: body_over(&ready.body, take_last(spare))?,
+        })),
     }
 }
 
-/// What the next turn of each task begins with again.
+/// What the next turn of each task begins with again, in the memory of others.
 pub fn copy_all(
     alloc: Global,
     tasks: &[Option<NextTurn>],
+    spare: Vec<Option<NextTurn>>,
 ) -> Result<Vec<Option<NextTurn>>, AllocError>
     ensures { IfOk result (λ copy. AllZip IsSameIf tasks.now copy.items) }
 {
+    let mut left = spare;
+    left.reverse();
     let mut copy = Vec::with_capacity(alloc, tasks.len())?;
     for ready in tasks {
-        copy.push(again(ready)?)?;
+        copy.push(again(ready, &mut left)?)?;
     }
     Ok(copy)
 }

@@ -10,6 +10,7 @@ ghost use Rattle.swift_events.specs.Lives.{life_of};
 ghost use Rattle.swift_events.specs.Relations.{is_closed, opened_by};
 ghost use Rattle.swift_events.specs.Room.{open_of};
 ghost use Rattle.swift_types.specs.declared.env.Env.{Env};
+ghost use Rattle.swift_turn.specs.Body.{idle};
 ghost use Rattle.swift_tasks.specs.BookInvariant.{IsSameHeld};
 ghost use Rattle.swift_tasks.specs.Books.{HoldsWaiting, empty_book};
 
@@ -19,7 +20,7 @@ use std::alloc::{AllocError, Global};
 use std::marker::Model;
 use std::sync::Arc;
 use swift_events::{JobStage, Origin};
-use swift_job::Job;
+use swift_job::{Job, spend_all};
 use swift_ledger::Ledger;
 use swift_log::EventLog;
 use swift_script::Script;
@@ -86,9 +87,27 @@ impl Book {
     pub fn copy(&self) -> Result<Book, AllocError>
         ensures { IfOk result (λ copy. copy ≡ self.now) }
     {
+        let Ok(spare) = Book::new(self.alloc, Arc::clone(&self.script)?) else {
+            return Err(AllocError);
+        };
+        self.copy_over(spare)
+    }
+
+    /// The same, in the memory of another book, whose jobs are given up (our own).
+    pub fn copy_over(&self, other: Book) -> Result<Book, AllocError>
+        ensures { IfOk result (λ copy. copy ≡ self.now) }
+    {
+        let Book {
+            alloc: _,
+            script: _,
+            ledger: events,
+            held: places,
+            spare: jobs,
+        } = other;
+        spend_all(jobs);
         let script = Arc::clone(&self.script)?;
-        let ledger = self.ledger.copy(self.alloc)?;
-        let held = all_held(self.alloc, &self.held)?;
+        let ledger = self.ledger.copy_over(events)?;
+        let held = all_held(self.alloc, &self.held, places)?;
         let spare = Vec::with_capacity(self.alloc, held.len())?;
         Ok(Book {
             alloc: self.alloc,
@@ -194,29 +213,57 @@ fn none_held(alloc: Global, tasks: usize) -> Result<Vec<Option<WaitingTask>>, Bo
     Ok(held)
 }
 
-// The same tasks that wait again.
+// Takes the last of the tasks that wait.
+fn take_last(held: &mut Vec<Option<WaitingTask>>) -> Option<WaitingTask> {
+    for _ in 0..held.len() {
+        if let Some(Some(waiting)) = held.pop() {
+            return Some(waiting);
+        }
+    }
+    None
+}
+
+// The same tasks that wait again, in the memory of others.
 fn all_held(
     alloc: Global,
     held: &[Option<WaitingTask>],
+    spare: Vec<Option<WaitingTask>>,
 ) -> Result<Vec<Option<WaitingTask>>, AllocError>
     ensures { IfOk result (λ copy. AllZip IsSameHeld held.now copy.items) }
 {
+    let mut left = spare;
+    left.reverse();
     let mut copy = Vec::with_capacity(alloc, held.len())?;
     for waiting in held {
-        copy.push(held_again(waiting)?)?;
+        copy.push(held_again(waiting, &mut left)?)?;
     }
     Ok(copy)
 }
 
-// The same task that waits again, where one does.
-fn held_again(waiting: &Option<WaitingTask>) -> Result<Option<WaitingTask>, AllocError>
+// The same task that waits again, where one does, in the memory of the last of others.
+fn held_again(
+    waiting: &Option<WaitingTask>,
+    spare: &mut Vec<Option<WaitingTask>>,
+) -> Result<Option<WaitingTask>, AllocError>
     ensures { IfOk result (IsSameHeld waiting.now) }
 {
     match waiting {
         None => Ok(None),
         Some(waiting) => Ok(Some(WaitingTask {
             number: waiting.number,
-            body: waiting.body.copy()?,
+            body: body_again(&waiting.body, take_last(spare))?,
         })),
+    }
+}
+
+// The same body again, in the memory of a task that waits, where there is one.
+fn body_again(body: &Body, spare: Option<WaitingTask>) -> Result<Body, AllocError>
+    ensures script { IfOk result (λ copy. copy.script ≡ body.now.script) }
+    ensures task { IfOk result (λ copy. copy.task ≡ body.now.task) }
+    ensures phase { IfOk result (λ copy. copy.phase ≡ idle) }
+{
+    match spare {
+        Some(spare) => body.copy_over(spare.body),
+        None => body.copy(),
     }
 }

@@ -303,7 +303,7 @@ impl Body {
                 room: 0,
             },
             running: from.running,
-            callers: from.callers.copy(alloc)?,
+            callers: from.callers.copy_over(alloc, Stack::new(alloc))?,
             outer: from.outer.copy()?,
             phase: Phase::Idle,
             undo: Undo::new(alloc),
@@ -314,6 +314,29 @@ impl Body {
             Ok(inside) => Ok(Body { inside }),
             Err(_) => Err(AllocError),
         }
+    }
+
+    /// The same, in the memory of another task, at whose source it waits (our own).
+    pub fn copy_over(&self, spare: Body) -> Result<Body, AllocError>
+        ensures script { IfOk result (λ copy. copy.script ≡ self.now.script) }
+        ensures task { IfOk result (λ copy. copy.task ≡ self.now.task) }
+        ensures phase { IfOk result (λ copy. copy.phase ≡ idle) }
+    {
+        let from = &*self.inside;
+        let Body { mut inside } = spare;
+        let to = &mut *inside;
+        to.script = Arc::clone(&from.script)?;
+        to.turn.frame.copy_from(&from.turn.frame)?;
+        to.turn.fields.clear();
+        to.turn.effects.clear();
+        to.turn.room = 0;
+        to.running = from.running;
+        let callers = mem::replace(&mut to.callers, Stack::new(from.alloc));
+        to.callers = from.callers.copy_over(from.alloc, callers)?;
+        to.outer = from.outer.copy()?;
+        to.phase = Phase::Idle;
+        to.waker = None;
+        Ok(Body { inside })
     }
 
     /// Enters a turn of the frame that runs, on the fields of the actors of its executor, a list for each in text order.

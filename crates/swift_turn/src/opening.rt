@@ -50,6 +50,21 @@ fn variables_of(args: Vec<i64>, numbers: usize) -> Result<Vec<i64>, AllocError>
     Ok(variables)
 }
 
+// The same frame again, in the memory of another, where there is one.
+pub fn copy_over(alloc: Global, frame: &Frame, spare: Option<Frame>) -> Result<Frame, AllocError>
+    ensures parts { IfOk result (λ f. frame_view f ≡ frame_view frame.now) }
+    ensures method { IfOk result (λ f. f.method ≡ frame.now.method) }
+{
+    match spare {
+        Some(spare) => {
+            let mut copy = spare;
+            copy.copy_from(frame)?;
+            Ok(copy)
+        }
+        None => copy_of(alloc, frame),
+    }
+}
+
 // The same frame again.
 pub fn copy_of(alloc: Global, frame: &Frame) -> Result<Frame, AllocError>
     ensures parts { IfOk result (λ f. frame_view f ≡ frame_view frame.now) }

@@ -4,7 +4,7 @@ ghost use Rattle.std.specs.Prelude.{◌≡◌, ◌↔◌, ◌∷◌, [], IsTrue,
 ghost use Rattle.swift_interpreter.specs.Frames.{frame_view, frame_if};
 ghost use Rattle.swift_turn.specs.StackInside.{first_of, rest_of};
 
-use crate::opening::copy_of;
+use crate::opening::copy_over;
 use std::alloc::{AllocError, AllocFailed, Global};
 use std::marker::Model;
 use swift_interpreter::Frame;
@@ -33,13 +33,14 @@ impl Stack {
         }
     }
 
-    /// The same frames again.
-    pub fn copy(&self, alloc: Global) -> Result<Stack, AllocError>
+    /// The same frames again, in the memory of others.
+    pub fn copy_over(&self, alloc: Global, spare: Stack) -> Result<Stack, AllocError>
         ensures { IfOk result (λ copy. copy ≡ self.now) }
     {
+        let mut spare = spare;
         let mut items = Vec::with_capacity(alloc, self.items.len())?;
         for frame in &self.items {
-            items.push(copy_of(alloc, frame)?)?;
+            items.push(copy_over(alloc, frame, spare.pop())?)?;
         }
         Ok(Stack { items })
     }

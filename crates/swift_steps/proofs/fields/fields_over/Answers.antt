@@ -1,13 +1,13 @@
 use Rattle.swift_steps.proofs.Prelude.{◌∙◌, ℤ, List, [], ◌∷◌, ◌++◌, Vec, take, take_all, sym, ap, arith, Global, map_more, map_push, rows_of}
-use Rattle.swift_steps.proofs.fields.copy_fields.Goals as goal
+use Rattle.swift_steps.proofs.fields.fields_over.Goals as goal
 
 pub loop-row-preserved : goal.loop-row-preserved
 loop-row-preserved c =
     let rows = c.args.rows.now in
     let k = c.loop-row.row-index in
-    let copied = c.in_ok-from_slice.field-0 in
+    let copied = c.in_ok-row_over.field-0 in
     let items = λ (row : Vec ℤ Global). row.items in
-    let same = c.in_ok-from_slice.ensures.items ∙ c.deref.ensures.value ∙ ap items c.row-item.is in
+    let same = c.in_ok-row_over.ensures ∙ c.deref.ensures.value ∙ ap items c.row-item.is in
     ap rows_of c.in_ok-push.ensures.items
     ∙ map_push items c.loop-row.copy.items copied
     ∙ ap (λ (front : List (List ℤ)). front ++ copied.items ∷ []) c.loop-row.invariant

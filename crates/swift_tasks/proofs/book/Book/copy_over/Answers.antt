@@ -1,6 +1,6 @@
 use Rattle.swift_tasks.proofs.Prelude.{◌≡◌, ◌∙◌, ap, List, rules, sym, subst, arith, Option, arc_value, AllZip, ScriptView, LedgerView, WaitingTask, BookInvariant, IsSameHeld, held_views}
 use Rattle.swift_tasks.proofs.HeldCopies.{same_book, same_invariant, same_views}
-use Rattle.swift_tasks.proofs.book.Book.copy.Goals as goal
+use Rattle.swift_tasks.proofs.book.Book.copy_over.Goals as goal
 
 pub invariant_of-result : goal.invariant_of-result
 invariant_of-result c =
